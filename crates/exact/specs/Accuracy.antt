@@ -178,31 +178,47 @@ accurate-scatter n h v Y e {dsg} e-pos near s =
 
 -- ---- the track
 
--- What Track computes for n blocks: smoothed values v, and the fits of the four kinds of corrected values.
-pub record Computed (n : ℕ) (g : Given) (v : ℕ → ℤ) (f : Figures) : Type 0 where
+-- What Track computes for n blocks: smoothed values v, the four kinds of corrected values, and their fits.
+pub record Computed (n : ℕ) (g : Given) (v A B C D : ℕ → ℤ) (f : Figures) : Type 0 where
   pub smoothed : (j : ℕ) → j < n → Rounded (v j) (sum 15 (λ i. at weights i *ℤ block g j i)) (pos 1105)
-  pub a : Fitted n (λ j. toA g (pos 1) j (v j)) (f .refsv) (f .srsv)
-  pub b : Fitted n (λ j. toB g (pos 1) j (v j)) (f .refsys) (f .srsys)
-  pub c : Fitted n (at (g .troposphere)) (f .mdtr) (f .smdt)
-  pub d : Fitted n (at (g .ionosphere)) (f .mdio) (f .smdi)
-  pub scatter : Scattered n (λ j. toB g (pos 1) j (v j)) (f .dsg)
+  pub isA : (j : ℕ) → j < n → A j ≡ toA g (pos 1) j (v j)
+  pub isB : (j : ℕ) → j < n → B j ≡ toB g (pos 1) j (v j)
+  pub isC : (j : ℕ) → j < n → C j ≡ at (g .troposphere) j
+  pub isD : (j : ℕ) → j < n → D j ≡ at (g .ionosphere) j
+  pub fitA : Fitted n A (f .refsv) (f .srsv)
+  pub fitB : Fitted n B (f .refsys) (f .srsys)
+  pub fitC : Fitted n C (f .mdtr) (f .smdt)
+  pub fitD : Fitted n D (f .mdio) (f .smdi)
+  pub scatterB : Scattered n B (f .dsg)
 
-pub accurate-track : (n : ℕ) → 51 ≤ n → (g : Given) (v : ℕ → ℤ) (f : Figures) → Computed n g v f → AccurateTrack n g f
-accurate-track n h g v f t =
+pub accurate-track : (n : ℕ) → 51 ≤ n → (g : Given) (v A B C D : ℕ → ℤ) (f : Figures) → Computed n g v A B C D f
+    → AccurateTrack n g f
+accurate-track n h g v A B C D f t =
     record {
-      a = λ Y e x. accurate-line n h (λ j. toA g (pos 1) j (v j)) (λ j. toA g e j (Y j)) e (x .positive) (near-A Y e x) (t .a);
-      b = λ Y e x. accurate-line n h (λ j. toB g (pos 1) j (v j)) (λ j. toB g e j (Y j)) e (x .positive) (near-B Y e x) (t .b);
+      a = λ Y e x. accurate-line n h A (λ j. toA g e j (Y j)) e (x .positive) (near-A Y e x) (t .fitA);
+      b = λ Y e x. accurate-line n h B (λ j. toB g e j (Y j)) e (x .positive) (near-B Y e x) (t .fitB);
       scatter = λ Y e x.
-          accurate-scatter n (omega arith) (λ j. toB g (pos 1) j (v j)) (λ j. toB g e j (Y j)) e (x .positive) (near-B Y e x) (t .scatter);
-      c = accurate-line n h (at (g .troposphere)) (at (g .troposphere)) (pos 1) (record { lt = tt }) (near-self n (at (g .troposphere))) (t .c);
-      d = accurate-line n h (at (g .ionosphere)) (at (g .ionosphere)) (pos 1) (record { lt = tt }) (near-self n (at (g .ionosphere))) (t .d);
+          accurate-scatter n (omega arith) B (λ j. toB g e j (Y j)) e (x .positive) (near-B Y e x) (t .scatterB);
+      c = accurate-line n h C (at (g .troposphere)) (pos 1) (record { lt = tt }) (near-column C (at (g .troposphere)) (t .isC)) (t .fitC);
+      d = accurate-line n h D (at (g .ionosphere)) (pos 1) (record { lt = tt }) (near-column D (at (g .ionosphere)) (t .isD)) (t .fitD);
     }
   where
+    -- values that are w's have w's errors
+    moved : (Y : ℕ → ℤ) {e : ℤ} (u w : ℕ → ℤ) → ((j : ℕ) → j < n → u j ≡ w j) → Near n w Y e → Near n u Y e
+    moved Y {e} u w same near j k = subst (λ (z : ℤ). size (pos 2 *ℤ e *ℤ z -ℤ pos 2 *ℤ Y j) ⩽ e) (sym (same j k)) (near j k)
+
     near : (Y : ℕ → ℤ) (e : ℤ) → ExactSmoothed n (block g) Y e → Near n v Y e
     near Y e x j k = smoothed-near (v j) (t .smoothed j k) (x .at j k .2)
 
-    near-A : (Y : ℕ → ℤ) (e : ℤ) → ExactSmoothed n (block g) Y e → Near n (λ j. toA g (pos 1) j (v j)) (λ j. toA g e j (Y j)) e
-    near-A Y e x j k = subst (λ (z : ℤ). size z ⩽ e) (sym (gap-A g e j (v j) (Y j))) (near Y e x j k)
+    near-A : (Y : ℕ → ℤ) (e : ℤ) → ExactSmoothed n (block g) Y e → Near n A (λ j. toA g e j (Y j)) e
+    near-A Y e x =
+        moved (λ j. toA g e j (Y j)) A (λ j. toA g (pos 1) j (v j)) (t .isA)
+        (λ j k. subst (λ (z : ℤ). size z ⩽ e) (sym (gap-A g e j (v j) (Y j))) (near Y e x j k))
 
-    near-B : (Y : ℕ → ℤ) (e : ℤ) → ExactSmoothed n (block g) Y e → Near n (λ j. toB g (pos 1) j (v j)) (λ j. toB g e j (Y j)) e
-    near-B Y e x j k = subst (λ (z : ℤ). size z ⩽ e) (sym (gap-B g e j (v j) (Y j))) (near Y e x j k)
+    near-B : (Y : ℕ → ℤ) (e : ℤ) → ExactSmoothed n (block g) Y e → Near n B (λ j. toB g e j (Y j)) e
+    near-B Y e x =
+        moved (λ j. toB g e j (Y j)) B (λ j. toB g (pos 1) j (v j)) (t .isB)
+        (λ j k. subst (λ (z : ℤ). size z ⩽ e) (sym (gap-B g e j (v j) (Y j))) (near Y e x j k))
+
+    near-column : (u w : ℕ → ℤ) → ((j : ℕ) → j < n → u j ≡ w j) → Near n u w (pos 1)
+    near-column u w same = moved w u w same (near-self n w)
