@@ -14,3 +14,4 @@ pub mod Size
 pub mod Sums
 pub mod Tables
 pub mod Rounding
+pub mod Words
