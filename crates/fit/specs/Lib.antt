@@ -1,0 +1,7 @@
+pub mod Lists
+pub mod Answers
+pub mod Smooth
+pub mod Fit
+pub mod Scatter
+pub mod Corrected
+pub mod Track
