@@ -7,9 +7,10 @@ use lib.IntN.{ℤ, pos, negℤ}
 use lib.ListN.{replicate}
 use Rattle.whole.specs.Sum.{sum}
 use Rattle.whole.specs.Nearest.{nearest}
+use Rattle.whole.specs.Table.{tabulate}
 use Rattle.limits.specs.Refusal.{_when_, _then_}
 use Rattle.limits.specs.Limits.{outside, dsgRule}
-use Rattle.fit.specs.Lists.{anyBeyond, listRule, tabulate}
+use Rattle.fit.specs.Lists.{anyOutside, listRule}
 use Rattle.fit.specs.Answers.{Reply, reply}
 use Rattle.fit.specs.Smooth.{weights, smoothed, smoothRule}
 use Rattle.fit.specs.Fit.{place, total, moment, midpoint, slope, fitRule}
@@ -44,7 +45,7 @@ cases =
     ∷ (smooth (lone 7 (negℤ (pos 4)) 7), pos 0 ∷ negℤ (pos 1) ∷ [])
     ∷ (fit (replicate 52 (pos 50)), pos 0 ∷ pos 1 ∷ pos 0 ∷ [])
     ∷ (fit (replicate 52 (negℤ (pos 50))), pos 0 ∷ pos 0 ∷ pos 0 ∷ [])
-    ∷ (fit (tabulate 52 (λ j. pos (15 * j))), pos 0 ∷ pos 4 ∷ pos 10 ∷ [])
+    ∷ (fit (tabulate (λ j. pos (15 * j)) 52), pos 0 ∷ pos 4 ∷ pos 10 ∷ [])
     ∷ (fit (lone 51 (pos 345) 0), pos 0 ∷ pos 0 ∷ pos 1 ∷ [])
     ∷ (scatter (pattern 13 (pos 49)), pos 0 ∷ pos 0 ∷ [])
     ∷ (scatter (pattern 13 (pos 50)), pos 0 ∷ pos 1 ∷ [])
@@ -52,5 +53,5 @@ cases =
     ∷ []
 
 pub worked : map (λ (c : Case × List ℤ). run (c .0)) cases ≡ map (λ (c : Case × List ℤ). c .1) cases
-unfolding cases sum nearest _when_ _then_ outside dsgRule anyBeyond listRule tabulate weights smoothed smoothRule place total moment midpoint slope fitRule residual squares edge climb dsg scatterRule
+unfolding cases sum nearest _when_ _then_ outside dsgRule anyOutside listRule tabulate weights smoothed smoothRule place total moment midpoint slope fitRule residual squares edge climb dsg scatterRule
 worked = refl

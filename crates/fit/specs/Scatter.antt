@@ -4,7 +4,7 @@
 use Prim.Native.Nat.{ℕ, zero, suc, _*_, _-_, _^_, _≤_}
 use mathlib.Core.Bool.{Bool, true, false, cond}
 use mathlib.Core.List.{List}
-use lib.IntN.{ℤ, pos, natAbs, _-ℤ_, _*ℤ_}
+use lib.IntN.{ℤ, pos, negℤ, natAbs, _-ℤ_, _*ℤ_}
 use lib.Signed.{leZ, ltZ, _≤ℤ_}
 use Rattle.whole.specs.Sum.{sum}
 use Rattle.whole.specs.Nearest.{nearest}
@@ -45,4 +45,4 @@ dsg s n q = cond (ltZ q (pos (2500 * (s * s) * n))) 0 (climb (edge s n) q (natAb
 unfoldable pub scatterRule : List ℤ → Reply ℤ
 scatterRule l =
     let sigma = pos (dsg 1 52 (squares 52 (at l))) in
-    reply (pos 0) (listRule 52 (2 * 10 ^ 12) l then dsgRule sigma) sigma
+    reply (pos 0) (listRule 52 (negℤ (pos (2 * 10 ^ 12))) (pos (2 * 10 ^ 12)) l then dsgRule sigma) sigma

@@ -21,4 +21,4 @@ smoothed m = nearest (sum 15 (λ i. at weights i *ℤ m i)) 1105
 
 -- 1: the count is not 15. 2: a measurement is outside ±10^12.
 unfoldable pub smoothRule : List ℤ → Reply ℤ
-smoothRule m = reply (pos 0) (listRule 15 (10 ^ 12) m) (smoothed (at m))
+smoothRule m = reply (pos 0) (listRule 15 (negℤ (pos (10 ^ 12))) (pos (10 ^ 12)) m) (smoothed (at m))

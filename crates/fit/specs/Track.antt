@@ -9,7 +9,8 @@ use Rattle.limits.specs.Refusal.{_when_, _then_}
 use Rattle.limits.specs.Limits.{beyond, limitsRule, dsgRule}
 use Rattle.fit.specs.declared.TrackRecord.{TrackRecord}
 use Rattle.fit.specs.declared.Tracked.{Tracked}
-use Rattle.fit.specs.Lists.{at, tabulate, miscounted, anyBeyond}
+use Rattle.whole.specs.Table.{tabulate}
+use Rattle.fit.specs.Lists.{at, miscounted, anyBeyond}
 use Rattle.fit.specs.Smooth.{smoothed}
 use Rattle.fit.specs.Fit.{midpoint, slope}
 use Rattle.fit.specs.Scatter.{squares, dsg}
@@ -39,10 +40,10 @@ valueD g j = at (g .ionosphere) j
 unfoldable pub results : Given → TrackRecord
 results g =
     record {
-      a = tabulate 52 (valueA g);
-      b = tabulate 52 (valueB g);
-      c = tabulate 52 (valueC g);
-      d = tabulate 52 (valueD g);
+      a = tabulate (valueA g) 52;
+      b = tabulate (valueB g) 52;
+      c = tabulate (valueC g) 52;
+      d = tabulate (valueD g) 52;
       refsv = midpoint 1 52 (valueA g);
       srsv = slope 1 52 (valueA g);
       refsys = midpoint 1 52 (valueB g);

@@ -7,17 +7,14 @@ pub enum Smoothed {
     Value(i64),
     Refused(u32),
 }
-
 pub enum Fitted {
     Line { midpoint: i64, slope: i64 },
     Refused(u32),
 }
-
 pub enum Scattered {
     Sigma(i64),
     Refused(u32),
 }
-
 pub struct TrackRecord {
     pub a: [i64; 52],
     pub b: [i64; 52],
@@ -34,8 +31,10 @@ pub struct TrackRecord {
     pub dsg: i64,
     pub trkl: i64,
 }
-
 pub struct Tracked {
     pub refusal: u32,
     pub record: TrackRecord,
 }
+
+mod number;
+mod series;

@@ -1,0 +1,36 @@
+-- Laws of the limit tests on lists (specs/Lists.antt).
+-- Assumes nothing.
+use mathlib.Core.Path.{_≡_, ap, _∙_}
+use mathlib.Core.Bool.{Bool, true, false, _||_}
+use mathlib.Core.List.{List, [], _∷_}
+use Prim.Native.Nat.{ℕ, zero, suc, _+_, _≤_, _<_, zero-le}
+use native.Mathlib.Numerals.{add-one}
+use lib.IntN.{ℤ, pos, natAbs}
+use lib.ListN.{length, drop, drop-of-length-le}
+use lib.Seq.{drop-cons}
+use Rattle.limits.specs.Limits.{outside, beyond}
+use Rattle.limits.proofs.Laws.{or-false, magnitude-within}
+use Rattle.fit.specs.Lists.{at, anyOutside, anyBeyond}
+
+-- a loop that has found no number outside before place i has what is left to test
+module _ (low high : ℤ) (l : List ℤ) (i : ℕ) (so-far : anyOutside low high l ≡ anyOutside low high (drop i l)) where
+  step : i < length l → anyOutside low high l ≡ outside low high (at l i) || anyOutside low high (drop (i + 1) l)
+  unfolding anyOutside
+  step h = so-far ∙ rw (add-one, drop-cons l i (pos 0) h)
+
+  pub found : i < length l → outside low high (at l i) ≡ true → anyOutside low high l ≡ true
+  found h t = step h ∙ ap (λ (b : Bool). b || anyOutside low high (drop (i + 1) l)) t
+
+  pub passed : i < length l → outside low high (at l i) ≡ false → anyOutside low high l ≡ anyOutside low high (drop (i + 1) l)
+  passed h t = step h ∙ ap (λ (b : Bool). b || anyOutside low high (drop (i + 1) l)) t
+
+  pub none-left : length l ≤ i → anyOutside low high l ≡ false
+  unfolding anyOutside
+  none-left h = so-far ∙ rw (drop-of-length-le l h)
+
+-- a list that passed has no number beyond the limit
+pub within-limit : (limit : ℕ) (l : List ℤ) → anyBeyond limit l ≡ false → (i : ℕ) → natAbs (at l i) ≤ limit
+unfolding anyOutside
+within-limit limit [] e i = zero-le
+within-limit limit (z ∷ l) e zero = magnitude-within limit z (or-false (beyond limit z) (anyBeyond limit l) e .0)
+within-limit limit (z ∷ l) e (suc i) = within-limit limit l (or-false (beyond limit z) (anyBeyond limit l) e .1) i

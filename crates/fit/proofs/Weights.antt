@@ -1,0 +1,21 @@
+-- The table of weights (specs/Smooth.antt): each is the value of 167 - 5x² at its second x, and how large a product with one can be.
+-- Assumes nothing.
+use mathlib.Core.Path.{_≡_, refl}
+use mathlib.Core.Bool.{false}
+use mathlib.Core.List.{List}
+use Prim.Native.Nat.{ℕ, _*_, _^_, _≤_}
+use native.Mathlib.Nat.{le-trans, le-of-eq, mul-le-mul}
+use lib.IntN.{ℤ, natAbs, _*ℤ_}
+use Rattle.whole.specs.Size.{natAbs-mul}
+use Rattle.limits.specs.Limits.{outside}
+use Rattle.fit.specs.Lists.{at, anyOutside, anyBeyond}
+use Rattle.fit.specs.Smooth.{weights}
+use Rattle.fit.proofs.Lists.{within-limit}
+
+pub weight-bound : (i : ℕ) → natAbs (at weights i) ≤ 167
+unfolding weights anyOutside outside
+weight-bound i = within-limit 167 weights refl i
+
+pub product-bound : (m : List ℤ) → anyBeyond (10 ^ 12) m ≡ false → (i : ℕ) → natAbs (at weights i *ℤ at m i) ≤ 167 * 10 ^ 12
+product-bound m e i =
+    le-trans (le-of-eq (natAbs-mul (at weights i) (at m i))) (mul-le-mul (weight-bound i) (within-limit (10 ^ 12) m e i))

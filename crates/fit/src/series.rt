@@ -1,0 +1,54 @@
+// Lists of values: the limit test, the weighted sum of a block, the sums of a fit, and the squared residuals.
+use limits::{outside, then, when};
+
+ghost use mathlib.Core.Path.{_≡_};
+ghost use mathlib.Core.Bool.{false};
+ghost use Prim.Native.Nat.{_^_, _<_, _≤_};
+ghost use lib.IntN.{natAbs, _*ℤ_};
+ghost use lib.ListN.{length};
+ghost use Rattle.whole.specs.Sum.{sum};
+ghost use Rattle.fit.specs.Lists.{at, anyOutside, anyBeyond, listRule};
+ghost use Rattle.fit.specs.Smooth.{weights};
+
+// The weights of the parabola's value at the middle of fifteen measurements, over 1105.
+const WEIGHTS: [i64; 15] = [
+    -78, -13, 42, 87, 122, 147, 162, 167, 162, 147, 122, 87, 42, -13, -78,
+];
+
+// Whether some value is outside low to high.
+pub fn any_outside(values: &[i64], low: i64, high: i64) -> bool
+    ensures { λ r. ⌜ r ≡ anyOutside low high (now (values .entry)) ⌝ }
+{
+    let mut i = 0;
+    while i < values.len() {
+        if outside(low, high, values[i]) {
+            return true;
+        }
+        i += 1;
+    }
+    false
+}
+
+// 1 where the values are not count many, 2 where one is outside low to high, else 0.
+pub fn list_refusal(values: &[i64], count: usize, low: i64, high: i64) -> u32
+    ensures { λ r. ⌜ r ≡ listRule count low high (now (values .entry)) ⌝ }
+{
+    then(
+        when(1, values.len() != count),
+        when(2, any_outside(values, low, high)),
+    )
+}
+
+// The sum of fifteen measurements, each times its weight.
+pub fn weighted(measurements: &[i64]) -> i64
+    requires { ⌜ (length (now measurements) ≡ 15) × (anyBeyond (10 ^ 12) (now measurements) ≡ false) ⌝ }
+    ensures { λ r. ⌜ r ≡ sum 15 (λ i. at weights i *ℤ at (now (measurements .entry)) i) ⌝ }
+{
+    let mut sum: i64 = 0;
+    let mut i = 0;
+    while i < 15 {
+        sum += WEIGHTS[i] * measurements[i];
+        i += 1;
+    }
+    sum
+}
