@@ -1,3 +1,13 @@
 pub mod Sum
 pub mod Nearest
 pub mod Square
+pub mod Differences
+pub mod Ring
+pub mod Identity
+pub mod Linear
+pub mod Order
+pub mod Size
+pub mod Table
+pub mod Sums
+pub mod Tables
+pub mod Rounding

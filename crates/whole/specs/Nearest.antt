@@ -1,5 +1,6 @@
 -- The nearest whole number to a fraction, a tie going up, toward plus infinity (document 01, "From 780 measurements to ten numbers").
 -- Assumes nothing.
+pub mod Examples
 use Prim.Native.Nat.{ℕ, _*_}
 use lib.IntN.{ℤ, pos, _+ℤ_, _*ℤ_}
 use lib.Signed.{shrZ}
