@@ -7,14 +7,17 @@ pub enum Smoothed {
     Value(i64),
     Refused(u32),
 }
+
 pub enum Fitted {
     Line { midpoint: i64, slope: i64 },
     Refused(u32),
 }
+
 pub enum Scattered {
     Sigma(i64),
     Refused(u32),
 }
+
 pub struct TrackRecord {
     pub a: [i64; 52],
     pub b: [i64; 52],
@@ -31,6 +34,7 @@ pub struct TrackRecord {
     pub dsg: i64,
     pub trkl: i64,
 }
+
 pub struct Tracked {
     pub refusal: u32,
     pub record: TrackRecord,

@@ -1,6 +1,7 @@
 // Lists of values: the limit test, the weighted sum of a block, the sums of a fit, and the squared residuals.
-use limits::{outside, then, when};
-
+use limits::outside;
+use limits::then;
+use limits::when;
 ghost use mathlib.Core.Path.{_≡_};
 ghost use mathlib.Core.Bool.{false};
 ghost use Prim.Native.Nat.{_^_, _<_, _≤_};
@@ -12,7 +13,21 @@ ghost use Rattle.fit.specs.Smooth.{weights};
 
 // The weights of the parabola's value at the middle of fifteen measurements, over 1105.
 const WEIGHTS: [i64; 15] = [
-    -78, -13, 42, 87, 122, 147, 162, 167, 162, 147, 122, 87, 42, -13, -78,
+    -78,
+    -13,
+    42,
+    87,
+    122,
+    147,
+    162,
+    167,
+    162,
+    147,
+    122,
+    87,
+    42,
+    -13,
+    -78,
 ];
 
 // Whether some value is outside low to high.

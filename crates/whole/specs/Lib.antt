@@ -11,3 +11,4 @@ pub mod Table
 pub mod Sums
 pub mod Tables
 pub mod Rounding
+pub mod Words

@@ -1,0 +1,178 @@
+-- Machine words: when a signed value fits 64 bits, and that what is read back of its bits is the value. A signed local holds bits, so what the
+-- prover asks of a sum or a product speaks of values read back, toZ w64 (ofZ w64 z). The datatype Word reads such an expression and carries a
+-- bound on its magnitude; `search bounds` builds it, from what is known of the variables:
+--     fits (search bounds depth 12) tt       proves that the expression fits
+--     plain-is (search bounds depth 12) tt   proves that it is the same without the reading back
+-- What is known goes in as a Word: `known h`, with h : natAbs x ≤ b; `count h`, with h : j ≤ b, of a number without sign; `equal e w`, with
+-- e : x ≡ y, of a variable that an invariant says y of.
+-- Assumes nothing.
+use mathlib.Core.Path.{_≡_, refl, sym, ap, ap₂, _∙_, subst}
+use mathlib.Core.Bool.{Bool, true, false, _&&_, true≢false}
+use Prim.Native.Nat.{ℕ, zero, suc, _+_, _*_, _/_, _^_, _≤_, _<_}
+use native.Mathlib.Nat.{le-refl, le-trans, le-of-eq, le-of-lt, le-step, lt-of-le-of-lt, add-le-add, mul-le-mul, mul-le-mul-right, div-le-self, zero-add, not-suc-le-zero}
+use native.Mathlib.Numerals.{add-one}
+use lib.Dec.{T, eqb, ltb, ltb→lt}
+use lib.IntN.{ℤ, pos, negsuc, negℤ, natAbs, _+ℤ_, _-ℤ_, _*ℤ_, -ℤ-one}
+use lib.Signed.{mag, ltZ, nonNeg, quotZ, shrZ}
+use borrow.Author.Tests.{ltb-true}
+use mir.Syntax.{w64}
+use mir.Val.{SFits, toZ, ofZ}
+use mir.Facts.{toZ-ofZ, toZ-pos, and-yes}
+use Rattle.whole.specs.Sum.{sum}
+use Rattle.whole.specs.Sums.{natAbs-sum}
+use Rattle.whole.specs.Size.{natAbs-neg, natAbs-mul, natAbs-add, natAbs-quot}
+
+-- ---- one number
+
+pub mag-le : (z : ℤ) → mag z ≤ natAbs z
+mag-le (pos n) = le-refl n
+mag-le (negsuc n) = le-step (le-refl n)
+
+pub fits-of : {z : ℤ} {b : ℕ} → natAbs z ≤ b → b < 2 ^ 63 → SFits w64 z
+fits-of {z} h k = record { sfits = lt-of-le-of-lt (le-trans (mag-le z) h) k }
+
+-- the first k terms of a sum whose terms are at most b
+pub partial : {n : ℕ} (k : ℕ) (f : ℕ → ℤ) (b : ℕ) → k ≤ n → ((i : ℕ) → natAbs (f i) ≤ b) → natAbs (sum k f) ≤ n * b
+partial k f b h all = le-trans (natAbs-sum k f b (λ i l. all i)) (mul-le-mul-right b h)
+
+-- ---- an expression with a bound
+
+-- The index is the expression as the machine has it.
+pub data Word : ℤ → Type 0 where
+  known : {z : ℤ} {b : ℕ} → natAbs z ≤ b → Word z
+  literal : (n : ℕ) → eqb n n ≡ true → Word (pos n)
+  minus-literal : (n : ℕ) → eqb n n ≡ true → Word (negsuc n)
+  count : {j b : ℕ} → j ≤ b → Word (pos j)
+  count-read : {j b : ℕ} → j ≤ b → Word (toZ w64 j)
+  equal : {x y : ℤ} → x ≡ y → Word y → Word x
+  read : {z : ℤ} → Word z → Word (toZ w64 (ofZ w64 z))
+  sum-of : {x y : ℤ} → Word x → Word y → Word (x +ℤ y)
+  product-of : {x y : ℤ} → Word x → Word y → Word (x *ℤ y)
+  negation-of : {x : ℤ} → Word x → Word (negℤ x)
+  quotient-of : {x y : ℤ} → Word x → Word y → Word (quotZ x y)
+
+-- what its magnitude can be at most
+abbrev pub reach : {z : ℤ} → Word z → ℕ
+reach (known {b = b} h) = b
+reach (literal n e) = n
+reach (minus-literal n e) = suc n
+reach (count {b = b} h) = b
+reach (count-read {b = b} h) = b
+reach (equal e w) = reach w
+reach (read w) = reach w
+reach (sum-of v w) = reach v + reach w
+reach (product-of v w) = reach v * reach w
+reach (negation-of w) = reach w
+reach (quotient-of v w) = reach v
+
+-- whatever is read back fits
+abbrev pub sound : {z : ℤ} → Word z → Bool
+sound (known h) = true
+sound (literal n e) = true
+sound (minus-literal n e) = true
+sound (count h) = true
+sound (count-read {b = b} h) = ltb b (2 ^ 63)
+sound (equal e w) = sound w
+sound (read w) = sound w && ltb (reach w) (2 ^ 63)
+sound (sum-of v w) = sound v && sound w
+sound (product-of v w) = sound v && sound w
+sound (negation-of w) = sound w
+sound (quotient-of v w) = sound v && sound w
+
+-- the expression without the reading back
+abbrev pub plain : {z : ℤ} → Word z → ℤ
+plain (known {z} h) = z
+plain (literal n e) = pos n
+plain (minus-literal n e) = negsuc n
+plain (count {j} h) = pos j
+plain (count-read {j} h) = pos j
+plain (equal e w) = plain w
+plain (read w) = plain w
+plain (sum-of v w) = plain v +ℤ plain w
+plain (product-of v w) = plain v *ℤ plain w
+plain (negation-of w) = negℤ (plain w)
+plain (quotient-of v w) = quotZ (plain v) (plain w)
+
+left : (a b : Bool) → T (a && b) → T a
+left a b t = and-yes a b t .0
+
+right : (a b : Bool) → T (a && b) → T b
+right a b t = and-yes a b t .1
+
+count-read-is : {j b : ℕ} → j ≤ b → T (ltb b (2 ^ 63)) → toZ w64 j ≡ pos j
+count-read-is {j} {b} h t = toZ-pos w64 (lt-of-le-of-lt h (ltb→lt b (2 ^ 63) t))
+
+read-bounded : (z : ℤ) {b : ℕ} → natAbs z ≤ b → b < 2 ^ 63 → natAbs (toZ w64 (ofZ w64 z)) ≤ b
+read-bounded z {b} h k = subst (λ (x : ℤ). natAbs x ≤ b) (sym (toZ-ofZ {z = z} (fits-of h k))) h
+
+bounded : {z : ℤ} (w : Word z) → T (sound w) → natAbs z ≤ reach w
+bounded (known h) t = h
+bounded (literal n e) t = le-refl n
+bounded (minus-literal n e) t = le-refl (suc n)
+bounded (count h) t = h
+bounded (count-read {j} {b} h) t = subst (λ (z : ℤ). natAbs z ≤ b) (sym (count-read-is h t)) h
+bounded (equal e w) t = subst (λ (x : ℤ). natAbs x ≤ reach w) (sym e) (bounded w t)
+bounded (read {z} w) t =
+    read-bounded z (bounded w (left (sound w) _ t)) (ltb→lt (reach w) (2 ^ 63) (right (sound w) _ t))
+bounded (sum-of {x} {y} v w) t =
+    le-trans (natAbs-add x y) (add-le-add (bounded v (left (sound v) _ t)) (bounded w (right (sound v) _ t)))
+bounded (product-of {x} {y} v w) t =
+    le-trans (le-of-eq (natAbs-mul x y)) (mul-le-mul (bounded v (left (sound v) _ t)) (bounded w (right (sound v) _ t)))
+bounded (negation-of {x} w) t = le-trans (le-of-eq (natAbs-neg x)) (bounded w t)
+bounded (quotient-of {x} {y} v w) t =
+    le-trans (le-of-eq (natAbs-quot x y))
+    (le-trans (div-le-self (natAbs x) (natAbs y)) (bounded v (left (sound v) _ t)))
+
+pub fits : {z : ℤ} (w : Word z) → T (sound w && ltb (reach w) (2 ^ 63)) → SFits w64 z
+fits w t = fits-of (bounded w (left (sound w) _ t)) (ltb→lt (reach w) (2 ^ 63) (right (sound w) _ t))
+
+-- what is read back of a value that fits
+pub back : {z : ℤ} (w : Word z) → T (sound w && ltb (reach w) (2 ^ 63)) → toZ w64 (ofZ w64 z) ≡ z
+back w t = toZ-ofZ (fits w t)
+
+pub plain-is : {z : ℤ} (w : Word z) → T (sound w) → z ≡ plain w
+plain-is (known h) t = refl
+plain-is (literal n e) t = refl
+plain-is (minus-literal n e) t = refl
+plain-is (count h) t = refl
+plain-is (count-read h) t = count-read-is h t
+plain-is (equal e w) t = e ∙ plain-is w t
+plain-is (read w) t = back w t ∙ plain-is w (left (sound w) _ t)
+plain-is (sum-of v w) t = ap₂ _+ℤ_ (plain-is v (left (sound v) _ t)) (plain-is w (right (sound v) _ t))
+plain-is (product-of v w) t = ap₂ _*ℤ_ (plain-is v (left (sound v) _ t)) (plain-is w (right (sound v) _ t))
+plain-is (negation-of w) t = ap negℤ (plain-is w t)
+plain-is (quotient-of v w) t = ap₂ quotZ (plain-is v (left (sound v) _ t)) (plain-is w (right (sound v) _ t))
+
+-- what `search` reads an expression by
+pub ruleset bounds = (read, sum-of, product-of, negation-of, quotient-of, literal, minus-literal)
+
+-- ---- division, which the machine rounds toward 0
+
+-- a divisor's bits are not 0
+pub divisor : (z : ℤ) (w : Word z) → T (sound w) → 0 < ofZ w64 (plain w) → 0 < ofZ w64 z
+divisor z w t h = subst (λ (x : ℤ). 0 < ofZ w64 x) (sym (plain-is w t)) h
+
+one-less : (a : ℕ) → negsuc 0 -ℤ negsuc a ≡ pos a
+one-less a = -ℤ-one (pos (suc a))
+
+-- -1 - v for v below 0, which fits where v does, though -v may not
+pub turned : (v : ℤ) → ltZ v (pos 0) ≡ true → (negsuc 0 -ℤ v ≡ pos (mag v)) × (mag v + 1 ≡ natAbs v)
+turned (pos a) t = absurd (not-suc-le-zero (ltb-true a 0 t))
+turned (negsuc a) t = (one-less a, add-one a)
+
+pub from-zero : (v : ℤ) → ltZ v (pos 0) ≡ false → T (nonNeg v)
+from-zero (pos a) t = tt
+from-zero (negsuc a) t = absurd (true≢false t)
+
+minus-one-less : (k : ℕ) → negsuc 0 -ℤ pos k ≡ negsuc k
+minus-one-less zero = refl
+minus-one-less (suc k) = ap (λ (j : ℕ). negsuc (suc j)) (zero-add k)
+
+-- the floor of x / m: for x below 0 it is -1 - (-1 - x) / m
+pub floor-below : (x : ℤ) (m : ℕ) → ltZ x (pos 0) ≡ true → negsuc 0 -ℤ quotZ (negsuc 0 -ℤ x) (pos m) ≡ shrZ x m
+floor-below (pos a) m t = absurd (not-suc-le-zero (ltb-true a 0 t))
+floor-below (negsuc a) m t = ap (λ (z : ℤ). negsuc 0 -ℤ quotZ z (pos m)) (one-less a) ∙ minus-one-less (a / m)
+
+pub floor-from-zero : (x : ℤ) (m : ℕ) → ltZ x (pos 0) ≡ false → quotZ x (pos m) ≡ shrZ x m
+floor-from-zero (pos a) m t = refl
+floor-from-zero (negsuc a) m t = absurd (true≢false t)
