@@ -9,8 +9,11 @@ use lib.IntN.{ℤ, pos, natAbs}
 use lib.ListN.{length, drop, drop-of-length-le}
 use lib.Seq.{drop-cons}
 use Rattle.limits.specs.Limits.{outside, beyond}
-use Rattle.limits.proofs.Laws.{or-false, magnitude-within}
-use Rattle.fit.specs.Lists.{at, anyOutside, anyBeyond}
+use Rattle.limits.proofs.Laws.{or-false, magnitude-within, then-zero, when-zero}
+use Rattle.limits.specs.Refusal.{_when_, _then_}
+use borrow.Author.Tests.{eqb-true, not-false}
+use lib.Dec.{eqb}
+use Rattle.fit.specs.Lists.{at, miscounted, anyOutside, anyBeyond, listRule}
 
 -- a loop that has found no number outside before place i has what is left to test
 module _ (low high : ℤ) (l : List ℤ) (i : ℕ) (so-far : anyOutside low high l ≡ anyOutside low high (drop i l)) where
@@ -34,3 +37,12 @@ unfolding anyOutside
 within-limit limit [] e i = zero-le
 within-limit limit (z ∷ l) e zero = magnitude-within limit z (or-false (beyond limit z) (anyBeyond limit l) e .0)
 within-limit limit (z ∷ l) e (suc i) = within-limit limit l (or-false (beyond limit z) (anyBeyond limit l) e .1) i
+
+-- what it tells that a list is not refused
+pub list-accepted : (n : ℕ) (low high : ℤ) (l : List ℤ) → listRule n low high l ≡ 0
+    → (length l ≡ n) × (anyOutside low high l ≡ false)
+unfolding listRule
+list-accepted n low high l e =
+    let z = then-zero (1 when miscounted n l) (2 when anyOutside low high l) e in
+    (eqb-true (length l) n (not-false (eqb (length l) n) (when-zero 0 (miscounted n l) (z .0))),
+    when-zero 1 (anyOutside low high l) (z .1))

@@ -3,21 +3,35 @@
 // the number of the first refusal, in the order of document 01, "Each operation and its refusals, in order".
 // All quantities are whole picoseconds unless a unit is given.
 
+mod number;
+mod series;
+
+use number::nearest;
+use series::{list_refusal, weighted};
+
+ghost use mathlib.Core.Path.{_≡_};
+ghost use Rattle.fit.specs.Answers.{smoothReply, smoothNumbered};
+ghost use Rattle.fit.specs.Smooth.{smoothRule};
+
+// What Smooth answers: the smoothed value, or the number of the refusal.
 pub enum Smoothed {
     Value(i64),
     Refused(u32),
 }
 
+// What Fit answers: the midpoint in 0.1 ns with the slope in 0.1 ps/s, or the number of the refusal.
 pub enum Fitted {
     Line { midpoint: i64, slope: i64 },
     Refused(u32),
 }
 
+// What Scatter answers: DSG in 0.1 ns, or the number of the refusal.
 pub enum Scattered {
     Sigma(i64),
     Refused(u32),
 }
 
+// A track's corrected values of each kind at its 52 blocks, A, B, C and D of document 01, and its ten numbers.
 pub struct TrackRecord {
     pub a: [i64; 52],
     pub b: [i64; 52],
@@ -35,10 +49,20 @@ pub struct TrackRecord {
     pub trkl: i64,
 }
 
+// What Track answers: the number of the refusal, 0 where it accepts, and the record, 0 throughout where it refuses.
 pub struct Tracked {
     pub refusal: u32,
     pub record: TrackRecord,
 }
 
-mod number;
-mod series;
+// The value at the middle of fifteen measurements of the parabola with the least sum of squared residuals.
+pub fn smooth(measurements: &[i64]) -> Smoothed
+    ensures answer { λ r. ⌜ smoothReply r ≡ smoothRule (now (measurements .entry)) ⌝ }
+    ensures variant { λ r. ⌜ smoothNumbered r ⌝ }
+{
+    let refusal = list_refusal(measurements, 15, -1_000_000_000_000, 1_000_000_000_000);
+    if refusal != 0 {
+        return Smoothed::Refused(refusal);
+    }
+    Smoothed::Value(nearest(weighted(measurements), 1105))
+}

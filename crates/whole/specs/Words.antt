@@ -31,6 +31,10 @@ mag-le (negsuc n) = le-step (le-refl n)
 pub fits-of : {z : ℤ} {b : ℕ} → natAbs z ≤ b → b < 2 ^ 63 → SFits w64 z
 fits-of {z} h k = record { sfits = lt-of-le-of-lt (le-trans (mag-le z) h) k }
 
+-- what is read back of an element or of a call's result, of which its range is known
+pub back-of : {z : ℤ} → mag z < 2 ^ 63 → toZ w64 (ofZ w64 z) ≡ z
+back-of h = toZ-ofZ (record { sfits = h })
+
 -- the first k terms of a sum whose terms are at most b
 pub partial : {n : ℕ} (k : ℕ) (f : ℕ → ℤ) (b : ℕ) → k ≤ n → ((i : ℕ) → natAbs (f i) ≤ b) → natAbs (sum k f) ≤ n * b
 partial k f b h all = le-trans (natAbs-sum k f b (λ i l. all i)) (mul-le-mul-right b h)
