@@ -4,12 +4,13 @@ use limits::then;
 use limits::when;
 ghost use mathlib.Core.Path.{_≡_};
 ghost use mathlib.Core.Bool.{false};
-ghost use Prim.Native.Nat.{_^_, _<_, _≤_};
+ghost use Prim.Native.Nat.{_*_, _^_, _<_, _≤_};
 ghost use lib.IntN.{natAbs, _*ℤ_};
 ghost use lib.ListN.{length};
 ghost use Rattle.whole.specs.Sum.{sum};
 ghost use Rattle.fit.specs.Lists.{at, anyOutside, anyBeyond, listRule};
 ghost use Rattle.fit.specs.Smooth.{weights};
+ghost use Rattle.fit.specs.Fit.{place, total, moment};
 
 // The weights of the parabola's value at the middle of fifteen measurements, over 1105.
 const WEIGHTS: [i64; 15] = [
@@ -66,4 +67,34 @@ pub fn weighted(measurements: &[i64]) -> i64
         i += 1;
     }
     sum
+}
+
+// S and T of document 01: the sum of the values, and that of 2j - 51 times the value.
+pub struct Moments {
+    pub total: i64,
+    pub moment: i64,
+}
+
+// 2j - 51: how far value j lies from the mean date, in half blocks.
+pub fn place(j: usize) -> i64
+    requires { ⌜ j < 52 ⌝ }
+    ensures { λ r. ⌜ r ≡ place 52 j ⌝ }
+{
+    2 * (j as i64) - 51
+}
+
+pub fn sums(values: &[i64]) -> Moments
+    requires { ⌜ (length (now values) ≡ 52) × (anyBeyond (2 * 10 ^ 12) (now values) ≡ false) ⌝ }
+    ensures { λ r. ⌜ (r .total ≡ total 52 (at (now (values .entry)))) × (r .moment ≡ moment 52 (at (now (values .entry)))) ⌝ }
+{
+    let mut total: i64 = 0;
+    let mut moment: i64 = 0;
+    let mut j = 0;
+    while j < 52 {
+        let value = values[j];
+        total += value;
+        moment += place(j) * value;
+        j += 1;
+    }
+    Moments { total, moment }
 }

@@ -9,7 +9,7 @@
 use mathlib.Core.Path.{_≡_, refl, sym, ap, ap₂, _∙_, subst}
 use mathlib.Core.Bool.{Bool, true, false, _&&_, true≢false}
 use Prim.Native.Nat.{ℕ, zero, suc, _+_, _*_, _/_, _^_, _≤_, _<_}
-use native.Mathlib.Nat.{le-refl, le-trans, le-of-eq, le-of-lt, le-step, lt-of-le-of-lt, add-le-add, mul-le-mul, mul-le-mul-right, div-le-self, zero-add, not-suc-le-zero}
+use native.Mathlib.Nat.{le-refl, le-trans, le-of-eq, le-of-lt, le-step, lt-of-le-of-lt, lt-of-lt-of-le, add-le-add, mul-le-mul, mul-le-mul-right, div-le-self, zero-add, not-suc-le-zero}
 use native.Mathlib.Numerals.{add-one}
 use lib.Dec.{T, eqb, ltb, ltb→lt}
 use lib.IntN.{ℤ, pos, negsuc, negℤ, natAbs, _+ℤ_, _-ℤ_, _*ℤ_, -ℤ-one}
@@ -36,8 +36,8 @@ pub back-of : {z : ℤ} → mag z < 2 ^ 63 → toZ w64 (ofZ w64 z) ≡ z
 back-of h = toZ-ofZ (record { sfits = h })
 
 -- the first k terms of a sum whose terms are at most b
-pub partial : {n : ℕ} (k : ℕ) (f : ℕ → ℤ) (b : ℕ) → k ≤ n → ((i : ℕ) → natAbs (f i) ≤ b) → natAbs (sum k f) ≤ n * b
-partial k f b h all = le-trans (natAbs-sum k f b (λ i l. all i)) (mul-le-mul-right b h)
+pub partial : (n k : ℕ) (f : ℕ → ℤ) (b : ℕ) → k ≤ n → ((i : ℕ) → i < n → natAbs (f i) ≤ b) → natAbs (sum k f) ≤ n * b
+partial n k f b h all = le-trans (natAbs-sum k f b (λ i l. all i (lt-of-lt-of-le l h))) (mul-le-mul-right b h)
 
 -- ---- an expression with a bound
 

@@ -46,7 +46,7 @@ nearest-requires : tie.Need-nearest-requires
 nearest-requires c κs =
     let m = c .before .before .before .args .measurements .now in
     (rw (weighted-is c)
-    (le-trans (partial {n = 15} 15 _ (167 * 10 ^ 12) (le-refl 15) (product-bound m (list-accepted _ _ _ _ (accepted (c .before)) .1))) (lit≤ tt)),
+    (le-trans (partial 15 15 _ (167 * 10 ^ 12) (le-refl 15) (product-bound m (list-accepted _ _ _ _ (accepted (c .before)) .1))) (lit≤ tt)),
     lit< tt)
 
 returns-2 : tie.Need-returns-2

@@ -45,7 +45,7 @@ measurement-word c i = known (within-limit (10 ^ 12) (c .args .measurements .now
 abbrev sum-word : (c : tie.At-loop Inv-loop μ-loop) → Word (toZ w64 (c .loop .sum))
 sum-word c =
     equal (c .loop .inv .2)
-    (known (partial {n = 15} (c .loop .i) _ (167 * 10 ^ 12) (c .loop .inv .0) (product-bound (c .before .args .measurements .now) (c .before .pre .1))))
+    (known (partial 15 (c .loop .i) _ (167 * 10 ^ 12) (c .loop .inv .0) (product-bound (c .before .args .measurements .now) (c .before .pre .1))))
 
 loop-holds : tie.Need-loop-holds Inv-loop μ-loop
 unfolding sum
