@@ -2,4 +2,4 @@ pub mod Cases
 pub mod Lists
 pub mod Weights
 pub mod Answers
-pub mod Fit
+pub mod Fitting

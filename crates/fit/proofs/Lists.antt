@@ -43,6 +43,7 @@ pub list-accepted : (n : ℕ) (low high : ℤ) (l : List ℤ) → listRule n low
     → (length l ≡ n) × (anyOutside low high l ≡ false)
 unfolding listRule
 list-accepted n low high l e =
-    let z = then-zero (1 when miscounted n l) (2 when anyOutside low high l) e in
-    (eqb-true (length l) n (not-false (eqb (length l) n) (when-zero 0 (miscounted n l) (z .0))),
-    when-zero 1 (anyOutside low high l) (z .1))
+    let z = then-zero (1 when miscounted n l) (2 when anyOutside low high l) e in (
+      eqb-true (length l) n (not-false (eqb (length l) n) (when-zero 0 (miscounted n l) (z .0))),
+      when-zero 1 (anyOutside low high l) (z .1),
+    )

@@ -7,11 +7,13 @@ mod number;
 mod series;
 
 use number::nearest;
-use series::{list_refusal, weighted};
-
+use series::list_refusal;
+use series::sums;
+use series::weighted;
 ghost use mathlib.Core.Path.{_≡_};
-ghost use Rattle.fit.specs.Answers.{smoothReply, smoothNumbered};
+ghost use Rattle.fit.specs.Answers.{smoothReply, smoothNumbered, fitReply, fitNumbered};
 ghost use Rattle.fit.specs.Smooth.{smoothRule};
+ghost use Rattle.fit.specs.Fit.{fitRule};
 
 // What Smooth answers: the smoothed value, or the number of the refusal.
 pub enum Smoothed {
@@ -65,4 +67,20 @@ pub fn smooth(measurements: &[i64]) -> Smoothed
         return Smoothed::Refused(refusal);
     }
     Smoothed::Value(nearest(weighted(measurements), 1105))
+}
+
+// The line through 52 values with the least sum of squared residuals: its value at the midpoint, and its slope.
+pub fn fit(values: &[i64]) -> Fitted
+    ensures answer { λ r. ⌜ fitReply r ≡ fitRule (now (values .entry)) ⌝ }
+    ensures variant { λ r. ⌜ fitNumbered r ⌝ }
+{
+    let refusal = list_refusal(values, 52, -2_000_000_000_000, 2_000_000_000_000);
+    if refusal != 0 {
+        return Fitted::Refused(refusal);
+    }
+    let s = sums(values);
+    Fitted::Line {
+        midpoint: nearest(s.total, 5200),
+        slope: nearest(s.moment, 35139),
+    }
 }

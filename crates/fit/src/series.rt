@@ -1,13 +1,17 @@
 // Lists of values: the limit test, the weighted sum of a block, the sums of a fit, and the squared residuals.
+use super::number::magnitude;
+use super::number::nearest;
 use limits::outside;
 use limits::then;
 use limits::when;
 ghost use mathlib.Core.Path.{_≡_};
 ghost use mathlib.Core.Bool.{false};
 ghost use Prim.Native.Nat.{_*_, _^_, _<_, _≤_};
-ghost use lib.IntN.{natAbs, _*ℤ_};
+ghost use lib.IntN.{pos, natAbs, _-ℤ_, _*ℤ_};
 ghost use lib.ListN.{length};
 ghost use Rattle.whole.specs.Sum.{sum};
+ghost use Rattle.whole.specs.Nearest.{nearest};
+ghost use Rattle.whole.specs.Words.{Within};
 ghost use Rattle.fit.specs.Lists.{at, anyOutside, anyBeyond, listRule};
 ghost use Rattle.fit.specs.Smooth.{weights};
 ghost use Rattle.fit.specs.Fit.{place, total, moment};
@@ -97,4 +101,12 @@ pub fn sums(values: &[i64]) -> Moments
         j += 1;
     }
     Moments { total, moment }
+}
+
+// The residual of a value at a place, by the two sums of its list.
+fn residual(value: i64, place: i64, total: i64, moment: i64) -> i64
+    requires { ⌜ Within (2 * 10 ^ 12) value × Within 52 place × Within (104 * 10 ^ 12) total × Within (5408 * 10 ^ 12) moment ⌝ }
+    ensures { λ r. ⌜ r ≡ nearest (pos 46852 *ℤ value -ℤ pos 901 *ℤ total -ℤ place *ℤ moment) 46852 ⌝ }
+{
+    nearest(46852 * value - 901 * total - place * moment, 46852)
 }

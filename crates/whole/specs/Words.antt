@@ -2,6 +2,7 @@
 -- prover asks of a sum or a product speaks of values read back, toZ w64 (ofZ w64 z). The datatype Word reads such an expression and carries a
 -- bound on its magnitude; `search bounds` builds it, from what is known of the variables:
 --     fits (search bounds depth 12) tt       proves that the expression fits
+--     bound (search bounds depth 12) tt      proves that its magnitude is at most what is asked
 --     plain-is (search bounds depth 12) tt   proves that it is the same without the reading back
 -- What is known goes in as a Word: `known h`, with h : natAbs x ≤ b; `count h`, with h : j ≤ b, of a number without sign; `equal e w`, with
 -- e : x ≡ y, of a variable that an invariant says y of.
@@ -11,7 +12,7 @@ use mathlib.Core.Bool.{Bool, true, false, _&&_, true≢false}
 use Prim.Native.Nat.{ℕ, zero, suc, _+_, _*_, _/_, _^_, _≤_, _<_}
 use native.Mathlib.Nat.{le-refl, le-trans, le-of-eq, le-of-lt, le-step, lt-of-le-of-lt, lt-of-lt-of-le, add-le-add, mul-le-mul, mul-le-mul-right, div-le-self, zero-add, not-suc-le-zero}
 use native.Mathlib.Numerals.{add-one}
-use lib.Dec.{T, eqb, ltb, ltb→lt}
+use lib.Dec.{T, eqb, leb, leb→le, ltb, ltb→lt}
 use lib.IntN.{ℤ, pos, negsuc, negℤ, natAbs, _+ℤ_, _-ℤ_, _*ℤ_, -ℤ-one}
 use lib.Signed.{mag, ltZ, nonNeg, quotZ, shrZ}
 use borrow.Author.Tests.{ltb-true}
@@ -23,6 +24,10 @@ use Rattle.whole.specs.Sums.{natAbs-sum}
 use Rattle.whole.specs.Size.{natAbs-neg, natAbs-mul, natAbs-add, natAbs-quot}
 
 -- ---- one number
+
+-- The magnitude of z is at most b. A record, so that z can be read off it: what a function asks of its arguments is stated so.
+pub record Within (b : ℕ) (z : ℤ) : Type 0 where
+  pub within : natAbs z ≤ b
 
 pub mag-le : (z : ℤ) → mag z ≤ natAbs z
 mag-le (pos n) = le-refl n
@@ -129,6 +134,9 @@ bounded (quotient-of {x} {y} v w) t =
 
 pub fits : {z : ℤ} (w : Word z) → T (sound w && ltb (reach w) (2 ^ 63)) → SFits w64 z
 fits w t = fits-of (bounded w (left (sound w) _ t)) (ltb→lt (reach w) (2 ^ 63) (right (sound w) _ t))
+
+pub bound : {z : ℤ} {b : ℕ} (w : Word z) → T (sound w && leb (reach w) b) → Within b z
+bound {b = b} w t = record { within = le-trans (bounded w (left (sound w) _ t)) (leb→le (reach w) b (right (sound w) _ t)) }
 
 -- what is read back of a value that fits
 pub back : {z : ℤ} (w : Word z) → T (sound w && ltb (reach w) (2 ^ 63)) → toZ w64 (ofZ w64 z) ≡ z

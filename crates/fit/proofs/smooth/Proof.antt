@@ -1,17 +1,17 @@
 -- `fit::smooth` meets its contract.
 -- Assumes nothing.
 use borrow.Author.Needs.{needs}
-use mathlib.Core.Path.{_≡_, sym, _∙_}
+use mathlib.Core.Path.{_≡_, sym, ap, _∙_}
 use Prim.Native.Nat.{_*_, _^_, _<_}
 use native.Mathlib.Omega.{arith}
-use native.Mathlib.Nat.{le-trans, le-refl}
-use lib.Dec.{lit<, lit≤}
-use lib.IntN.{pos, negsuc, _*ℤ_}
+use native.Mathlib.Nat.{le-refl}
+use lib.Dec.{lit<}
+use lib.IntN.{ℤ, pos, negsuc, _*ℤ_}
 use mir.Syntax.{w64}
 use mir.Val.{toZ, ofZ}
 use Rattle.whole.specs.Sum.{sum}
 use Rattle.whole.specs.Nearest.{nearest}
-use Rattle.whole.specs.Words.{back-of, partial}
+use Rattle.whole.specs.Words.{Word, known, equal, partial, back-of, bound, plain-is, bounds}
 use Rattle.fit.specs.Lists.{at, listRule}
 use Rattle.fit.specs.Smooth.{weights, smoothed, smoothRule}
 use Rattle.fit.proofs.Lists.{list-accepted}
@@ -35,25 +35,26 @@ accepted : (c : tie.Else1) → listRule 15 (negsuc 999999999999) (pos 1000000000
 accepted c = sym (c .before .list-refusal .ensures) ∙ c .if1 .left
 
 -- the sum that weighted hands back
-weighted-is : (c : tie.After-weighted)
-    → toZ w64 (ofZ w64 (c .weighted .result)) ≡ sum 15 (λ i. at weights i *ℤ at (c .before .before .before .args .measurements .now) i)
-weighted-is c = back-of (c .weighted .ok) ∙ c .weighted .ensures
+abbrev sum-word : (c : tie.After-weighted) → Word (c .weighted .result)
+sum-word c =
+    let m = c .before .before .before .args .measurements .now in
+    equal (c .weighted .ensures)
+    (known (partial 15 15 _ (167 * 10 ^ 12) (le-refl 15) (product-bound m (list-accepted _ _ _ _ (accepted (c .before)) .1))))
 
 weighted-requires : tie.Need-weighted-requires
 weighted-requires c κs = list-accepted _ _ _ _ (accepted c)
 
 nearest-requires : tie.Need-nearest-requires
-nearest-requires c κs =
-    let m = c .before .before .before .args .measurements .now in
-    (rw (weighted-is c)
-    (le-trans (partial 15 15 _ (167 * 10 ^ 12) (le-refl 15) (product-bound m (list-accepted _ _ _ _ (accepted (c .before)) .1))) (lit≤ tt)),
-    lit< tt)
+nearest-requires c κs = let w = sum-word c in (bound (search bounds depth 9) tt, lit< tt)
 
 returns-2 : tie.Need-returns-2
 unfolding smoothRule smoothed
 returns-2 c =
-    (rw (back-of (c .nearest .ok) ∙ c .nearest .ensures) (rw (weighted-is (c .before)) (sym (reply-accepted _ _ (accepted (c .before .before))))),
-    tt)
+    let w = sum-word (c .before) in (
+      rw (back-of (c .nearest .ok) ∙ c .nearest .ensures ∙ ap (λ (z : ℤ). nearest z 1105) (plain-is (search bounds depth 9) tt))
+          (sym (reply-accepted _ _ (accepted (c .before .before)))),
+      tt,
+    )
 
 pub smooth-spec : {M : Type 1} → statement M
 smooth-spec =

@@ -16,7 +16,7 @@ use Rattle.fit.proofs.number.nearest.Reads as reads
 use Rattle.fit.proofs.number.nearest.Lts as lts
 
 abbrev n-word : (c : tie.Start) → Word (c .args .n)
-n-word c = known (c .pre .0)
+n-word c = known (c .pre .0 .within)
 
 abbrev d-word : (c : tie.Start) → Word (toZ w64 (c .args .d))
 d-word c = count-read {b = 2 ^ 32} (le-of-lt (c .fits .d .fits))

@@ -15,7 +15,7 @@ use Rattle.whole.specs.Words.{Word, known, equal, partial, back-of, fits, plain
 use Rattle.fit.specs.Lists.{at}
 use Rattle.fit.specs.Fit.{place, total, moment}
 use Rattle.fit.proofs.Lists.{within-limit}
-use Rattle.fit.proofs.Fit.{place-bound, product-bound}
+use Rattle.fit.proofs.Fitting.{place-bound, product-bound}
 use Rattle.fit.proofs.series.sums.Statement.{statement}
 use Rattle.fit.proofs.series.sums.Tie as tie
 
@@ -92,11 +92,12 @@ loop-again c =
     let v = value-word (n .before) (n .loop .j) in
     let s = total-word n in
     let p = place-word c in
-    let t = moment-word n in
-    (search needs,
-    n .loop .inv .1,
-    plain-is (search bounds depth 9) tt ∙ rw (add-one, sum-suc),
-    plain-is (search bounds depth 9) tt ∙ rw (add-one, sum-suc))
+    let t = moment-word n in (
+      search needs,
+      n .loop .inv .1,
+      plain-is (search bounds depth 9) tt ∙ rw (add-one, sum-suc),
+      plain-is (search bounds depth 9) tt ∙ rw (add-one, sum-suc),
+    )
 
 returns : tie.Need-returns Inv-loop μ-loop
 unfolding total moment
