@@ -3,3 +3,4 @@ pub mod Lists
 pub mod Weights
 pub mod Answers
 pub mod Fitting
+pub mod Residuals

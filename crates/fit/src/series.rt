@@ -6,7 +6,7 @@ use limits::then;
 use limits::when;
 ghost use mathlib.Core.Path.{_≡_};
 ghost use mathlib.Core.Bool.{false};
-ghost use Prim.Native.Nat.{_*_, _^_, _<_, _≤_};
+ghost use Prim.Native.Nat.{min, _*_, _^_, _<_, _≤_};
 ghost use lib.IntN.{pos, natAbs, _-ℤ_, _*ℤ_};
 ghost use lib.ListN.{length};
 ghost use Rattle.whole.specs.Sum.{sum};
@@ -15,6 +15,7 @@ ghost use Rattle.whole.specs.Words.{Within};
 ghost use Rattle.fit.specs.Lists.{at, anyOutside, anyBeyond, listRule};
 ghost use Rattle.fit.specs.Smooth.{weights};
 ghost use Rattle.fit.specs.Fit.{place, total, moment};
+ghost use Rattle.fit.specs.Scatter.{squares};
 
 // The weights of the parabola's value at the middle of fifteen measurements, over 1105.
 const WEIGHTS: [i64; 15] = [
@@ -34,6 +35,9 @@ const WEIGHTS: [i64; 15] = [
     -13,
     -78,
 ];
+
+// The least sum of squares that has a DSG above 9999.
+pub const CAP: u64 = 51_994_800_130_000;
 
 // Whether some value is outside low to high.
 pub fn any_outside(values: &[i64], low: i64, high: i64) -> bool
@@ -109,4 +113,24 @@ fn residual(value: i64, place: i64, total: i64, moment: i64) -> i64
     ensures { λ r. ⌜ r ≡ nearest (pos 46852 *ℤ value -ℤ pos 901 *ℤ total -ℤ place *ℤ moment) 46852 ⌝ }
 {
     nearest(46852 * value - 901 * total - place * moment, 46852)
+}
+
+// The sum of the squared residuals of values whose sums are s and t, or CAP where it is more: a square may not fit 64
+// bits.
+pub fn squares(values: &[i64], s: i64, t: i64) -> u64
+    requires { ⌜ (length (now values) ≡ 52) × (anyBeyond (2 * 10 ^ 12) (now values) ≡ false) ⌝ }
+    requires { ⌜ (s ≡ total 52 (at (now values))) × (t ≡ moment 52 (at (now values))) ⌝ }
+    ensures { λ r. ⌜ r ≡ min 51994800130000 (natAbs (squares 52 (at (now (values .entry))))) ⌝ }
+{
+    let mut q: u64 = 0;
+    let mut j = 0;
+    while j < 52 {
+        let r = magnitude(residual(values[j], place(j), s, t));
+        if 10_000_000 < r {
+            return CAP;
+        }
+        q += r * r;
+        j += 1;
+    }
+    if CAP < q { CAP } else { q }
 }
