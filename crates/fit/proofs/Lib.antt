@@ -4,3 +4,4 @@ pub mod Weights
 pub mod Answers
 pub mod Fitting
 pub mod Residuals
+pub mod Edges

@@ -15,7 +15,7 @@ ghost use Rattle.whole.specs.Words.{Within};
 ghost use Rattle.fit.specs.Lists.{at, anyOutside, anyBeyond, listRule};
 ghost use Rattle.fit.specs.Smooth.{weights};
 ghost use Rattle.fit.specs.Fit.{place, total, moment};
-ghost use Rattle.fit.specs.Scatter.{squares};
+ghost use Rattle.fit.specs.Scatter.{squares, edge, dsg};
 
 // The weights of the parabola's value at the middle of fifteen measurements, over 1105.
 const WEIGHTS: [i64; 15] = [
@@ -133,4 +133,31 @@ pub fn squares(values: &[i64], s: i64, t: i64) -> u64
         j += 1;
     }
     if CAP < q { CAP } else { q }
+}
+
+// The least sum of squares that a DSG of d has.
+fn edge(d: u64) -> u64
+    requires { ⌜ (0 < d) × (d ≤ 10000) ⌝ }
+    ensures { λ r. ⌜ pos r ≡ edge 1 52 d ⌝ }
+{
+    let e = 100 * d - 50;
+    52 * (e * e)
+}
+
+// DSG of a sum of squares below CAP, by halving between 0 and 10000.
+pub fn dsg(q: u64) -> u64
+    requires { ⌜ q < 51994800130000 ⌝ }
+    ensures { λ r. ⌜ r ≡ dsg 1 52 (pos q) ⌝ }
+{
+    let mut low: u64 = 0;
+    let mut high: u64 = 10000;
+    while low + 1 < high {
+        let middle = (low + high) / 2;
+        if edge(middle) <= q {
+            low = middle;
+        } else {
+            high = middle;
+        }
+    }
+    low
 }
