@@ -10,6 +10,7 @@ use native.Mathlib.Nat.{le-trans, lt-of-not-le, mul-le-mul, mul-le-mul-left, le-
 use native.Mathlib.Decide.{decLe}
 use native.Mathlib.Omega.{arith}
 use lib.Dec.{T}
+use borrow.Author.Tests.{lt-ltb, le-ltb}
 use lib.IntN.{ℤ, pos, natAbs, _-ℤ_, _*ℤ_}
 use lib.Signed.{leZ, ltZ}
 use Rattle.whole.specs.Square.{squared}
@@ -17,6 +18,8 @@ use Rattle.whole.specs.Identity.{quote}
 use Rattle.whole.specs.Linear.{eq-by}
 use Rattle.whole.specs.Order.{_⩽_, _⋖_, le-lt-trans, lt-le-trans, lt-irrefl, le-trans as chain, le-or-lt, pos-le, pos-lt}
 use Rattle.whole.specs.Size.{le-size}
+use Rattle.limits.specs.Refusal.{_when_}
+use Rattle.limits.specs.Limits.{outside, dsgRule}
 use Rattle.fit.specs.Scatter.{edge, climb, dsg}
 
 -- ---- tests
@@ -135,3 +138,20 @@ module _ (s n : ℕ) (s-pos : 0 < s) (n-pos : 0 < n) where
         reached = λ h. climb-reached (edge s n) q (natAbs q) 1 (subst (λ (z : ℤ). z ⩽ q) (sym first-edge) (from-not-lt q _ t));
         next = climb-next (edge s n) q (natAbs q) 1 (enough q);
       }
+
+  -- below an edge DSG is below its number
+  pub dsg-below : {q : ℤ} {d : ℕ} → 0 < d → q ⋖ edge s n d → dsg s n q < d
+  dsg-below {q} {d} d-pos h = lt-of-not-le above
+    where
+      above : d ≤ dsg s n q → ⊥
+      above k = lt-irrefl (lt-le-trans h (chain (edge-mono s n d-pos k) (dsg-greatest q .reached (le-trans d-pos k))))
+
+-- ---- the limit on DSG
+
+pub sigma-refused : (d : ℕ) → 9999 < d → dsgRule (pos d) ≡ 6
+unfolding dsgRule outside _when_
+sigma-refused d h = rw (le-ltb d 0 zero-le, lt-ltb 9999 d h)
+
+pub sigma-accepted : (d : ℕ) → d ≤ 9999 → dsgRule (pos d) ≡ 0
+unfolding dsgRule outside _when_
+sigma-accepted d h = rw (le-ltb d 0 zero-le, le-ltb 9999 d h)

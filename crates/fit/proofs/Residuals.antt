@@ -65,3 +65,7 @@ module _ (f : ℕ → ℤ) where
   pub square-least : (n r j : ℕ) → j < n → r ≡ natAbs (f j) → r * r ≤ natAbs (sum n (λ k. squared (f k)))
   square-least n r j h e =
       pos-le-is (subst₂ (λ (x y : ℤ). x ⩽ y) (sym (square-of r j e)) (squares-natural n) (one-of n j h))
+
+pub squares-pos : (n : ℕ) (v : ℕ → ℤ) → squares n v ≡ pos (natAbs (squares n v))
+unfolding squares
+squares-pos n v = squares-natural (residual n v) n

@@ -7,13 +7,17 @@ mod number;
 mod series;
 
 use number::nearest;
+use series::CAP;
+use series::dsg;
 use series::list_refusal;
+use series::squares;
 use series::sums;
 use series::weighted;
 ghost use mathlib.Core.Path.{_≡_};
-ghost use Rattle.fit.specs.Answers.{smoothReply, smoothNumbered, fitReply, fitNumbered};
+ghost use Rattle.fit.specs.Answers.{smoothReply, smoothNumbered, fitReply, fitNumbered, scatterReply, scatterNumbered};
 ghost use Rattle.fit.specs.Smooth.{smoothRule};
 ghost use Rattle.fit.specs.Fit.{fitRule};
+ghost use Rattle.fit.specs.Scatter.{scatterRule};
 
 // What Smooth answers: the smoothed value, or the number of the refusal.
 pub enum Smoothed {
@@ -83,4 +87,21 @@ pub fn fit(values: &[i64]) -> Fitted
         midpoint: nearest(s.total, 5200),
         slope: nearest(s.moment, 35139),
     }
+}
+
+// DSG: the root mean square of the residuals of 52 values from their line.
+pub fn scatter(values: &[i64]) -> Scattered
+    ensures answer { λ r. ⌜ scatterReply r ≡ scatterRule (now (values .entry)) ⌝ }
+    ensures variant { λ r. ⌜ scatterNumbered r ⌝ }
+{
+    let refusal = list_refusal(values, 52, -2_000_000_000_000, 2_000_000_000_000);
+    if refusal != 0 {
+        return Scattered::Refused(refusal);
+    }
+    let s = sums(values);
+    let q = squares(values, s.total, s.moment);
+    if CAP <= q {
+        return Scattered::Refused(6);
+    }
+    Scattered::Sigma(dsg(q) as i64)
 }

@@ -94,6 +94,7 @@ pub fn place(j: usize) -> i64
 pub fn sums(values: &[i64]) -> Moments
     requires { ⌜ (length (now values) ≡ 52) × (anyBeyond (2 * 10 ^ 12) (now values) ≡ false) ⌝ }
     ensures { λ r. ⌜ (r .total ≡ total 52 (at (now (values .entry)))) × (r .moment ≡ moment 52 (at (now (values .entry)))) ⌝ }
+    ensures { λ r. ⌜ Within (104 * 10 ^ 12) (r .total) × Within (5408 * 10 ^ 12) (r .moment) ⌝ }
 {
     let mut total: i64 = 0;
     let mut moment: i64 = 0;

@@ -13,7 +13,7 @@ use Rattle.whole.specs.Words.{Word, known, equal, back-of, bound, plain-is, bou
 use Rattle.fit.specs.Lists.{at, listRule}
 use Rattle.fit.specs.Fit.{midpoint, slope, fitRule}
 use Rattle.fit.proofs.Lists.{list-accepted}
-use Rattle.fit.proofs.Fitting.{total-bound, moment-bound, midpoint-52, slope-52}
+use Rattle.fit.proofs.Fitting.{midpoint-52, slope-52}
 use Rattle.fit.proofs.Answers.{reply-accepted, reply-refused}
 use Rattle.fit.proofs.fit.Statement.{statement}
 use Rattle.fit.proofs.fit.Tie as tie
@@ -37,14 +37,10 @@ sums-requires c κs = list-accepted _ _ _ _ (accepted c)
 
 -- the two sums that sums hands back
 abbrev total-word : (c : tie.After-sums) → Word (c .sums .result .total)
-total-word c =
-    let l = c .before .before .before .args .values .now in
-    equal (c .sums .ensures .0) (known (total-bound (2 * 10 ^ 12) l (list-accepted _ _ _ _ (accepted (c .before)) .1) 52))
+total-word c = equal (c .sums .ensures .0 .0) (known (rw (c .sums .ensures .0 .0) at (c .sums .ensures .1 .0 .within)))
 
 abbrev moment-word : (c : tie.After-sums) → Word (c .sums .result .moment)
-moment-word c =
-    let l = c .before .before .before .args .values .now in
-    equal (c .sums .ensures .1) (known (moment-bound (2 * 10 ^ 12) l (list-accepted _ _ _ _ (accepted (c .before)) .1) 52))
+moment-word c = equal (c .sums .ensures .0 .1) (known (rw (c .sums .ensures .0 .1) at (c .sums .ensures .1 .1 .within)))
 
 nearest-requires : tie.Need-nearest-requires
 nearest-requires c κs = let s = total-word (c .before) in (bound (search bounds depth 9) tt, lit< tt)

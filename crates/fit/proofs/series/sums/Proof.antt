@@ -11,7 +11,7 @@ use mir.Syntax.{w64}
 use mir.Val.{toZ, ofZ}
 use Rattle.whole.specs.Sum.{sum}
 use Rattle.whole.specs.Sums.{sum-suc}
-use Rattle.whole.specs.Words.{Word, known, equal, partial, back-of, fits, plain-is, bounds}
+use Rattle.whole.specs.Words.{Word, known, equal, partial, back-of, fits, bound, plain-is, bounds}
 use Rattle.fit.specs.Lists.{at}
 use Rattle.fit.specs.Fit.{place, total, moment}
 use Rattle.fit.proofs.Lists.{within-limit}
@@ -103,8 +103,10 @@ returns : tie.Need-returns Inv-loop μ-loop
 unfolding total moment
 returns c =
     let n = c .before in
+    let s = total-word n in
+    let t = moment-word n in
     let e : n .loop .j ≡ 52 = le-antisymm (n .loop .inv .0) (c .loop-test .left) in
-    (rw e at (n .loop .inv .2), rw e at (n .loop .inv .3))
+    ((rw e at (n .loop .inv .2), rw e at (n .loop .inv .3)), (bound (search bounds depth 9) tt, bound (search bounds depth 9) tt))
 
 pub sums-spec : {M : Type 1} → statement M
 sums-spec =
