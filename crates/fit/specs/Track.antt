@@ -36,25 +36,19 @@ valueC g j = at (g .troposphere) j
 unfoldable pub valueD : Given → ℕ → ℤ
 valueD g j = at (g .ionosphere) j
 
--- The record of an accepted track.
-unfoldable pub results : Given → TrackRecord
-results g =
+-- The record of the corrected values: they themselves, and their ten numbers.
+unfoldable pub recordOf : (a b c d : List ℤ) → TrackRecord
+recordOf a b c d =
     record {
-      a = tabulate (valueA g) 52;
-      b = tabulate (valueB g) 52;
-      c = tabulate (valueC g) 52;
-      d = tabulate (valueD g) 52;
-      refsv = midpoint 1 52 (valueA g);
-      srsv = slope 1 52 (valueA g);
-      refsys = midpoint 1 52 (valueB g);
-      srsys = slope 1 52 (valueB g);
-      mdtr = midpoint 1 52 (valueC g);
-      smdt = slope 1 52 (valueC g);
-      mdio = midpoint 1 52 (valueD g);
-      smdi = slope 1 52 (valueD g);
-      dsg = pos (dsg 1 52 (squares 52 (valueB g)));
-      trkl = pos 780;
-    }
+      a = a; b = b; c = c; d = d;
+      refsv = midpoint 1 52 (at a); srsv = slope 1 52 (at a);
+      refsys = midpoint 1 52 (at b); srsys = slope 1 52 (at b);
+      mdtr = midpoint 1 52 (at c); smdt = slope 1 52 (at c);
+      mdio = midpoint 1 52 (at d); smdi = slope 1 52 (at d);
+      dsg = pos (dsg 1 52 (squares 52 (at b))); trkl = pos 780 }
+
+unfoldable pub results : Given → TrackRecord
+results g = recordOf (tabulate (valueA g) 52) (tabulate (valueB g) 52) (tabulate (valueC g) 52) (tabulate (valueD g) 52)
 
 -- 1: the measurements are not 780 or a column is not 52.
 unfoldable pub wrongSizes : Given → Bool
@@ -65,10 +59,10 @@ wrongSizes g =
 -- 2: a measurement is outside ±10^12, a geometry outside ±2 × 10^11, or any other correction or single number outside ±10^10.
 unfoldable pub outOfLimits : Given → Bool
 outOfLimits g =
-    anyBeyond (10 ^ 12) (g .measurements) || anyBeyond (2 * 10 ^ 11) (g .geometry)
+    (anyBeyond (10 ^ 12) (g .measurements) || anyBeyond (2 * 10 ^ 11) (g .geometry)
     || anyBeyond (10 ^ 10) (g .relativity) || anyBeyond (10 ^ 10) (g .ionosphere)
-    || anyBeyond (10 ^ 10) (g .troposphere) || anyBeyond (10 ^ 10) (g .clock)
-    || beyond (10 ^ 10) (g .int) || beyond (10 ^ 10) (g .cab) || beyond (10 ^ 10) (g .refdly) || beyond (10 ^ 10) (g .gd)
+    || anyBeyond (10 ^ 10) (g .troposphere) || anyBeyond (10 ^ 10) (g .clock))
+    || (beyond (10 ^ 10) (g .int) || beyond (10 ^ 10) (g .cab) || beyond (10 ^ 10) (g .refdly) || beyond (10 ^ 10) (g .gd))
 
 -- 10: a corrected value is outside ±2 × 10^12.
 unfoldable pub correctedBeyond : TrackRecord → Bool
@@ -81,13 +75,14 @@ unfoldable pub numbersRule : TrackRecord → ℕ
 numbersRule t =
     limitsRule (t .refsv) (t .srsv) (t .refsys) (t .srsys) (t .mdtr) (t .smdt) (t .mdio) (t .smdi) then dsgRule (t .dsg)
 
+-- What is refused of the corrected values and their numbers: 10, then 3 to 6.
+unfoldable pub recordNumber : TrackRecord → ℕ
+recordNumber t = 10 when correctedBeyond t then numbersRule t
+
 -- The number of the first refusal in document 01's order, 0 where there is none.
 unfoldable pub trackNumber : Given → ℕ
 trackNumber g =
-    1 when wrongSizes g
-    then 2 when outOfLimits g
-    then 10 when correctedBeyond (results g)
-    then numbersRule (results g)
+    1 when wrongSizes g then 2 when outOfLimits g then recordNumber (results g)
 
 -- A record of zeros.
 unfoldable pub zeros : TrackRecord
@@ -113,6 +108,13 @@ zeros =
 unfoldable pub tracked : ℕ → TrackRecord → Tracked
 tracked zero t = record { refusal = 0; «record» = t }
 tracked (suc number) t = record { refusal = suc number; «record» = zeros }
+
+-- What Track is given, in the order of its parameters.
+abbrev pub given : List ℤ → ℤ → ℤ → ℤ → ℤ → List ℤ → List ℤ → List ℤ → List ℤ → List ℤ → Given
+given measurements int cab refdly gd geometry relativity ionosphere troposphere clock =
+    record {
+      measurements = measurements; int = int; cab = cab; refdly = refdly; gd = gd; geometry = geometry;
+      relativity = relativity; ionosphere = ionosphere; troposphere = troposphere; clock = clock }
 
 unfoldable pub trackRule : Given → Tracked
 trackRule g = tracked (trackNumber g) (results g)
