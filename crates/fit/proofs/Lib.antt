@@ -1,7 +1,9 @@
 pub mod Cases
 pub mod Lists
 pub mod Weights
-pub mod Answers
+pub mod Replies
 pub mod Fitting
 pub mod Residuals
 pub mod Edges
+pub mod Arrays
+pub mod Blocks

@@ -1,17 +1,17 @@
 -- Laws of the limit tests on lists (specs/Lists.antt).
 -- Assumes nothing.
-use mathlib.Core.Path.{_≡_, ap, _∙_}
+use mathlib.Core.Path.{_≡_, refl, ap, _∙_}
 use mathlib.Core.Bool.{Bool, true, false, _||_}
 use mathlib.Core.List.{List, [], _∷_}
 use Prim.Native.Nat.{ℕ, zero, suc, _+_, _≤_, _<_, zero-le}
 use native.Mathlib.Numerals.{add-one}
 use lib.IntN.{ℤ, pos, natAbs}
-use lib.ListN.{length, drop, drop-of-length-le}
+use lib.ListN.{length, take, drop, drop-of-length-le}
 use lib.Seq.{drop-cons}
 use Rattle.limits.specs.Limits.{outside, beyond}
 use Rattle.limits.proofs.Laws.{or-false, magnitude-within, then-zero, when-zero}
 use Rattle.limits.specs.Refusal.{_when_, _then_}
-use borrow.Author.Tests.{eqb-true, not-false}
+use borrow.Author.Tests.{eqb-true, eq-eqb, not-false}
 use lib.Dec.{eqb}
 use Rattle.fit.specs.Lists.{at, miscounted, anyOutside, anyBeyond, listRule}
 
@@ -47,3 +47,22 @@ list-accepted n low high l e =
       eqb-true (length l) n (not-false (eqb (length l) n) (when-zero 0 (miscounted n l) (z .0))),
       when-zero 1 (anyOutside low high l) (z .1),
     )
+
+pub list-passes : (n : ℕ) (low high : ℤ) (l : List ℤ) → length l ≡ n → anyOutside low high l ≡ false → listRule n low high l ≡ 0
+unfolding listRule _when_ _then_
+list-passes n low high l e p = rw (eq-eqb (length l) n e, p)
+
+-- a part of a list that passed has passed
+pub any-drop : (low high : ℤ) (m : ℕ) (l : List ℤ) → anyOutside low high l ≡ false → anyOutside low high (drop m l) ≡ false
+unfolding anyOutside
+any-drop low high zero l e = e
+any-drop low high (suc m) [] e = refl
+any-drop low high (suc m) (z ∷ l) e = any-drop low high m l (or-false (outside low high z) (anyOutside low high l) e .1)
+
+pub any-take : (low high : ℤ) (n : ℕ) (l : List ℤ) → anyOutside low high l ≡ false → anyOutside low high (take n l) ≡ false
+unfolding anyOutside
+any-take low high zero l e = refl
+any-take low high (suc n) [] e = refl
+any-take low high (suc n) (z ∷ l) e =
+    let o = or-false (outside low high z) (anyOutside low high l) e in
+    rw (o .0, any-take low high n l (o .1))

@@ -40,12 +40,21 @@ valueD g j = at (g .ionosphere) j
 unfoldable pub recordOf : (a b c d : List ℤ) → TrackRecord
 recordOf a b c d =
     record {
-      a = a; b = b; c = c; d = d;
-      refsv = midpoint 1 52 (at a); srsv = slope 1 52 (at a);
-      refsys = midpoint 1 52 (at b); srsys = slope 1 52 (at b);
-      mdtr = midpoint 1 52 (at c); smdt = slope 1 52 (at c);
-      mdio = midpoint 1 52 (at d); smdi = slope 1 52 (at d);
-      dsg = pos (dsg 1 52 (squares 52 (at b))); trkl = pos 780 }
+      a = a;
+      b = b;
+      c = c;
+      d = d;
+      refsv = midpoint 1 52 (at a);
+      srsv = slope 1 52 (at a);
+      refsys = midpoint 1 52 (at b);
+      srsys = slope 1 52 (at b);
+      mdtr = midpoint 1 52 (at c);
+      smdt = slope 1 52 (at c);
+      mdio = midpoint 1 52 (at d);
+      smdi = slope 1 52 (at d);
+      dsg = pos (dsg 1 52 (squares 52 (at b)));
+      trkl = pos 780;
+    }
 
 unfoldable pub results : Given → TrackRecord
 results g = recordOf (tabulate (valueA g) 52) (tabulate (valueB g) 52) (tabulate (valueC g) 52) (tabulate (valueD g) 52)
@@ -113,8 +122,17 @@ tracked (suc number) t = record { refusal = suc number; «record» = zeros }
 abbrev pub given : List ℤ → ℤ → ℤ → ℤ → ℤ → List ℤ → List ℤ → List ℤ → List ℤ → List ℤ → Given
 given measurements int cab refdly gd geometry relativity ionosphere troposphere clock =
     record {
-      measurements = measurements; int = int; cab = cab; refdly = refdly; gd = gd; geometry = geometry;
-      relativity = relativity; ionosphere = ionosphere; troposphere = troposphere; clock = clock }
+      measurements = measurements;
+      int = int;
+      cab = cab;
+      refdly = refdly;
+      gd = gd;
+      geometry = geometry;
+      relativity = relativity;
+      ionosphere = ionosphere;
+      troposphere = troposphere;
+      clock = clock;
+    }
 
 unfoldable pub trackRule : Given → Tracked
 trackRule g = tracked (trackNumber g) (results g)

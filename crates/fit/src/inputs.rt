@@ -1,7 +1,6 @@
 // What a track is given: whether the lists have their sizes, and whether every number is inside its limits.
 use super::series::any_outside;
 use limits::outside;
-
 ghost use mathlib.Core.Path.{_≡_};
 ghost use mathlib.Core.Bool.{_||_};
 ghost use Prim.Native.Nat.{_*_, _^_};

@@ -3,6 +3,8 @@
 // the number of the first refusal, in the order of document 01, "Each operation and its refusals, in order".
 // All quantities are whole picoseconds unless a unit is given.
 
+mod answers;
+mod correction;
 mod inputs;
 mod number;
 mod series;

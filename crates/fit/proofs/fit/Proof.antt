@@ -14,7 +14,7 @@ use Rattle.fit.specs.Lists.{at, listRule}
 use Rattle.fit.specs.Fit.{midpoint, slope, fitRule}
 use Rattle.fit.proofs.Lists.{list-accepted}
 use Rattle.fit.proofs.Fitting.{midpoint-52, slope-52}
-use Rattle.fit.proofs.Answers.{reply-accepted, reply-refused}
+use Rattle.fit.proofs.Replies.{reply-accepted, reply-refused}
 use Rattle.fit.proofs.fit.Statement.{statement}
 use Rattle.fit.proofs.fit.Tie as tie
 

@@ -16,7 +16,7 @@ use Rattle.fit.specs.Lists.{at, listRule}
 use Rattle.fit.specs.Smooth.{weights, smoothed, smoothRule}
 use Rattle.fit.proofs.Lists.{list-accepted}
 use Rattle.fit.proofs.Weights.{product-bound}
-use Rattle.fit.proofs.Answers.{reply-accepted, reply-refused}
+use Rattle.fit.proofs.Replies.{reply-accepted, reply-refused}
 use Rattle.fit.proofs.smooth.Statement.{statement}
 use Rattle.fit.proofs.smooth.Tie as tie
 
