@@ -7,6 +7,7 @@ mod answers;
 mod correction;
 mod inputs;
 mod number;
+mod results;
 mod series;
 
 use number::nearest;

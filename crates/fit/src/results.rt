@@ -1,0 +1,92 @@
+// The record of a track: that of a refusal, and that of the corrected values with their ten numbers.
+use super::Fitted;
+use super::Scattered;
+use super::TrackRecord;
+use super::Tracked;
+use super::answers::fitted_number;
+use super::answers::scattered_number;
+use super::fit;
+use super::scatter;
+use limits::limits;
+use limits::then;
+ghost use mathlib.Core.Path.{_≡_};
+ghost use mathlib.Core.Bool.{false};
+ghost use lib.IntN.{pos};
+ghost use lib.ListN.{length};
+ghost use Rattle.limits.specs.Refusal.{_then_};
+ghost use Rattle.limits.specs.Limits.{limitsRule};
+ghost use Rattle.fit.specs.Fit.{fitRule};
+ghost use Rattle.fit.specs.Track.{recordOf, correctedBeyond, numbersRule, zeros, tracked};
+
+// A refusal: its number, and 0 throughout.
+pub fn refused(number: u32) -> Tracked
+    ensures { λ r. ⌜ r ≡ record { refusal = number; «record» = zeros } ⌝ }
+{
+    let none = [0i64; 52];
+    Tracked {
+        refusal: number,
+        record: TrackRecord {
+            a: none,
+            b: none,
+            c: none,
+            d: none,
+            refsv: 0,
+            srsv: 0,
+            refsys: 0,
+            srsys: 0,
+            mdtr: 0,
+            smdt: 0,
+            mdio: 0,
+            smdi: 0,
+            dsg: 0,
+            trkl: 0,
+        },
+    }
+}
+
+// Fit's answer in numbers: that of the refusal, 0 where there is none, and the values, 0 where there is one.
+struct LineNumbers {
+    refusal: u32,
+    midpoint: i64,
+    slope: i64,
+}
+
+// Fit, for each of the four kinds of corrected values.
+fn line(values: &[i64]) -> LineNumbers
+    ensures { λ r. ⌜ (r .refusal ≡ fitRule (now (values .entry)) .number) × (r .midpoint ≡ fitRule (now (values .entry)) .values .0) × (r .slope ≡ fitRule (now (values .entry)) .values .1) ⌝ }
+{
+    let answer = fit(values);
+    let Fitted::Line { midpoint, slope } = answer else {
+        let refusal = fitted_number(answer);
+        return LineNumbers {
+            refusal,
+            midpoint: 0,
+            slope: 0,
+        };
+    };
+    LineNumbers {
+        refusal: 0,
+        midpoint,
+        slope,
+    }
+}
+
+// The number of the first refusal among the four fits and then the limits on their numbers, 3 to 5.
+fn lines_refusal(a: LineNumbers, b: LineNumbers, c: LineNumbers, d: LineNumbers) -> u32
+    ensures { λ r. ⌜ r ≡ a .refusal then b .refusal then c .refusal then d .refusal then limitsRule (a .midpoint) (a .slope) (b .midpoint) (b .slope) (c .midpoint) (c .slope) (d .midpoint) (d .slope) ⌝ }
+{
+    let limit = limits(
+        a.midpoint,
+        a.slope,
+        b.midpoint,
+        b.slope,
+        c.midpoint,
+        c.slope,
+        d.midpoint,
+        d.slope,
+    );
+    then(
+        a.refusal,
+        then(b.refusal, then(c.refusal, then(d.refusal, limit))),
+    )
+}
