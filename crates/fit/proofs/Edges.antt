@@ -5,7 +5,8 @@ use mathlib.Core.Path.{_≡_, refl, sym, ap, _∙_, subst, subst₂}
 use mathlib.Core.Bool.{Bool, true, false, cond}
 use mathlib.Core.List.{List, [], _∷_}
 use mathlib.Core.Logic.{⊎-elim}
-use Prim.Native.Nat.{ℕ, zero, suc, _+_, _*_, _-_, _≤_, _<_, zero-le}
+use lib.ListN.{length}
+use Prim.Native.Nat.{ℕ, zero, suc, _+_, _*_, _-_, _^_, _≤_, _<_, zero-le}
 use native.Mathlib.Nat.{le-trans, lt-of-not-le, mul-le-mul, mul-le-mul-left, le-antisymm}
 use native.Mathlib.Decide.{decLe}
 use native.Mathlib.Omega.{arith}
@@ -20,7 +21,11 @@ use Rattle.whole.specs.Order.{_⩽_, _⋖_, le-lt-trans, lt-le-trans, lt-irrefl
 use Rattle.whole.specs.Size.{le-size}
 use Rattle.limits.specs.Refusal.{_when_}
 use Rattle.limits.specs.Limits.{outside, dsgRule}
-use Rattle.fit.specs.Scatter.{edge, climb, dsg}
+use Rattle.fit.specs.Lists.{at, anyBeyond}
+use Rattle.fit.specs.Answers.{reply}
+use Rattle.fit.specs.Scatter.{squares, edge, climb, dsg, scatterRule}
+use Rattle.fit.proofs.Lists.{list-passes}
+use Rattle.fit.proofs.Replies.{then-passed}
 
 -- ---- tests
 
@@ -155,3 +160,11 @@ sigma-refused d h = rw (le-ltb d 0 zero-le, lt-ltb 9999 d h)
 pub sigma-accepted : (d : ℕ) → d ≤ 9999 → dsgRule (pos d) ≡ 0
 unfolding dsgRule outside _when_
 sigma-accepted d h = rw (le-ltb d 0 zero-le, le-ltb 9999 d h)
+
+-- Scatter's reply to values that are not refused before their DSG is known
+pub scatter-passed : (l : List ℤ) → length l ≡ 52 → anyBeyond (2 * 10 ^ 12) l ≡ false
+    → scatterRule l ≡ reply (pos 0) (dsgRule (pos (dsg 1 52 (squares 52 (at l))))) (pos (dsg 1 52 (squares 52 (at l))))
+unfolding scatterRule
+scatter-passed l e h =
+    let sigma = pos (dsg 1 52 (squares 52 (at l))) in
+    ap (λ (n : ℕ). reply (pos 0) n sigma) (then-passed _ (dsgRule sigma) (list-passes 52 _ _ l e h))

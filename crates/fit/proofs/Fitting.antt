@@ -8,6 +8,7 @@ use native.Mathlib.Nat.{le-trans, le-of-eq, le-refl, mul-le-mul}
 use native.Mathlib.Omega.{arith}
 use lib.Dec.{lit<}
 use lib.IntN.{ℤ, pos, negℤ, natAbs, _-ℤ_, _*ℤ_}
+use lib.ListN.{length}
 use Rattle.whole.specs.Nearest.{nearest}
 use Rattle.whole.specs.Identity.{quote}
 use Rattle.whole.specs.Linear.{le-by}
@@ -16,8 +17,9 @@ use Rattle.whole.specs.Size.{natAbs-mul, size-le}
 use Rattle.whole.specs.Rounding.{nearest-scale}
 use Rattle.whole.specs.Words.{partial}
 use Rattle.fit.specs.Lists.{at, anyBeyond}
-use Rattle.fit.specs.Fit.{place, total, moment, midpoint, slope}
-use Rattle.fit.proofs.Lists.{within-limit}
+use Rattle.fit.specs.Fit.{place, total, moment, midpoint, slope, fitRule}
+use Rattle.fit.proofs.Lists.{within-limit, list-passes}
+use Rattle.fit.proofs.Replies.{reply-accepted}
 
 -- two numbers that differ by at most m
 apart : (a b m : ℕ) → a ≤ b + m → b ≤ a + m → natAbs (pos a -ℤ pos b) ≤ m
@@ -51,3 +53,9 @@ midpoint-52 v = refl
 pub slope-52 : (v : ℕ → ℤ) → slope 1 52 v ≡ nearest (moment 52 v) 35139
 unfolding slope
 slope-52 v = nearest-scale (moment 52 v) 35139 4 (lit< tt) (lit< tt)
+
+-- Fit's reply to values that are not refused
+pub fit-accepted : (l : List ℤ) → length l ≡ 52 → anyBeyond (2 * 10 ^ 12) l ≡ false
+    → fitRule l ≡ record { number = 0; values = (midpoint 1 52 (at l), slope 1 52 (at l)) }
+unfolding fitRule
+fit-accepted l e h = reply-accepted _ _ (list-passes 52 _ _ l e h)

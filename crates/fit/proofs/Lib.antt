@@ -7,3 +7,4 @@ pub mod Residuals
 pub mod Edges
 pub mod Arrays
 pub mod Blocks
+pub mod Tracks

@@ -20,6 +20,19 @@ pub reply-refused : {A : Type 0} (zeros values : A) {number : ℕ} → 0 < numbe
 reply-refused zeros values {number = zero} h = absurd (not-suc-le-zero h)
 reply-refused zeros values {number = suc n} h = refl
 
+pub reply-number : {A : Type 0} (zeros values : A) (number : ℕ) → reply zeros number values .number ≡ number
+reply-number zeros values zero = refl
+reply-number zeros values (suc n) = refl
+
+-- what a reply without a refusal tells
+pub reply-values : {A : Type 0} (zeros values : A) (number : ℕ) {v : A} → record { number = 0; values = v } ≡ reply zeros number values
+    → (number ≡ 0) × (v ≡ values)
+reply-values zeros values zero e = (refl, ap (λ (t : Reply _). t .values) e)
+reply-values zeros values (suc n) e = absurd (never (ap (λ (t : Reply _). t .number) e))
+  where
+    never : 0 ≡ suc n → ⊥
+    never e = omega arith
+
 -- a refusal stands before what comes next
 pub then-refused : (first next : ℕ) → 0 < first → first then next ≡ first
 unfolding _then_

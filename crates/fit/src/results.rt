@@ -44,6 +44,14 @@ pub fn refused(number: u32) -> Tracked
     }
 }
 
+// The corrected values of each kind, A, B, C and D of document 01.
+pub struct Corrected {
+    pub a: [i64; 52],
+    pub b: [i64; 52],
+    pub c: [i64; 52],
+    pub d: [i64; 52],
+}
+
 // Fit's answer in numbers: that of the refusal, 0 where there is none, and the values, 0 where there is one.
 struct LineNumbers {
     refusal: u32,
@@ -89,4 +97,61 @@ fn lines_refusal(a: LineNumbers, b: LineNumbers, c: LineNumbers, d: LineNumbers)
         a.refusal,
         then(b.refusal, then(c.refusal, then(d.refusal, limit))),
     )
+}
+
+// An accepted track: the corrected values, and the ten numbers of their lines and their scatter.
+fn accepted(
+    values: Corrected,
+    a: LineNumbers,
+    b: LineNumbers,
+    c: LineNumbers,
+    d: LineNumbers,
+    dsg: i64,
+) -> Tracked
+    ensures { λ r. ⌜ r ≡ record { refusal = 0; «record» = record { a = values .a; b = values .b; c = values .c; d = values .d; refsv = a .midpoint; srsv = a .slope; refsys = b .midpoint; srsys = b .slope; mdtr = c .midpoint; smdt = c .slope; mdio = d .midpoint; smdi = d .slope; dsg = dsg; trkl = pos 780 } } ⌝ }
+{
+    let a_values = values.a;
+    let b_values = values.b;
+    let c_values = values.c;
+    let d_values = values.d;
+    Tracked {
+        refusal: 0,
+        record: TrackRecord {
+            a: a_values,
+            b: b_values,
+            c: c_values,
+            d: d_values,
+            refsv: a.midpoint,
+            srsv: a.slope,
+            refsys: b.midpoint,
+            srsys: b.slope,
+            mdtr: c.midpoint,
+            smdt: c.slope,
+            mdio: d.midpoint,
+            smdi: d.slope,
+            dsg,
+            trkl: 780,
+        },
+    }
+}
+
+// The ten numbers of corrected values that are inside their limit, or a refusal from 3 to 6.
+pub fn results(values: Corrected) -> Tracked
+    requires { ⌜ (length (values .a) ≡ 52) × (length (values .b) ≡ 52) × (length (values .c) ≡ 52) × (length (values .d) ≡ 52) ⌝ }
+    requires { ⌜ correctedBeyond (recordOf (values .a) (values .b) (values .c) (values .d)) ≡ false ⌝ }
+    ensures { λ r. ⌜ r ≡ tracked (numbersRule (recordOf (values .a) (values .b) (values .c) (values .d))) (recordOf (values .a) (values .b) (values .c) (values .d)) ⌝ }
+{
+    let a = line(&values.a);
+    let b = line(&values.b);
+    let c = line(&values.c);
+    let d = line(&values.d);
+    let refusal = lines_refusal(a, b, c, d);
+    if refusal != 0 {
+        return refused(refusal);
+    }
+    let answer = scatter(&values.b);
+    let Scattered::Sigma(dsg) = answer else {
+        return refused(scattered_number(answer));
+    };
+    accepted(values, a, b, c, d, dsg)
 }
