@@ -58,4 +58,5 @@ line-of l n e h k =
     record {
       no-refusal = k .0 ∙ ap (λ (r : Reply (ℤ × ℤ)). r .number) f;
       midpoint-is = k .1 ∙ ap (λ (r : Reply (ℤ × ℤ)). r .values .0) f;
-      slope-is = k .2 ∙ ap (λ (r : Reply (ℤ × ℤ)). r .values .1) f }
+      slope-is = k .2 ∙ ap (λ (r : Reply (ℤ × ℤ)). r .values .1) f;
+    }

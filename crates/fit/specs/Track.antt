@@ -62,14 +62,15 @@ results g = recordOf (tabulate (valueA g) 52) (tabulate (valueB g) 52) (tabulate
 -- 1: the measurements are not 780 or a column is not 52.
 unfoldable pub wrongSizes : Given → Bool
 wrongSizes g =
-    miscounted 780 (g .measurements) || miscounted 52 (g .geometry) || miscounted 52 (g .relativity)
-    || miscounted 52 (g .ionosphere) || miscounted 52 (g .troposphere) || miscounted 52 (g .clock)
+    miscounted 780 (g .measurements)
+    || (miscounted 52 (g .geometry) || miscounted 52 (g .relativity) || miscounted 52 (g .ionosphere)
+    || miscounted 52 (g .troposphere) || miscounted 52 (g .clock))
 
 -- 2: a measurement is outside ±10^12, a geometry outside ±2 × 10^11, or any other correction or single number outside ±10^10.
 unfoldable pub outOfLimits : Given → Bool
 outOfLimits g =
-    (anyBeyond (10 ^ 12) (g .measurements) || anyBeyond (2 * 10 ^ 11) (g .geometry)
-    || anyBeyond (10 ^ 10) (g .relativity) || anyBeyond (10 ^ 10) (g .ionosphere)
+    anyBeyond (10 ^ 12) (g .measurements)
+    || (anyBeyond (2 * 10 ^ 11) (g .geometry) || anyBeyond (10 ^ 10) (g .relativity) || anyBeyond (10 ^ 10) (g .ionosphere)
     || anyBeyond (10 ^ 10) (g .troposphere) || anyBeyond (10 ^ 10) (g .clock))
     || (beyond (10 ^ 10) (g .int) || beyond (10 ^ 10) (g .cab) || beyond (10 ^ 10) (g .refdly) || beyond (10 ^ 10) (g .gd))
 

@@ -1,4 +1,5 @@
-// What a track is given: whether the lists have their sizes, and whether every number is inside its limits.
+// The columns and the delays that a track is given: whether the columns have their size, and whether every number is
+// inside its limits.
 use super::series::any_outside;
 use limits::outside;
 ghost use mathlib.Core.Path.{_≡_};
@@ -6,40 +7,35 @@ ghost use mathlib.Core.Bool.{_||_};
 ghost use Prim.Native.Nat.{_*_, _^_};
 ghost use Rattle.limits.specs.Limits.{beyond};
 ghost use Rattle.fit.specs.Lists.{miscounted, anyBeyond};
-ghost use Rattle.fit.specs.Track.{given, wrongSizes, outOfLimits};
 
-// Whether the measurements are not 780 or a column is not 52.
-pub fn wrong_sizes(
-    measurements: &[i64],
+// Whether a column is not 52.
+pub fn columns_miscounted(
     geometry: &[i64],
     relativity: &[i64],
     ionosphere: &[i64],
     troposphere: &[i64],
     clock: &[i64],
 ) -> bool
-    ensures { λ r. ⌜ r ≡ miscounted 780 (now (measurements .entry)) || miscounted 52 (now (geometry .entry)) || miscounted 52 (now (relativity .entry)) || miscounted 52 (now (ionosphere .entry)) || miscounted 52 (now (troposphere .entry)) || miscounted 52 (now (clock .entry)) ⌝ }
+    ensures { λ r. ⌜ r ≡ miscounted 52 (now (geometry .entry)) || miscounted 52 (now (relativity .entry)) || miscounted 52 (now (ionosphere .entry)) || miscounted 52 (now (troposphere .entry)) || miscounted 52 (now (clock .entry)) ⌝ }
 {
-    (measurements.len() != 780)
-        | (geometry.len() != 52)
+    (geometry.len() != 52)
         | (relativity.len() != 52)
         | (ionosphere.len() != 52)
         | (troposphere.len() != 52)
         | (clock.len() != 52)
 }
 
-// Whether a measurement is outside ±10^12, a geometry outside ±2 × 10^11 or any other correction outside ±10^10.
-pub fn lists_beyond(
-    measurements: &[i64],
+// Whether a geometry is outside ±2 × 10^11 or any other correction outside ±10^10.
+pub fn columns_beyond(
     geometry: &[i64],
     relativity: &[i64],
     ionosphere: &[i64],
     troposphere: &[i64],
     clock: &[i64],
 ) -> bool
-    ensures { λ r. ⌜ r ≡ anyBeyond (10 ^ 12) (now (measurements .entry)) || anyBeyond (2 * 10 ^ 11) (now (geometry .entry)) || anyBeyond (10 ^ 10) (now (relativity .entry)) || anyBeyond (10 ^ 10) (now (ionosphere .entry)) || anyBeyond (10 ^ 10) (now (troposphere .entry)) || anyBeyond (10 ^ 10) (now (clock .entry)) ⌝ }
+    ensures { λ r. ⌜ r ≡ anyBeyond (2 * 10 ^ 11) (now (geometry .entry)) || anyBeyond (10 ^ 10) (now (relativity .entry)) || anyBeyond (10 ^ 10) (now (ionosphere .entry)) || anyBeyond (10 ^ 10) (now (troposphere .entry)) || anyBeyond (10 ^ 10) (now (clock .entry)) ⌝ }
 {
-    any_outside(measurements, -1_000_000_000_000, 1_000_000_000_000)
-        | any_outside(geometry, -200_000_000_000, 200_000_000_000)
+    any_outside(geometry, -200_000_000_000, 200_000_000_000)
         | any_outside(relativity, -10_000_000_000, 10_000_000_000)
         | any_outside(ionosphere, -10_000_000_000, 10_000_000_000)
         | any_outside(troposphere, -10_000_000_000, 10_000_000_000)

@@ -7,6 +7,7 @@ use super::answers::fitted_number;
 use super::answers::scattered_number;
 use super::fit;
 use super::scatter;
+use super::series::any_outside;
 use limits::limits;
 use limits::then;
 ghost use mathlib.Core.Path.{_≡_};
@@ -16,7 +17,7 @@ ghost use lib.ListN.{length};
 ghost use Rattle.limits.specs.Refusal.{_then_};
 ghost use Rattle.limits.specs.Limits.{limitsRule};
 ghost use Rattle.fit.specs.Fit.{fitRule};
-ghost use Rattle.fit.specs.Track.{recordOf, correctedBeyond, numbersRule, zeros, tracked};
+ghost use Rattle.fit.specs.Track.{recordOf, correctedBeyond, numbersRule, recordNumber, zeros, tracked};
 
 // A refusal: its number, and 0 throughout.
 pub fn refused(number: u32) -> Tracked
@@ -154,4 +155,19 @@ pub fn results(values: Corrected) -> Tracked
         return refused(scattered_number(answer));
     };
     accepted(values, a, b, c, d, dsg)
+}
+
+// The answer for corrected values: 10 where one is outside ±2 × 10^12, else by their numbers.
+pub fn judged(values: Corrected) -> Tracked
+    requires { ⌜ (length (values .a) ≡ 52) × (length (values .b) ≡ 52) × (length (values .c) ≡ 52) × (length (values .d) ≡ 52) ⌝ }
+    ensures { λ r. ⌜ r ≡ tracked (recordNumber (recordOf (values .a) (values .b) (values .c) (values .d))) (recordOf (values .a) (values .b) (values .c) (values .d)) ⌝ }
+{
+    let beyond = any_outside(&values.a, -2_000_000_000_000, 2_000_000_000_000)
+        | any_outside(&values.b, -2_000_000_000_000, 2_000_000_000_000)
+        | any_outside(&values.c, -2_000_000_000_000, 2_000_000_000_000)
+        | any_outside(&values.d, -2_000_000_000_000, 2_000_000_000_000);
+    if beyond {
+        return refused(10);
+    }
+    results(values)
 }

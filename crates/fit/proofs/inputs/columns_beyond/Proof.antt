@@ -1,8 +1,8 @@
--- `fit::inputs::lists_beyond` meets its contract: the row of tests is the rule's.
+-- `fit::inputs::columns_beyond` meets its contract: the row of tests is the rule's.
 -- Assumes nothing.
 use borrow.Author.Needs.{needs}
-use Rattle.fit.proofs.inputs.lists_beyond.Statement.{statement}
-use Rattle.fit.proofs.inputs.lists_beyond.Tie as tie
+use Rattle.fit.proofs.inputs.columns_beyond.Statement.{statement}
+use Rattle.fit.proofs.inputs.columns_beyond.Tie as tie
 
 any-outside-requires : tie.Need-any-outside-requires
 any-outside-requires c κs = search needs
@@ -19,15 +19,12 @@ any-outside-requires-4 c κs = search needs
 any-outside-requires-5 : tie.Need-any-outside-requires-5
 any-outside-requires-5 c κs = search needs
 
-any-outside-requires-6 : tie.Need-any-outside-requires-6
-any-outside-requires-6 c κs = search needs
-
 returns : tie.Need-returns
 returns c =
     cc
 
-pub lists-beyond-spec : {M : Type 1} → statement M
-lists-beyond-spec =
+pub columns-beyond-spec : {M : Type 1} → statement M
+columns-beyond-spec =
     tie.close
     (tie.spec
     any-outside-requires
@@ -35,5 +32,4 @@ lists-beyond-spec =
     any-outside-requires-3
     any-outside-requires-4
     any-outside-requires-5
-    any-outside-requires-6
     returns)
