@@ -7,6 +7,7 @@
 -- What is known goes in as a Word: `known h`, with h : natAbs x ≤ b; `count h`, with h : j ≤ b, of a number without sign; `equal e w`, with
 -- e : x ≡ y, of a variable that an invariant says y of.
 -- Assumes nothing.
+pub mod Examples
 use mathlib.Core.Path.{_≡_, refl, sym, ap, ap₂, _∙_, subst}
 use mathlib.Core.Bool.{Bool, true, false, _&&_, true≢false}
 use Prim.Native.Nat.{ℕ, zero, suc, _+_, _*_, _/_, _^_, _≤_, _<_}

@@ -1,0 +1,86 @@
+-- A row of signed numbers, one after the other: what a turn of the loop adds, and that past the end every place is the same.
+-- Assumes nothing.
+use mathlib.Core.Path.{_≡_, refl, sym, ap, ap₂, _∙_}
+use mathlib.Core.Bool.{true, false}
+use mathlib.Core.List.{List, [], _∷_, _++_, append-assoc, append-nil}
+use Prim.Native.Nat.{ℕ, zero, suc, _+_, _*_, _-_, _≤_, _<_, min}
+use native.Mathlib.Numerals.{add-one}
+use native.Mathlib.Omega.{arith}
+use native.Mathlib.Nat.{not-suc-le-zero, le-of-suc-le-suc}
+use lib.ListN.{length, take, set, getD}
+use lib.Seq.{take-suc-set, take-all}
+use lib.Dec.{leb}
+use lib.IntN.{ℤ, pos}
+use borrow.Author.Tests.{lt-leb, leb-true, leb-false}
+use Rattle.decode.specs.Number.{unsignedAt, twosComplement, signedAt, signedsAt}
+use Rattle.decode.proofs.Little.{unsigned-outside}
+
+past : (bytes : List ℕ) (p q stride count : ℕ) → length bytes ≤ p → length bytes ≤ q → signedsAt bytes p stride count ≡ signedsAt bytes q stride count
+unfolding signedsAt signedAt
+past bytes p q stride zero hp hq = refl
+past bytes p q stride (suc count) hp hq =
+    ap₂ _∷_
+    (ap twosComplement
+    (sym (unsigned-outside 8 p bytes (lt-leb (p + 8) (length bytes) (omega arith)))
+    ∙ unsigned-outside 8 q bytes (lt-leb (q + 8) (length bytes) (omega arith))))
+    (past bytes (p + stride) (q + stride) stride count (omega arith) (omega arith))
+
+-- a place past the end is as good as the end
+pub clamped : (bytes : List ℕ) (p stride count : ℕ) → signedsAt bytes p stride count ≡ signedsAt bytes (min p (length bytes)) stride count
+clamped bytes p stride count = elim (leb p (length bytes)) as (λ t. leb p (length bytes) ≡ t → signedsAt bytes p stride count ≡ signedsAt bytes (min p (length bytes)) stride count) [
+  | true ↦ λ e. ap (λ (q : ℕ). signedsAt bytes q stride count) (within (leb-true p (length bytes) e))
+  | false ↦ λ e. past bytes p (min p (length bytes)) stride count (over (leb-false p (length bytes) e)) (end (leb-false p (length bytes) e))
+] refl
+  where
+    within : p ≤ length bytes → p ≡ min p (length bytes)
+    within h = omega arith
+
+    over : length bytes < p → length bytes ≤ p
+    over h = omega arith
+
+    end : length bytes < p → length bytes ≤ min p (length bytes)
+    end h = omega arith
+
+-- none is stored yet
+pub all-left : (bytes : List ℕ) (at stride n : ℕ) → signedsAt bytes at stride n ≡ signedsAt bytes (min at (length bytes)) stride (n - 0)
+all-left bytes at stride n = clamped bytes at stride n ∙ ap (signedsAt bytes (min at (length bytes)) stride) (omega arith)
+
+-- one number more is stored
+pub signeds-turn : (bytes : List ℕ) (whole out : List ℤ) (next stride n i : ℕ) → i < length out → length out ≡ n
+    → whole ≡ take i out ++ signedsAt bytes next stride (n - i)
+    → whole ≡ take (i + 1) (set out i (signedAt bytes next)) ++ signedsAt bytes (min (next + stride) (length bytes)) stride (n - (i + 1))
+unfolding signedsAt
+signeds-turn bytes whole out next stride n i h l e =
+    e
+    ∙ ap (λ (k : ℕ). take i out ++ signedsAt bytes next stride k) (one-left h l)
+    ∙ sym (append-assoc (take i out) (signedAt bytes next ∷ []) (signedsAt bytes (next + stride) stride (n - (i + 1))))
+    ∙ ap₂ _++_ (sym (stored h)) (clamped bytes (next + stride) stride (n - (i + 1)))
+  where
+    stored : i < length out → take (i + 1) (set out i (signedAt bytes next)) ≡ take i out ++ signedAt bytes next ∷ []
+    stored h = rw add-one (take-suc-set out i (signedAt bytes next) h)
+
+    one-left : i < length out → length out ≡ n → n - i ≡ suc (n - (i + 1))
+    one-left h l = omega arith
+
+-- all are stored
+pub signeds-done : (bytes : List ℕ) (whole out : List ℤ) (next stride n i : ℕ) → n ≤ i → length out ≡ n
+    → whole ≡ take i out ++ signedsAt bytes next stride (n - i) → out ≡ whole
+unfolding signedsAt
+signeds-done bytes whole out next stride n i h l e =
+    sym (e ∙ ap₂ _++_ (take-all i out (omega arith)) (ap (λ (k : ℕ). signedsAt bytes next stride k) (none-left h)) ∙ append-nil out)
+  where
+    none-left : n ≤ i → n - i ≡ 0
+    none-left h = omega arith
+
+-- ---- the row by its places
+
+pub length-signeds : (bytes : List ℕ) (at stride count : ℕ) → length (signedsAt bytes at stride count) ≡ count
+unfolding signedsAt
+length-signeds bytes at stride zero = refl
+length-signeds bytes at stride (suc count) = ap suc (length-signeds bytes (at + stride) stride count)
+
+pub signeds-at : (bytes : List ℕ) (at stride count j : ℕ) → j < count → getD (signedsAt bytes at stride count) j (pos 0) ≡ signedAt bytes (at + stride * j)
+unfolding signedsAt
+signeds-at bytes at stride zero j h = absurd (not-suc-le-zero h)
+signeds-at bytes at stride (suc count) zero h = ap (signedAt bytes) (omega arith)
+signeds-at bytes at stride (suc count) (suc j) h = signeds-at bytes (at + stride) stride count j (le-of-suc-le-suc h) ∙ ap (signedAt bytes) (omega arith)

@@ -1,0 +1,38 @@
+-- What a track is made of, and its corrected values (document 01, "Correcting" and "Exact figures", second point; document 000,
+-- equations 1 and 2).
+-- Assumes nothing.
+use Prim.Native.Nat.{ℕ, _+_, _*_}
+use mathlib.Core.List.{List}
+use lib.IntN.{ℤ, pos, _+ℤ_, _-ℤ_, _*ℤ_}
+use lib.ListN.{getD}
+
+-- What stands at place j of a list, counted from 0; 0 past the end.
+abbrev pub at : List ℤ → ℕ → ℤ
+at l j = getD l j (pos 0)
+
+-- The one-second measurements, the delays INT, CAB, REF and GD, and five columns of corrections.
+pub record Given : Type 0 where
+  pub measurements : List ℤ
+  pub int : ℤ
+  pub cab : ℤ
+  pub refdly : ℤ
+  pub gd : ℤ
+  pub geometry : List ℤ
+  pub relativity : List ℤ
+  pub ionosphere : List ℤ
+  pub troposphere : List ℤ
+  pub clock : List ℤ
+
+-- The measurements of block j are those of seconds 15j to 15j + 14.
+unfoldable pub block : Given → ℕ → ℕ → ℤ
+block g j i = at (g .measurements) (15 * j + i)
+
+-- A of block j, times e, from its smoothed value y / e. The whole values have e = 1; the exact ones, in Accurate, have other e.
+unfoldable pub toA : Given → ℤ → ℕ → ℤ → ℤ
+toA g e j y =
+    y -ℤ e *ℤ (g .int +ℤ g .cab -ℤ g .refdly) -ℤ e *ℤ at (g .geometry) j +ℤ e *ℤ at (g .relativity) j
+    -ℤ e *ℤ at (g .ionosphere) j -ℤ e *ℤ at (g .troposphere) j -ℤ e *ℤ g .gd
+
+-- B of block j, likewise.
+unfoldable pub toB : Given → ℤ → ℕ → ℤ → ℤ
+toB g e j y = toA g e j y +ℤ e *ℤ at (g .clock) j

@@ -1,0 +1,2 @@
+// The exact figures of a track: what the laboratory's numbers would be if nothing were rounded, and how far rounding can move them.
+// Definitions and theorems; there is nothing to run here.

@@ -1,0 +1,39 @@
+-- Numbers as text, in bytes (document 01, "The line's columns"). Decimals are filled with zeros on the left; a number with more digits
+-- than columns loses its high digits, so a writer refuses it before.
+-- Assumes nothing.
+use Prim.Native.Nat.{ℕ, zero, suc, _+_, _/_, _%_}
+use mathlib.Core.Bool.{cond}
+use mathlib.Core.List.{List, [], _∷_, _++_}
+use lib.Dec.{ltb}
+use lib.IntN.{ℤ, pos, negsuc, natAbs}
+
+-- The last `columns` decimal digits of n, 48 being the byte of 0.
+unfoldable pub decimal : (columns n : ℕ) → List ℕ
+decimal zero n = []
+decimal (suc columns) n = decimal columns (n / 10) ++ (48 + n % 10) ∷ []
+
+-- The byte of + for 0 and above, of - below 0.
+unfoldable pub sign : ℤ → ℕ
+sign (pos n) = 43
+sign (negsuc n) = 45
+
+-- A signed field: the sign in its first column, the digits in the others.
+unfoldable pub signed : (columns : ℕ) → ℤ → List ℕ
+signed zero z = []
+signed (suc columns) z = sign z ∷ decimal columns (natAbs z)
+
+-- The last hexadecimal digit of n, a capital letter from ten on.
+unfoldable pub hexDigit : ℕ → ℕ
+hexDigit n = cond (ltb (n % 16) 10) (48 + n % 16) (55 + n % 16)
+
+-- A byte as two hexadecimal digits.
+unfoldable pub hexadecimal : ℕ → List ℕ
+hexadecimal n = hexDigit (n / 16) ∷ hexDigit n ∷ []
+
+-- The sum of bytes, and the checksum, which is that sum modulo 256.
+unfoldable pub total : List ℕ → ℕ
+total [] = 0
+total (b ∷ bs) = b + total bs
+
+unfoldable pub checksum : List ℕ → ℕ
+checksum text = total text % 256

@@ -1,0 +1,71 @@
+// Numbers as text for the columns of a line: decimals with zero fill, signed decimals, hexadecimal digits, and the checksum.
+// A writer fills the whole part that it is lent.
+ghost use mathlib.Core.Path.{_≡_};
+ghost use lib.ListN.{length};
+ghost use lib.IntN.{natAbs};
+ghost use Rattle.fields.specs.Text.{decimal, sign, signed, hexDigit, checksum};
+
+// The last decimal digits of value, one for each byte of out.
+pub fn decimal(value: u64, out: &mut [u8])
+    ensures { λ _. ⌜ now (out .exit) ≡ decimal (length (now (out .entry))) value ⌝ }
+{
+    let mut rest = value;
+    let mut i = out.len();
+    while 0 < i {
+        i -= 1;
+        out[i] = 48 + (rest % 10) as u8;
+        rest = rest / 10;
+    }
+}
+
+// The magnitude of a signed number, which fits for the least of them too.
+pub fn magnitude(value: i64) -> u64
+    ensures { λ r. ⌜ r ≡ natAbs value ⌝ }
+{
+    if value < 0 {
+        return (-1 - value) as u64 + 1;
+    }
+    value as u64
+}
+
+// The byte + or -.
+pub fn sign(value: i64) -> u8
+    ensures { λ r. ⌜ r ≡ sign value ⌝ }
+{
+    if value < 0 { b'-' } else { b'+' }
+}
+
+// A sign, and the last decimal digits of the magnitude.
+pub fn signed(value: i64, out: &mut [u8])
+    ensures { λ _. ⌜ now (out .exit) ≡ signed (length (now (out .entry))) value ⌝ }
+{
+    if 0 < out.len() {
+        out[0] = sign(value);
+        decimal(magnitude(value), &mut out[1..]);
+    }
+}
+
+// The last hexadecimal digit of n, a capital letter from ten on.
+pub fn hex_digit(n: u8) -> u8
+    ensures { λ r. ⌜ r ≡ hexDigit n ⌝ }
+{
+    let d = n % 16;
+    if d < 10 { 48 + d } else { 55 + d }
+}
+
+fn wide(b: u8) -> u32
+    ensures { λ r. ⌜ r ≡ b ⌝ }
+{
+    b as u32
+}
+
+// The sum of the bytes, modulo 256.
+pub fn checksum(text: &[u8]) -> u8
+    ensures { λ r. ⌜ r ≡ checksum (now (text .entry)) ⌝ }
+{
+    let mut sum: u32 = 0;
+    for i in 0..text.len() {
+        sum = (sum + wide(text[i])) % 256;
+    }
+    sum as u8
+}

@@ -1,0 +1,34 @@
+// The start test of the track schedule: whether a second of a date is the start of one of its tracks.
+// It answers 0, 7 where the date is out of range, or 8 where the second is no start.
+ghost use mathlib.Core.Path.{_≡_};
+ghost use Prim.Native.Nat.{_-_, _≤_};
+ghost use Rattle.schedule.specs.Schedule.{firstDate, lastDate, isStart, startRule};
+use limits::when;
+
+const FIRST_DATE: u32 = 50722;
+
+const LAST_DATE: u32 = 99999;
+
+const TRACKS: u32 = 89;
+
+const DAY: u32 = 1440;
+
+// Whether a track starts at that second, n days after the first date. since_first is the time since the first track, in minutes of
+// a day that begins there.
+fn is_start(n: u32, second: u32) -> bool
+    requires { ⌜ n ≤ lastDate - firstDate ⌝ }
+    ensures { λ r. ⌜ r ≡ isStart n second ⌝ }
+{
+    let minute = second / 60;
+    let since_first = (minute + 4 * n + DAY - 2) % DAY;
+    (second % 60 == 0) & (minute < DAY) & (since_first % 16 == 0) & (since_first / 16 < TRACKS)
+}
+
+pub fn start(mjd: u32, second: u32) -> u32
+    ensures { λ r. ⌜ r ≡ startRule mjd second ⌝ }
+{
+    if (mjd < FIRST_DATE) | (LAST_DATE < mjd) {
+        return 7;
+    }
+    when(8, !is_start(mjd - FIRST_DATE, second))
+}
