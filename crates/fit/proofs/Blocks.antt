@@ -12,9 +12,11 @@ use Rattle.whole.specs.Sum.{sum}
 use Rattle.whole.specs.Nearest.{nearest}
 use Rattle.whole.specs.Sums.{sum-cong}
 use Rattle.fit.specs.declared.Smoothed.{Smoothed}
-use Rattle.fit.specs.Lists.{at, anyBeyond, listRule}
+use Rattle.exact.specs.Corrected.{at}
+use Rattle.exact.specs.Weights.{weights}
+use Rattle.fit.specs.Lists.{anyBeyond, listRule}
 use Rattle.fit.specs.Answers.{smoothReply, smoothNumbered}
-use Rattle.fit.specs.Smooth.{weights, smoothed, smoothRule}
+use Rattle.fit.specs.Smooth.{smoothed, smoothRule}
 use Rattle.fit.proofs.Lists.{list-passes, any-drop, any-take}
 use Rattle.fit.proofs.Replies.{reply-accepted, smooth-case}
 

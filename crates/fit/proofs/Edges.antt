@@ -21,7 +21,8 @@ use Rattle.whole.specs.Order.{_⩽_, _⋖_, le-lt-trans, lt-le-trans, lt-irrefl
 use Rattle.whole.specs.Size.{le-size}
 use Rattle.limits.specs.Refusal.{_when_}
 use Rattle.limits.specs.Limits.{outside, dsgRule}
-use Rattle.fit.specs.Lists.{at, anyBeyond}
+use Rattle.exact.specs.Corrected.{at}
+use Rattle.fit.specs.Lists.{anyBeyond}
 use Rattle.fit.specs.Answers.{reply}
 use Rattle.fit.specs.Scatter.{squares, edge, climb, dsg, scatterRule}
 use Rattle.fit.proofs.Lists.{list-passes}

@@ -13,7 +13,8 @@ use Rattle.limits.proofs.Laws.{or-false, magnitude-within, then-zero, when-zero
 use Rattle.limits.specs.Refusal.{_when_, _then_}
 use borrow.Author.Tests.{eqb-true, eq-eqb, not-false}
 use lib.Dec.{eqb}
-use Rattle.fit.specs.Lists.{at, miscounted, anyOutside, anyBeyond, listRule}
+use Rattle.exact.specs.Corrected.{at}
+use Rattle.fit.specs.Lists.{miscounted, anyOutside, anyBeyond, listRule}
 
 -- a loop that has found no number outside before place i has what is left to test
 module _ (low high : ℤ) (l : List ℤ) (i : ℕ) (so-far : anyOutside low high l ≡ anyOutside low high (drop i l)) where

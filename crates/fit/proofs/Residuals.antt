@@ -17,7 +17,8 @@ use Rattle.whole.specs.Order.{_⩽_, le-refl, le-trans, le-of-eq, add-le, squar
 use Rattle.whole.specs.Size.{square-size}
 use Rattle.whole.specs.Sums.{sum-suc, sum-squares-nonneg}
 use Rattle.whole.specs.Rounding.{nearest-scale}
-use Rattle.fit.specs.Fit.{place, total, moment}
+use Rattle.exact.specs.Places.{place}
+use Rattle.fit.specs.Fit.{total, moment}
 use Rattle.fit.specs.Scatter.{residual, squares}
 
 -- document 01's numbers

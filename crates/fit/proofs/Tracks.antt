@@ -11,7 +11,8 @@ use lib.ListN.{length}
 use Rattle.limits.proofs.Laws.{or-false}
 use Rattle.fit.specs.declared.TrackRecord.{TrackRecord}
 use Rattle.fit.specs.declared.results.LineNumbers.{LineNumbers}
-use Rattle.fit.specs.Lists.{at, anyBeyond}
+use Rattle.exact.specs.Corrected.{at}
+use Rattle.fit.specs.Lists.{anyBeyond}
 use Rattle.fit.specs.Answers.{Reply}
 use Rattle.fit.specs.Fit.{midpoint, slope, fitRule}
 use Rattle.fit.proofs.Fitting.{fit-accepted}

@@ -8,8 +8,9 @@ use native.Mathlib.Nat.{le-trans, le-of-eq, mul-le-mul}
 use lib.IntN.{ℤ, natAbs, _*ℤ_}
 use Rattle.whole.specs.Size.{natAbs-mul}
 use Rattle.limits.specs.Limits.{outside}
-use Rattle.fit.specs.Lists.{at, anyOutside, anyBeyond}
-use Rattle.fit.specs.Smooth.{weights}
+use Rattle.exact.specs.Corrected.{at}
+use Rattle.exact.specs.Weights.{weights}
+use Rattle.fit.specs.Lists.{anyOutside, anyBeyond}
 use Rattle.fit.proofs.Lists.{within-limit}
 
 pub weight-bound : (i : ℕ) → natAbs (at weights i) ≤ 167

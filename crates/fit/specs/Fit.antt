@@ -4,16 +4,14 @@
 use Prim.Native.Nat.{ℕ, _*_, _-_, _^_}
 use mathlib.Core.List.{List}
 use lib.IntN.{ℤ, pos, negℤ, _-ℤ_, _*ℤ_}
+use Rattle.exact.specs.Places.{place}
 use Rattle.whole.specs.Sum.{sum}
 use Rattle.whole.specs.Nearest.{nearest}
-use Rattle.fit.specs.Lists.{at, listRule}
+use Rattle.exact.specs.Corrected.{at}
+use Rattle.fit.specs.Lists.{listRule}
 use Rattle.fit.specs.Answers.{Reply, reply}
 
--- 2j - (n - 1): how far value j lies from the mean date, in half blocks. With 52 values it is 2j - 51.
-unfoldable pub place : ℕ → ℕ → ℤ
-place n j = pos (2 * j) -ℤ pos (n - 1)
-
--- S and T of document 01.
+-- S and T of document 01: with 52 values, place 52 j is 2j - 51.
 unfoldable pub total : ℕ → (ℕ → ℤ) → ℤ
 total n v = sum n v
 

@@ -3,5 +3,4 @@ pub mod Answers
 pub mod Smooth
 pub mod Fit
 pub mod Scatter
-pub mod Corrected
 pub mod Track

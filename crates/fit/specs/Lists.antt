@@ -6,13 +6,9 @@ use mathlib.Core.Bool.{Bool, false, not, _||_}
 use mathlib.Core.List.{List, [], _∷_}
 use lib.IntN.{ℤ, pos, negℤ}
 use lib.Dec.{eqb}
-use lib.ListN.{length, getD}
+use lib.ListN.{length}
 use Rattle.limits.specs.Limits.{outside}
 use Rattle.limits.specs.Refusal.{_when_, _then_}
-
--- What stands at place j, counted from 0; 0 past the end.
-abbrev pub at : List ℤ → ℕ → ℤ
-at l j = getD l j (pos 0)
 
 -- The list has another length than n.
 abbrev pub miscounted : ℕ → List ℤ → Bool

@@ -11,9 +11,11 @@ use Rattle.whole.specs.Nearest.{nearest}
 use Rattle.whole.specs.Square.{squared}
 use Rattle.limits.specs.Refusal.{_then_}
 use Rattle.limits.specs.Limits.{dsgRule}
-use Rattle.fit.specs.Lists.{at, listRule}
+use Rattle.exact.specs.Corrected.{at}
+use Rattle.exact.specs.Places.{place}
+use Rattle.fit.specs.Lists.{listRule}
 use Rattle.fit.specs.Answers.{Reply, reply}
-use Rattle.fit.specs.Fit.{place, total, moment}
+use Rattle.fit.specs.Fit.{total, moment}
 
 -- The residual of value j: the value - S / n - 3 (2j - (n - 1)) T / (n (n² - 1)), nearest. With 52 values that is
 -- (46852 × value - 901 × S - (2j - 51) × T) / 46852.

@@ -2,18 +2,14 @@
 -- squared residuals.
 -- Assumes nothing.
 use Prim.Native.Nat.{ℕ, _^_}
-use mathlib.Core.List.{List, [], _∷_}
+use mathlib.Core.List.{List}
 use lib.IntN.{ℤ, pos, negℤ, _*ℤ_}
+use Rattle.exact.specs.Weights.{weights}
 use Rattle.whole.specs.Sum.{sum}
 use Rattle.whole.specs.Nearest.{nearest}
-use Rattle.fit.specs.Lists.{at, listRule}
+use Rattle.exact.specs.Corrected.{at}
+use Rattle.fit.specs.Lists.{listRule}
 use Rattle.fit.specs.Answers.{Reply, reply}
-
--- The fifteen weights, over 1105.
-unfoldable pub weights : List ℤ
-weights =
-    negℤ (pos 78) ∷ negℤ (pos 13) ∷ pos 42 ∷ pos 87 ∷ pos 122 ∷ pos 147 ∷ pos 162 ∷ pos 167 ∷ pos 162 ∷ pos 147 ∷ pos 122
-    ∷ pos 87 ∷ pos 42 ∷ negℤ (pos 13) ∷ negℤ (pos 78) ∷ []
 
 -- The smoothed value of the measurements m 0 .. m 14: the nearest whole picosecond.
 unfoldable pub smoothed : (ℕ → ℤ) → ℤ

@@ -10,16 +10,13 @@ use Rattle.limits.specs.Limits.{beyond, limitsRule, dsgRule}
 use Rattle.fit.specs.declared.TrackRecord.{TrackRecord}
 use Rattle.fit.specs.declared.Tracked.{Tracked}
 use Rattle.whole.specs.Table.{tabulate}
-use Rattle.fit.specs.Lists.{at, miscounted, anyBeyond}
+use Rattle.exact.specs.Corrected.{at, Given, block, toA, toB}
+use Rattle.fit.specs.Lists.{miscounted, anyBeyond}
 use Rattle.fit.specs.Smooth.{smoothed}
 use Rattle.fit.specs.Fit.{midpoint, slope}
 use Rattle.fit.specs.Scatter.{squares, dsg}
-use Rattle.fit.specs.Corrected.{Given, toA, toB}
 
--- The measurements of block j, and its smoothed value.
-unfoldable pub block : Given → ℕ → ℕ → ℤ
-block g j i = at (g .measurements) (15 * j + i)
-
+-- The smoothed value of block j.
 unfoldable pub smoothedAt : Given → ℕ → ℤ
 smoothedAt g j = smoothed (block g j)
 

@@ -12,9 +12,11 @@ ghost use lib.ListN.{length};
 ghost use Rattle.whole.specs.Sum.{sum};
 ghost use Rattle.whole.specs.Nearest.{nearest};
 ghost use Rattle.whole.specs.Words.{Within};
-ghost use Rattle.fit.specs.Lists.{at, anyOutside, anyBeyond, listRule};
-ghost use Rattle.fit.specs.Smooth.{weights};
-ghost use Rattle.fit.specs.Fit.{place, total, moment};
+ghost use Rattle.exact.specs.Corrected.{at};
+ghost use Rattle.exact.specs.Places.{place};
+ghost use Rattle.exact.specs.Weights.{weights};
+ghost use Rattle.fit.specs.Lists.{anyOutside, anyBeyond, listRule};
+ghost use Rattle.fit.specs.Fit.{total, moment};
 ghost use Rattle.fit.specs.Scatter.{squares, edge, dsg};
 
 // The weights of the parabola's value at the middle of fifteen measurements, over 1105.

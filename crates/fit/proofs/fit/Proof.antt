@@ -10,7 +10,8 @@ use mir.Syntax.{w64}
 use mir.Val.{toZ, ofZ}
 use Rattle.whole.specs.Nearest.{nearest}
 use Rattle.whole.specs.Words.{Word, known, equal, back-of, bound, plain-is, bounds}
-use Rattle.fit.specs.Lists.{at, listRule}
+use Rattle.exact.specs.Corrected.{at}
+use Rattle.fit.specs.Lists.{listRule}
 use Rattle.fit.specs.Fit.{midpoint, slope, fitRule}
 use Rattle.fit.proofs.Lists.{list-accepted}
 use Rattle.fit.proofs.Fitting.{midpoint-52, slope-52}

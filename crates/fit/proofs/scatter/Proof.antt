@@ -12,8 +12,9 @@ use Rattle.whole.specs.Order.{_⩽_, _⋖_, pos-le, pos-lt}
 use Rattle.whole.specs.Words.{Word, known, equal, count-read, fits, count, plain-is, bounds}
 use Rattle.limits.specs.Refusal.{_then_}
 use Rattle.limits.specs.Limits.{dsgRule}
+use Rattle.exact.specs.Corrected.{at}
 use Rattle.fit.specs.Answers.{reply}
-use Rattle.fit.specs.Lists.{at, listRule}
+use Rattle.fit.specs.Lists.{listRule}
 use Rattle.fit.specs.Fit.{total, moment}
 use Rattle.fit.specs.Scatter.{squares, edge, dsg, scatterRule}
 use Rattle.fit.proofs.Lists.{list-accepted}

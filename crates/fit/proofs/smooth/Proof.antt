@@ -12,8 +12,10 @@ use mir.Val.{toZ, ofZ}
 use Rattle.whole.specs.Sum.{sum}
 use Rattle.whole.specs.Nearest.{nearest}
 use Rattle.whole.specs.Words.{Word, known, equal, partial, back-of, bound, plain-is, bounds}
-use Rattle.fit.specs.Lists.{at, listRule}
-use Rattle.fit.specs.Smooth.{weights, smoothed, smoothRule}
+use Rattle.exact.specs.Corrected.{at}
+use Rattle.exact.specs.Weights.{weights}
+use Rattle.fit.specs.Lists.{listRule}
+use Rattle.fit.specs.Smooth.{smoothed, smoothRule}
 use Rattle.fit.proofs.Lists.{list-accepted}
 use Rattle.fit.proofs.Weights.{product-bound}
 use Rattle.fit.proofs.Replies.{reply-accepted, reply-refused}

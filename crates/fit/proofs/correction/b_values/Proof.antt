@@ -10,7 +10,7 @@ use lib.IntN.{ℤ, _+ℤ_}
 use lib.ListN.{length, take, length-set}
 use Rattle.whole.specs.Table.{tabulate}
 use Rattle.whole.specs.Words.{Word, known, fits, plain-is, bounds}
-use Rattle.fit.specs.Lists.{at}
+use Rattle.exact.specs.Corrected.{at}
 use Rattle.fit.proofs.Lists.{within-limit}
 use Rattle.fit.proofs.Arrays.{fill-none, fill-more, fill-all}
 use Rattle.fit.proofs.correction.b_values.Statement.{statement}

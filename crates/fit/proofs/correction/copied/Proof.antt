@@ -8,7 +8,7 @@ use native.Mathlib.Omega.{arith}
 use lib.ListN.{length, take, length-set}
 use Rattle.whole.specs.Table.{tabulate}
 use Rattle.whole.specs.Words.{back-of}
-use Rattle.fit.specs.Lists.{at}
+use Rattle.exact.specs.Corrected.{at}
 use Rattle.fit.proofs.Arrays.{fill-none, fill-more, fill-all}
 use Rattle.fit.proofs.correction.copied.Statement.{statement}
 use Rattle.fit.proofs.correction.copied.Tie as tie

@@ -13,7 +13,7 @@ use mir.Val.{toZ, ofZ}
 use Rattle.whole.specs.Table.{tabulate}
 use Rattle.whole.specs.Words.{back-of}
 use Rattle.fit.specs.declared.Smoothed.{Smoothed}
-use Rattle.fit.specs.Lists.{at}
+use Rattle.exact.specs.Corrected.{at}
 use Rattle.fit.specs.Smooth.{smoothed}
 use Rattle.fit.proofs.Arrays.{fill-none, fill-more, fill-all}
 use Rattle.fit.proofs.Blocks.{part-value}

@@ -10,7 +10,8 @@ use mir.Syntax.{w64}
 use mir.Val.{toZ, ofZ}
 use mir.Facts.{toZ-ofZ}
 use Rattle.limits.specs.Limits.{outside}
-use Rattle.fit.specs.Lists.{at, anyOutside}
+use Rattle.exact.specs.Corrected.{at}
+use Rattle.fit.specs.Lists.{anyOutside}
 use Rattle.fit.proofs.Lists.{found, passed, none-left}
 use Rattle.fit.proofs.series.any_outside.Statement.{statement}
 use Rattle.fit.proofs.series.any_outside.Tie as tie

@@ -13,7 +13,7 @@ use Rattle.whole.specs.Sum.{sum}
 use Rattle.whole.specs.Square.{squared}
 use Rattle.whole.specs.Nearest.{nearest}
 use Rattle.whole.specs.Words.{Word, known, equal, back-of, bound, plain-is, bounds}
-use Rattle.fit.specs.Lists.{at}
+use Rattle.exact.specs.Corrected.{at}
 use Rattle.fit.specs.Scatter.{residual, squares}
 use Rattle.fit.proofs.Lists.{within-limit}
 use Rattle.fit.proofs.Fitting.{place-bound, total-bound, moment-bound}

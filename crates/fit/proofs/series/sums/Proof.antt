@@ -12,8 +12,9 @@ use mir.Val.{toZ, ofZ}
 use Rattle.whole.specs.Sum.{sum}
 use Rattle.whole.specs.Sums.{sum-suc}
 use Rattle.whole.specs.Words.{Word, known, equal, partial, back-of, fits, bound, plain-is, bounds}
-use Rattle.fit.specs.Lists.{at}
-use Rattle.fit.specs.Fit.{place, total, moment}
+use Rattle.exact.specs.Corrected.{at}
+use Rattle.exact.specs.Places.{place}
+use Rattle.fit.specs.Fit.{total, moment}
 use Rattle.fit.proofs.Lists.{within-limit}
 use Rattle.fit.proofs.Fitting.{place-bound, product-bound}
 use Rattle.fit.proofs.series.sums.Statement.{statement}

@@ -14,10 +14,10 @@ use mir.Facts.{toZ-ofZ}
 use Rattle.whole.specs.Sum.{sum}
 use Rattle.whole.specs.Words.{Word, known, equal, partial, fits, plain-is, bounds}
 use Rattle.whole.specs.Sums.{sum-suc}
-use Rattle.fit.specs.Lists.{at}
+use Rattle.exact.specs.Corrected.{at}
+use Rattle.exact.specs.Weights.{weights}
 use Rattle.fit.proofs.Lists.{within-limit}
 use Rattle.fit.proofs.Weights.{weight-bound, product-bound}
-use Rattle.fit.specs.Smooth.{weights}
 use Rattle.fit.proofs.series.weighted.Statement.{statement}
 use Rattle.fit.proofs.series.weighted.Tie as tie
 use Rattle.fit.proofs.series.weighted.Reads as reads
