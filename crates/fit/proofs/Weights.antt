@@ -5,19 +5,31 @@ use mathlib.Core.Bool.{false}
 use mathlib.Core.List.{List}
 use Prim.Native.Nat.{ℕ, _*_, _^_, _≤_, _<_}
 use native.Mathlib.Nat.{le-trans, le-of-eq, mul-le-mul}
+use lib.Dec.{lit<, lit≤}
 use lib.IntN.{ℤ, natAbs, _*ℤ_}
+use Rattle.whole.specs.Sum.{sum}
 use Rattle.whole.specs.Size.{natAbs-mul}
+use Rattle.whole.specs.Rounding.{nearest-bound}
+use Rattle.whole.specs.Words.{partial}
 use Rattle.limits.specs.Limits.{outside}
 use Rattle.exact.specs.Corrected.{at}
 use Rattle.exact.specs.Weights.{weights}
 use Rattle.fit.specs.Lists.{anyOutside, anyBeyond}
+use Rattle.fit.specs.Smooth.{smoothed}
 use Rattle.fit.proofs.Lists.{within-limit}
 
 pub weight-bound : (i : ℕ) → natAbs (at weights i) ≤ 167
 unfolding weights anyOutside outside
 weight-bound i = within-limit 167 weights refl i
 
-pub product-bound : (m : List ℤ) → anyBeyond (10 ^ 12) m ≡ false → (i : ℕ) → i < 15
-    → natAbs (at weights i *ℤ at m i) ≤ 167 * 10 ^ 12
-product-bound m e i h =
-    le-trans (le-of-eq (natAbs-mul (at weights i) (at m i))) (mul-le-mul (weight-bound i) (within-limit (10 ^ 12) m e i))
+-- a product with one, and the sum of fifteen
+module _ (m : ℕ → ℤ) (h : (i : ℕ) → natAbs (m i) ≤ 10 ^ 12) where
+  product-bound : (i : ℕ) → i < 15 → natAbs (at weights i *ℤ m i) ≤ 167 * 10 ^ 12
+  product-bound i k = le-trans (le-of-eq (natAbs-mul (at weights i) (m i))) (mul-le-mul (weight-bound i) (h i))
+
+  pub weighted-bound : (k : ℕ) → k ≤ 15 → natAbs (sum k (λ i. at weights i *ℤ m i)) ≤ 15 * (167 * 10 ^ 12)
+  weighted-bound k l = partial 15 k (λ i. at weights i *ℤ m i) (167 * 10 ^ 12) l product-bound
+
+  pub smoothed-bound : natAbs (smoothed m) ≤ 3 * 10 ^ 12
+  unfolding smoothed
+  smoothed-bound = nearest-bound (sum 15 (λ i. at weights i *ℤ m i)) 1105 (3 * 10 ^ 12) (lit< tt) (le-trans (weighted-bound 15 (lit≤ tt)) (lit≤ tt))

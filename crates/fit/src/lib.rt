@@ -10,7 +10,14 @@ mod number;
 mod results;
 mod series;
 
+use correction::a_values;
+use correction::b_values;
+use correction::copied;
+use correction::smooth_blocks;
 use number::nearest;
+use results::Corrected;
+use results::judged;
+use results::refused;
 use series::CAP;
 use series::dsg;
 use series::list_refusal;
@@ -18,10 +25,12 @@ use series::squares;
 use series::sums;
 use series::weighted;
 ghost use mathlib.Core.Path.{_≡_};
+ghost use mathlib.Core.Bool.{false};
 ghost use Rattle.fit.specs.Answers.{smoothReply, smoothNumbered, fitReply, fitNumbered, scatterReply, scatterNumbered};
 ghost use Rattle.fit.specs.Smooth.{smoothRule};
 ghost use Rattle.fit.specs.Fit.{fitRule};
 ghost use Rattle.fit.specs.Scatter.{scatterRule};
+ghost use Rattle.fit.specs.Track.{given, wrongSizes, outOfLimits, trackRule};
 
 // What Smooth answers: the smoothed value, or the number of the refusal.
 pub enum Smoothed {
@@ -108,4 +117,43 @@ pub fn scatter(values: &[i64]) -> Scattered
         return Scattered::Refused(6);
     }
     Scattered::Sigma(dsg(q) as i64)
+}
+
+// A track whose lists have their sizes and whose numbers are inside their limits.
+fn corrected_track(
+    measurements: &[i64],
+    int: i64,
+    cab: i64,
+    refdly: i64,
+    gd: i64,
+    geometry: &[i64],
+    relativity: &[i64],
+    ionosphere: &[i64],
+    troposphere: &[i64],
+    clock: &[i64],
+) -> Tracked
+    requires { ⌜ wrongSizes (given (now measurements) int cab refdly gd (now geometry) (now relativity) (now ionosphere) (now troposphere) (now clock)) ≡ false ⌝ }
+    requires { ⌜ outOfLimits (given (now measurements) int cab refdly gd (now geometry) (now relativity) (now ionosphere) (now troposphere) (now clock)) ≡ false ⌝ }
+    ensures { λ r. ⌜ r ≡ trackRule (given (now (measurements .entry)) int cab refdly gd (now (geometry .entry)) (now (relativity .entry)) (now (ionosphere .entry)) (now (troposphere .entry)) (now (clock .entry))) ⌝ }
+{
+    let blocks = smooth_blocks(measurements);
+    let refusal = blocks.refusal;
+    if refusal != 0 {
+        return refused(refusal);
+    }
+    let smoothed = blocks.values;
+    let delay = int + cab - refdly;
+    let a = a_values(
+        &smoothed,
+        delay,
+        geometry,
+        relativity,
+        ionosphere,
+        troposphere,
+        gd,
+    );
+    let b = b_values(&a, clock);
+    let c = copied(troposphere);
+    let d = copied(ionosphere);
+    judged(Corrected { a, b, c, d })
 }

@@ -11,13 +11,13 @@ use mir.Syntax.{w64}
 use mir.Val.{toZ, ofZ}
 use Rattle.whole.specs.Sum.{sum}
 use Rattle.whole.specs.Nearest.{nearest}
-use Rattle.whole.specs.Words.{Word, known, equal, partial, back-of, bound, plain-is, bounds}
+use Rattle.whole.specs.Words.{Word, known, equal, back-of, bound, plain-is, bounds}
 use Rattle.exact.specs.Corrected.{at}
 use Rattle.exact.specs.Weights.{weights}
 use Rattle.fit.specs.Lists.{listRule}
 use Rattle.fit.specs.Smooth.{smoothed, smoothRule}
-use Rattle.fit.proofs.Lists.{list-accepted}
-use Rattle.fit.proofs.Weights.{product-bound}
+use Rattle.fit.proofs.Lists.{list-accepted, within-limit}
+use Rattle.fit.proofs.Weights.{weighted-bound}
 use Rattle.fit.proofs.Replies.{reply-accepted, reply-refused}
 use Rattle.fit.proofs.smooth.Statement.{statement}
 use Rattle.fit.proofs.smooth.Tie as tie
@@ -41,7 +41,7 @@ abbrev sum-word : (c : tie.After-weighted) → Word (c .weighted .result)
 sum-word c =
     let m = c .before .before .before .args .measurements .now in
     equal (c .weighted .ensures)
-    (known (partial 15 15 _ (167 * 10 ^ 12) (le-refl 15) (product-bound m (list-accepted _ _ _ _ (accepted (c .before)) .1))))
+    (known (weighted-bound (at m) (within-limit (10 ^ 12) m (list-accepted _ _ _ _ (accepted (c .before)) .1)) 15 (le-refl 15)))
 
 weighted-requires : tie.Need-weighted-requires
 weighted-requires c κs = list-accepted _ _ _ _ (accepted c)

@@ -12,12 +12,12 @@ use mir.Syntax.{w64}
 use mir.Val.{toZ, ofZ}
 use mir.Facts.{toZ-ofZ}
 use Rattle.whole.specs.Sum.{sum}
-use Rattle.whole.specs.Words.{Word, known, equal, partial, fits, plain-is, bounds}
+use Rattle.whole.specs.Words.{Word, known, equal, fits, plain-is, bounds}
 use Rattle.whole.specs.Sums.{sum-suc}
 use Rattle.exact.specs.Corrected.{at}
 use Rattle.exact.specs.Weights.{weights}
 use Rattle.fit.proofs.Lists.{within-limit}
-use Rattle.fit.proofs.Weights.{weight-bound, product-bound}
+use Rattle.fit.proofs.Weights.{weight-bound, weighted-bound}
 use Rattle.fit.proofs.series.weighted.Statement.{statement}
 use Rattle.fit.proofs.series.weighted.Tie as tie
 use Rattle.fit.proofs.series.weighted.Reads as reads
@@ -44,8 +44,9 @@ measurement-word c i = known (within-limit (10 ^ 12) (c .args .measurements .now
 
 abbrev sum-word : (c : tie.At-loop Inv-loop μ-loop) → Word (toZ w64 (c .loop .sum))
 sum-word c =
+    let m = c .before .args .measurements .now in
     equal (c .loop .inv .2)
-    (known (partial 15 (c .loop .i) _ (167 * 10 ^ 12) (c .loop .inv .0) (product-bound (c .before .args .measurements .now) (c .before .pre .1))))
+    (known (weighted-bound (at m) (within-limit (10 ^ 12) m (c .before .pre .1)) (c .loop .i) (c .loop .inv .0)))
 
 loop-holds : tie.Need-loop-holds Inv-loop μ-loop
 unfolding sum
