@@ -43,6 +43,11 @@ pub then-passed : (first next : ℕ) → first ≡ 0 → first then next ≡ nex
 unfolding _then_
 then-passed first next e = rw e
 
+pub then-assoc : (a b c : ℕ) → (a then b) then c ≡ a then b then c
+unfolding _then_
+then-assoc zero b c = refl
+then-assoc (suc a) b c = simp (eqb·suc-zero)
+
 -- ---- the case of an answer, by its reply
 
 pub smooth-case : (r : Smoothed) (v : ℤ) → smoothReply r ≡ record { number = 0; values = v } → smoothNumbered r

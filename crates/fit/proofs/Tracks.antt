@@ -15,7 +15,7 @@ use Rattle.whole.specs.Table.{tabulate}
 use Rattle.whole.specs.Tables.{tabulate-getD, tabulate-cong}
 use Rattle.limits.specs.Refusal.{_when_, _then_}
 use Rattle.limits.specs.Limits.{beyond}
-use Rattle.limits.proofs.Laws.{or-false, magnitude-within}
+use Rattle.limits.proofs.Laws.{or-false, magnitude-within, then-zero, when-zero}
 use Rattle.fit.specs.declared.TrackRecord.{TrackRecord}
 use Rattle.fit.specs.declared.results.LineNumbers.{LineNumbers}
 use Rattle.exact.specs.Corrected.{Given, at, toA, toB}
@@ -23,6 +23,7 @@ use Rattle.fit.specs.Lists.{miscounted, anyBeyond}
 use Rattle.fit.specs.Answers.{Reply}
 use Rattle.fit.specs.Fit.{midpoint, slope, fitRule}
 use Rattle.fit.proofs.Fitting.{fit-accepted}
+use Rattle.fit.proofs.Replies.{then-refused, then-assoc}
 use Rattle.fit.specs.Track.{smoothedAt, valueA, valueB, valueC, valueD, recordOf, results, wrongSizes, outOfLimits, correctedBeyond, recordNumber, trackNumber, zeros, tracked, trackRule}
 
 pub tracked-refused : (number : ℕ) (t : TrackRecord) → 0 < number → tracked number t ≡ record { refusal = number; «record» = zeros }
@@ -171,6 +172,24 @@ b-table g a e = rw e (tabulate-cong _ (valueB g) 52 same)
   where
     same : (j : ℕ) → j < 52 → at (tabulate (valueA g) 52) j +ℤ at (g .clock) j ≡ valueB g j
     same j h = simp (tabulate-getD (valueA g) 52 j (pos 0) h, one-*ℤ)
+
+-- ---- the first two refusals
+
+-- 1 or 2, or 0
+abbrev pub inputsNumber : Given → ℕ
+inputsNumber g = 1 when wrongSizes g then 2 when outOfLimits g
+
+pub track-refused : (g : Given) (n : ℕ) → n ≡ inputsNumber g → 0 < n → trackRule g ≡ record { refusal = n; «record» = zeros }
+unfolding trackRule trackNumber
+track-refused g n e h =
+    ap (λ (k : ℕ). tracked k (results g))
+    (sym (then-assoc _ _ (recordNumber (results g))) ∙ ap (λ (k : ℕ). k then recordNumber (results g)) (sym e) ∙ then-refused n _ h)
+    ∙ tracked-refused n (results g) h
+
+pub inputs-accepted : (g : Given) → inputsNumber g ≡ 0 → (wrongSizes g ≡ false) × (outOfLimits g ≡ false)
+inputs-accepted g e =
+    let z = then-zero (1 when wrongSizes g) (2 when outOfLimits g) e in
+    (when-zero 0 (wrongSizes g) (z .0), when-zero 1 (outOfLimits g) (z .1))
 
 -- a track that is not refused with 1 or 2
 pub track-passed : (g : Given) → wrongSizes g ≡ false → outOfLimits g ≡ false → trackRule g ≡ tracked (recordNumber (results g)) (results g)

@@ -14,11 +14,17 @@ use correction::a_values;
 use correction::b_values;
 use correction::copied;
 use correction::smooth_blocks;
+use inputs::columns_beyond;
+use inputs::columns_miscounted;
+use inputs::delays_beyond;
+use limits::then;
+use limits::when;
 use number::nearest;
 use results::Corrected;
 use results::judged;
 use results::refused;
 use series::CAP;
+use series::any_outside;
 use series::dsg;
 use series::list_refusal;
 use series::squares;
@@ -156,4 +162,42 @@ fn corrected_track(
     let c = copied(troposphere);
     let d = copied(ionosphere);
     judged(Corrected { a, b, c, d })
+}
+
+// A track: 780 one-second measurements, the delays INT, CAB, REF and GD, and five columns of 52 corrections.
+pub fn track(
+    measurements: &[i64],
+    int: i64,
+    cab: i64,
+    refdly: i64,
+    gd: i64,
+    geometry: &[i64],
+    relativity: &[i64],
+    ionosphere: &[i64],
+    troposphere: &[i64],
+    clock: &[i64],
+) -> Tracked
+    ensures answer { λ r. ⌜ r ≡ trackRule (given (now (measurements .entry)) int cab refdly gd (now (geometry .entry)) (now (relativity .entry)) (now (ionosphere .entry)) (now (troposphere .entry)) (now (clock .entry))) ⌝ }
+{
+    let sizes = (measurements.len() != 780)
+        | columns_miscounted(geometry, relativity, ionosphere, troposphere, clock);
+    let beyond = any_outside(measurements, -1_000_000_000_000, 1_000_000_000_000)
+        | columns_beyond(geometry, relativity, ionosphere, troposphere, clock)
+        | delays_beyond(int, cab, refdly, gd);
+    let refusal = then(when(1, sizes), when(2, beyond));
+    if refusal != 0 {
+        return refused(refusal);
+    }
+    corrected_track(
+        measurements,
+        int,
+        cab,
+        refdly,
+        gd,
+        geometry,
+        relativity,
+        ionosphere,
+        troposphere,
+        clock,
+    )
 }
