@@ -1,0 +1,41 @@
+-- Laws of smoothing a part of the measurements (specs/Smooth.antt).
+-- Assumes nothing.
+use mathlib.Core.Path.{_≡_, ap, _∙_}
+use mathlib.Core.Bool.{false}
+use mathlib.Core.List.{List}
+use Prim.Native.Nat.{ℕ, _+_, _*_, _^_, _≤_, _<_}
+use native.Mathlib.Omega.{arith}
+use lib.IntN.{ℤ, pos, negℤ, natAbs, _*ℤ_}
+use lib.ListN.{length, take, drop, length-drop}
+use lib.Seq.{length-take-le, getD-take, getD-drop}
+use Rattle.whole.specs.Sum.{sum}
+use Rattle.whole.specs.Nearest.{nearest}
+use Rattle.whole.specs.Sums.{sum-cong}
+use Rattle.fit.specs.declared.Smoothed.{Smoothed}
+use Rattle.exact.specs.Corrected.{at}
+use Rattle.exact.specs.Weights.{weights}
+use Rattle.fit.specs.Lists.{anyBeyond, listRule}
+use Rattle.fit.specs.Answers.{smoothReply, smoothNumbered}
+use Rattle.fit.specs.Smooth.{smoothed, smoothRule}
+use Rattle.fit.proofs.Lists.{list-passes, any-drop, any-take}
+use Rattle.fit.proofs.Replies.{reply-accepted, smooth-case}
+
+module _ (m : List ℤ) (from : ℕ) (fits : from + 15 ≤ length m) where
+  part-length : length (take 15 (drop from m)) ≡ 15
+  part-length = length-take-le 15 (drop from m) (rw length-drop (omega arith))
+
+  -- the part's smoothed value, by the measurements themselves
+  part-smoothed : smoothed (at (take 15 (drop from m))) ≡ smoothed (λ i. at m (from + i))
+  unfolding smoothed
+  part-smoothed =
+      ap (λ (z : ℤ). nearest z 1105)
+      (sum-cong 15 (λ i h. ap (λ (z : ℤ). at weights i *ℤ z) (getD-take 15 (drop from m) i (pos 0) h ∙ getD-drop from m i (pos 0))))
+
+  -- within the limits, Smooth answers with it
+  pub part-value : anyBeyond (10 ^ 12) m ≡ false → (r : Smoothed) → smoothReply r ≡ smoothRule (take 15 (drop from m)) → smoothNumbered r
+      → r ≡ Smoothed.Value (smoothed (λ i. at m (from + i)))
+  unfolding smoothRule
+  part-value e r a n =
+      smooth-case r (smoothed (at (take 15 (drop from m))))
+      (a ∙ reply-accepted _ _ (list-passes 15 _ _ _ part-length (any-take _ _ 15 _ (any-drop _ _ from m e)))) n
+      ∙ ap Smoothed.Value part-smoothed

@@ -1,0 +1,189 @@
+-- `fit::corrected_track` meets its contract.
+-- Assumes nothing.
+use borrow.Author.Needs.{needs}
+use mathlib.Core.Path.{_≡_, ap, _∙_}
+use Prim.Native.Nat.{ℕ, _+_, _*_, _^_, _≤_}
+use native.Mathlib.Omega.{arith}
+use lib.IntN.{natAbs, _+ℤ_, _-ℤ_}
+use lib.ListN.{length}
+use mir.Syntax.{w64}
+use mir.Val.{toZ, ofZ}
+use Rattle.whole.specs.Table.{tabulate}
+use Rattle.whole.specs.Tables.{tabulate-length}
+use Rattle.whole.specs.Words.{Word, Within, known, fits, bound, plain-is, bounds}
+use Rattle.exact.specs.Corrected.{Given, at, block, toA}
+use Rattle.fit.specs.Track.{given, smoothedAt, valueA, valueC, valueD}
+use Rattle.fit.proofs.Lists.{within-limit}
+use Rattle.fit.proofs.Weights.{smoothed-bound}
+use Rattle.fit.proofs.Arrays.{table-bound}
+use Rattle.fit.proofs.Tracks.{Sized, sized, Limited, limited, a-table, b-table, track-judged}
+use Rattle.fit.proofs.corrected_track.Statement.{statement}
+use Rattle.fit.proofs.corrected_track.Tie as tie
+
+-- what the track is given, and what is known of it
+abbrev g : tie.Start → Given
+g c =
+    let a = c .args in
+    given (a .measurements .now) (a .int) (a .cab) (a .refdly) (a .gd) (a .geometry .now) (a .relativity .now) (a .ionosphere .now)
+    (a .troposphere .now) (a .clock .now)
+
+sizes : (c : tie.Start) → Sized (g c)
+sizes c = sized (g c) (c .pre .0)
+
+limits : (c : tie.Start) → Limited (g c)
+limits c = limited (g c) (c .pre .1)
+
+abbrev int-word : (c : tie.Start) → Word (c .args .int)
+int-word c = known (limits c .in-int)
+
+abbrev cab-word : (c : tie.Start) → Word (c .args .cab)
+cab-word c = known (limits c .in-cab)
+
+abbrev refdly-word : (c : tie.Start) → Word (c .args .refdly)
+refdly-word c = known (limits c .in-refdly)
+
+abbrev gd-word : (c : tie.Start) → Word (c .args .gd)
+gd-word c = known (limits c .in-gd)
+
+-- the smoothed values
+smoothed-is : (c : tie.After-smooth-blocks) → c .smooth-blocks .result .values ≡ tabulate (smoothedAt (g (c .before))) 52
+unfolding smoothedAt block
+smoothed-is c = c .smooth-blocks .ensures .1
+
+smoothed-within : (c : tie.Start) (j : ℕ) → natAbs (smoothedAt (g c) j) ≤ 3 * 10 ^ 12
+unfolding smoothedAt block
+smoothed-within c j = smoothed-bound (block (g c) j) (λ i. within-limit (10 ^ 12) (c .args .measurements .now) (limits c .in-measurements) (15 * j + i))
+
+smooth-blocks-requires : tie.Need-smooth-blocks-requires
+smooth-blocks-requires c κs = (sizes c .size-measurements, limits c .in-measurements)
+
+refused-requires : tie.Need-refused-requires
+refused-requires c κs = search needs
+
+returns : tie.Need-returns
+returns c = absurd (omega (arith, c .before .before .smooth-blocks .ensures .0, c .before .if1 .taken))
+
+add-delay : tie.Need-add-delay
+add-delay c =
+    let s = c .before .before .before in
+    let i = int-word s in
+    let k = cab-word s in
+    fits (search bounds depth 9) tt
+
+sub-delay : tie.Need-sub-delay
+sub-delay c =
+    let s = c .before .before .before in
+    let i = int-word s in
+    let k = cab-word s in
+    let r = refdly-word s in
+    fits (search bounds depth 12) tt
+
+slice-aggregate-a-values : tie.Need-slice-aggregate-a-values
+slice-aggregate-a-values c = search needs
+
+a-values-requires : tie.Need-a-values-requires
+a-values-requires c κs =
+    let s = c .before .before .before .before in
+    let i = int-word s in
+    let k = cab-word s in
+    let r = refdly-word s in
+    let d = gd-word s in
+    let e = smoothed-is (c .before .before .before) in
+    let n = sizes s in
+    let l = limits s in (
+      (ap length e ∙ tabulate-length _ 52, λ j. record { within = rw e (table-bound (smoothedAt (g s)) 52 (3 * 10 ^ 12) (smoothed-within s) j) }),
+      (
+        (bound (search bounds depth 12) tt, bound (search bounds depth 9) tt),
+        (
+          (n .size-geometry, l .in-geometry),
+          ((n .size-relativity, l .in-relativity), ((n .size-ionosphere, l .in-ionosphere), (n .size-troposphere, l .in-troposphere))),
+        ),
+      ),
+    )
+
+slice-aggregate-b-values : tie.Need-slice-aggregate-b-values
+slice-aggregate-b-values c = search needs
+
+-- the corrected values A, and their bound
+delay-is : (c : tie.Start)
+    → let a = c .args in
+    toZ w64 (ofZ w64 (toZ w64 (ofZ w64 (toZ w64 (ofZ w64 (a .int)) +ℤ toZ w64 (ofZ w64 (a .cab)))) -ℤ toZ w64 (ofZ w64 (a .refdly))))
+    ≡ a .int +ℤ a .cab -ℤ a .refdly
+delay-is c =
+    let i = int-word c in
+    let k = cab-word c in
+    let r = refdly-word c in
+    plain-is (search bounds depth 12) tt
+
+gd-is : (c : tie.Start) → toZ w64 (ofZ w64 (c .args .gd)) ≡ c .args .gd
+gd-is c = let d = gd-word c in plain-is (search bounds depth 9) tt
+
+a-is : (c : tie.After-a-values) → c .a-values .result ≡ tabulate (valueA (g (c .before .before .before .before .before))) 52
+a-is c =
+    let s = c .before .before .before .before .before in
+    c .a-values .ensures ∙ a-table (g s) _ _ _ (smoothed-is (c .before .before .before .before)) (delay-is s) (gd-is s)
+
+a-within : (c : tie.Start) (j : ℕ) → Within (4 * 10 ^ 12) (valueA (g c) j)
+unfolding valueA toA
+a-within c j =
+    let l = limits c in
+    let y : Word (smoothedAt (g c) j) = known (smoothed-within c j) in
+    let i = int-word c in
+    let k = cab-word c in
+    let r = refdly-word c in
+    let d = gd-word c in
+    let geo : Word (at (c .args .geometry .now) j) = known (within-limit (2 * 10 ^ 11) _ (l .in-geometry) j) in
+    let rel : Word (at (c .args .relativity .now) j) = known (within-limit (10 ^ 10) _ (l .in-relativity) j) in
+    let ion : Word (at (c .args .ionosphere .now) j) = known (within-limit (10 ^ 10) _ (l .in-ionosphere) j) in
+    let tro : Word (at (c .args .troposphere .now) j) = known (within-limit (10 ^ 10) _ (l .in-troposphere) j) in
+    bound (search bounds depth 20) tt
+
+b-values-requires : tie.Need-b-values-requires
+b-values-requires c κs =
+    let s = c .before .before .before .before .before .before in
+    let e = a-is (c .before) in (
+      (
+        ap length e ∙ tabulate-length _ 52,
+        λ j. record { within = rw e (table-bound (valueA (g s)) 52 (4 * 10 ^ 12) (λ i. a-within s i .within) j) },
+      ),
+      (sizes s .size-clock, limits s .in-clock),
+    )
+
+copied-requires : tie.Need-copied-requires
+copied-requires c κs = sizes (c .before .before .before .before .before .before .before) .size-troposphere
+
+copied-requires-2 : tie.Need-copied-requires-2
+copied-requires-2 c κs = sizes (c .before .before .before .before .before .before .before .before) .size-ionosphere
+
+judged-requires : tie.Need-judged-requires
+judged-requires c κs = search needs
+
+returns-2 : tie.Need-returns-2
+unfolding valueC valueD
+returns-2 c =
+    let d = c .before in
+    let k = d .before in
+    let b = k .before in
+    let a = b .before .before in
+    let s = a .before .before .before .before .before in
+    c .judged .ensures
+    ∙ track-judged (g s) (a .a-values .result) (b .b-values .result) (k .copied .result) (d .copied2 .result) (s .pre .0) (s .pre .1) (a-is a)
+    (b .b-values .ensures ∙ b-table (g s) (a .a-values .result) (a-is a)) (k .copied .ensures) (d .copied2 .ensures)
+
+pub corrected-track-spec : {M : Type 1} → statement M
+corrected-track-spec =
+    tie.close
+    (tie.spec
+    smooth-blocks-requires
+    refused-requires
+    returns
+    add-delay
+    sub-delay
+    slice-aggregate-a-values
+    a-values-requires
+    slice-aggregate-b-values
+    b-values-requires
+    copied-requires
+    copied-requires-2
+    judged-requires
+    returns-2)

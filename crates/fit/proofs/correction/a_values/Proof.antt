@@ -1,0 +1,160 @@
+-- `fit::correction::a_values` meets its contract: after j turns the first j values are corrected.
+-- Assumes nothing.
+use borrow.Author.Needs.{needs}
+use mathlib.Core.List.{List}
+use mathlib.Core.Path.{_≡_, refl, sym, _∙_}
+use Prim.Native.Nat.{ℕ, _-_, _*_, _^_, _≤_}
+use native.Mathlib.Nat.{le-antisymm}
+use native.Mathlib.Omega.{arith}
+use lib.IntN.{ℤ, _+ℤ_, _-ℤ_}
+use lib.ListN.{length, take, length-set}
+use mir.Syntax.{w64}
+use mir.Val.{toZ, ofZ}
+use mir.Facts.{toZ-ofZ}
+use Rattle.whole.specs.Table.{tabulate}
+use Rattle.whole.specs.Words.{Word, known, back-of, bound, plain-is, bounds}
+use Rattle.exact.specs.Corrected.{at}
+use Rattle.fit.proofs.Lists.{within-limit}
+use Rattle.fit.proofs.Arrays.{fill-none, fill-more, fill-all}
+use Rattle.fit.proofs.correction.a_values.Statement.{statement}
+use Rattle.fit.proofs.correction.a_values.Tie as tie
+
+abbrev value : (smoothed : List ℤ) (delay : ℤ) (geometry relativity ionosphere troposphere : List ℤ) (gd : ℤ) → ℕ → ℤ
+value s w g r i t d j = at s j -ℤ w -ℤ at g j +ℤ at r j -ℤ at i j -ℤ at t j -ℤ d
+
+abbrev Inv-loop : tie.InvT-loop
+Inv-loop smoothed delay geometry relativity ionosphere troposphere gd values₀ j₀ values j =
+    (j ≤ 52) × (length values ≡ 52)
+    × (take j values ≡ tabulate (value smoothed (toZ w64 delay) geometry relativity ionosphere troposphere (toZ w64 gd)) j)
+
+abbrev μ-loop : tie.MeasureT-loop
+μ-loop smoothed delay geometry relativity ionosphere troposphere gd values₀ j₀ values j = 52 - j
+
+-- what is known of the numbers
+abbrev smoothed-word : (c : tie.Start Inv-loop μ-loop) (j : ℕ) → Word (at (c .args .smoothed .now) j)
+smoothed-word c j = known (c .pre .0 .1 j .within)
+
+abbrev delay-word : (c : tie.Start Inv-loop μ-loop) → Word (c .args .delay)
+delay-word c = known (c .pre .1 .0 .0 .within)
+
+abbrev gd-word : (c : tie.Start Inv-loop μ-loop) → Word (c .args .gd)
+gd-word c = known (c .pre .1 .0 .1 .within)
+
+abbrev geometry-word : (c : tie.Start Inv-loop μ-loop) (j : ℕ) → Word (at (c .args .geometry .now) j)
+geometry-word c j = known (within-limit (2 * 10 ^ 11) (c .args .geometry .now) (c .pre .1 .1 .0 .1) j)
+
+abbrev relativity-word : (c : tie.Start Inv-loop μ-loop) (j : ℕ) → Word (at (c .args .relativity .now) j)
+relativity-word c j = known (within-limit (10 ^ 10) (c .args .relativity .now) (c .pre .1 .1 .1 .0 .1) j)
+
+abbrev ionosphere-word : (c : tie.Start Inv-loop μ-loop) (j : ℕ) → Word (at (c .args .ionosphere .now) j)
+ionosphere-word c j = known (within-limit (10 ^ 10) (c .args .ionosphere .now) (c .pre .1 .1 .1 .1 .0 .1) j)
+
+abbrev troposphere-word : (c : tie.Start Inv-loop μ-loop) (j : ℕ) → Word (at (c .args .troposphere .now) j)
+troposphere-word c j = known (within-limit (10 ^ 10) (c .args .troposphere .now) (c .pre .1 .1 .1 .1 .1 .1) j)
+
+loop-holds : tie.Need-loop-holds Inv-loop μ-loop
+loop-holds c = (search needs, refl, fill-none _)
+
+mul-corrected : tie.Need-mul-corrected Inv-loop μ-loop
+mul-corrected c = search needs
+
+shared-slice-copy-out-corrected : tie.Need-shared-slice-copy-out-corrected Inv-loop μ-loop
+shared-slice-copy-out-corrected c = omega (arith, c .before .before .pre)
+
+mul-corrected-2 : tie.Need-mul-corrected-2 Inv-loop μ-loop
+mul-corrected-2 c = search needs
+
+shared-slice-copy-out-corrected-2 : tie.Need-shared-slice-copy-out-corrected-2 Inv-loop μ-loop
+shared-slice-copy-out-corrected-2 c = omega (arith, c .before .before .before .pre)
+
+mul-corrected-3 : tie.Need-mul-corrected-3 Inv-loop μ-loop
+mul-corrected-3 c = search needs
+
+shared-slice-copy-out-corrected-3 : tie.Need-shared-slice-copy-out-corrected-3 Inv-loop μ-loop
+shared-slice-copy-out-corrected-3 c = omega (arith, c .before .before .before .before .pre)
+
+mul-corrected-4 : tie.Need-mul-corrected-4 Inv-loop μ-loop
+mul-corrected-4 c = search needs
+
+shared-slice-copy-out-corrected-4 : tie.Need-shared-slice-copy-out-corrected-4 Inv-loop μ-loop
+shared-slice-copy-out-corrected-4 c = omega (arith, c .before .before .before .before .before .pre)
+
+mul-corrected-5 : tie.Need-mul-corrected-5 Inv-loop μ-loop
+mul-corrected-5 c = search needs
+
+shared-slice-copy-out-corrected-5 : tie.Need-shared-slice-copy-out-corrected-5 Inv-loop μ-loop
+shared-slice-copy-out-corrected-5 c = omega (arith, c .before .before .before .before .before .before .pre)
+
+corrected-requires : tie.Need-corrected-requires Inv-loop μ-loop
+corrected-requires c κs =
+    let n = c .before .before .before .before .before .before in
+    let s = smoothed-word (n .before) (n .loop .j) in
+    let w = delay-word (n .before) in
+    let d = gd-word (n .before) in
+    let g = geometry-word (n .before) (n .loop .j) in
+    let r = relativity-word (n .before) (n .loop .j) in
+    let i = ionosphere-word (n .before) (n .loop .j) in
+    let t = troposphere-word (n .before) (n .loop .j) in (
+      (bound (search bounds depth 9) tt, bound (search bounds depth 9) tt, bound (search bounds depth 9) tt),
+      (bound (search bounds depth 9) tt, bound (search bounds depth 9) tt, bound (search bounds depth 9) tt, bound (search bounds depth 9) tt),
+    )
+
+mul-values : tie.Need-mul-values Inv-loop μ-loop
+mul-values c = search needs
+
+array-set-from-values : tie.Need-array-set-from-values Inv-loop μ-loop
+array-set-from-values c = search needs
+
+add-j : tie.Need-add-j Inv-loop μ-loop
+add-j c = search needs
+
+loop-less : tie.Need-loop-less Inv-loop μ-loop
+loop-less c = search needs
+
+loop-again : tie.Need-loop-again Inv-loop μ-loop
+loop-again c =
+    let n = c .before .before .before .before .before .before .before in
+    let s = smoothed-word (n .before) (n .loop .j) in
+    let w = delay-word (n .before) in
+    let d = gd-word (n .before) in
+    let g = geometry-word (n .before) (n .loop .j) in
+    let r = relativity-word (n .before) (n .loop .j) in
+    let i = ionosphere-word (n .before) (n .loop .j) in
+    let t = troposphere-word (n .before) (n .loop .j) in (
+      search needs,
+      rw length-set (n .loop .inv .1),
+      fill-more _ (n .loop .values) (n .loop .j) (omega arith) (n .loop .inv .2)
+          (back-of (c .corrected .ok) ∙ c .corrected .ensures ∙ plain-is (search bounds depth 18) tt ∙ sym (plain-is (search bounds depth 18) tt)),
+    )
+
+returns : tie.Need-returns Inv-loop μ-loop
+returns c =
+    let n = c .before in
+    let e : n .loop .j ≡ 52 = le-antisymm (n .loop .inv .0) (c .loop-test .left) in
+    let f = n .before .fits in
+    fill-all _ _ (n .loop .inv .1) (simp (e, toZ-ofZ (f .delay), toZ-ofZ (f .gd)) at (n .loop .inv .2))
+
+pub a-values-spec : {M : Type 1} → statement M
+a-values-spec =
+    tie.close
+    (tie.spec
+    Inv-loop
+    μ-loop
+    loop-holds
+    mul-corrected
+    shared-slice-copy-out-corrected
+    mul-corrected-2
+    shared-slice-copy-out-corrected-2
+    mul-corrected-3
+    shared-slice-copy-out-corrected-3
+    mul-corrected-4
+    shared-slice-copy-out-corrected-4
+    mul-corrected-5
+    shared-slice-copy-out-corrected-5
+    corrected-requires
+    mul-values
+    array-set-from-values
+    add-j
+    loop-less
+    loop-again
+    returns)

@@ -1,0 +1,80 @@
+-- `fit::fit` meets its contract.
+-- Assumes nothing.
+use borrow.Author.Needs.{needs}
+use mathlib.Core.Path.{_≡_, sym, ap, _∙_}
+use Prim.Native.Nat.{_*_, _^_, _<_}
+use native.Mathlib.Omega.{arith}
+use lib.Dec.{lit<}
+use lib.IntN.{ℤ, pos, negsuc}
+use mir.Syntax.{w64}
+use mir.Val.{toZ, ofZ}
+use Rattle.whole.specs.Nearest.{nearest}
+use Rattle.whole.specs.Words.{Word, known, equal, back-of, bound, plain-is, bounds}
+use Rattle.exact.specs.Corrected.{at}
+use Rattle.fit.specs.Lists.{listRule}
+use Rattle.fit.specs.Fit.{midpoint, slope, fitRule}
+use Rattle.fit.proofs.Lists.{list-accepted}
+use Rattle.fit.proofs.Fitting.{midpoint-52, slope-52}
+use Rattle.fit.proofs.Replies.{reply-accepted, reply-refused}
+use Rattle.fit.proofs.fit.Statement.{statement}
+use Rattle.fit.proofs.fit.Tie as tie
+
+list-refusal-requires : tie.Need-list-refusal-requires
+list-refusal-requires c κs = search needs
+
+returns : tie.Need-returns
+unfolding fitRule
+returns c =
+    let r = c .before .list-refusal in
+    let h : 0 < r .result = omega arith in
+    (rw (r .ensures) (sym (reply-refused _ _ (rw (r .ensures) at h))), h)
+
+-- the list is not refused
+accepted : (c : tie.Else1) → listRule 52 (negsuc 1999999999999) (pos 2000000000000) (c .before .before .args .values .now) ≡ 0
+accepted c = sym (c .before .list-refusal .ensures) ∙ c .if1 .left
+
+sums-requires : tie.Need-sums-requires
+sums-requires c κs = list-accepted _ _ _ _ (accepted c)
+
+-- the two sums that sums hands back
+abbrev total-word : (c : tie.After-sums) → Word (c .sums .result .total)
+total-word c = equal (c .sums .ensures .0 .0) (known (rw (c .sums .ensures .0 .0) at (c .sums .ensures .1 .0 .within)))
+
+abbrev moment-word : (c : tie.After-sums) → Word (c .sums .result .moment)
+moment-word c = equal (c .sums .ensures .0 .1) (known (rw (c .sums .ensures .0 .1) at (c .sums .ensures .1 .1 .within)))
+
+nearest-requires : tie.Need-nearest-requires
+nearest-requires c κs = let s = total-word (c .before) in (bound (search bounds depth 9) tt, lit< tt)
+
+nearest-requires-2 : tie.Need-nearest-requires-2
+nearest-requires-2 c κs = let t = moment-word (c .before .before .before) in (bound (search bounds depth 9) tt, lit< tt)
+
+midpoint-is : (c : tie.After-nearest2)
+    → toZ w64 (ofZ w64 (c .before .before .nearest .result)) ≡ midpoint 1 52 (at (c .before .before .before .before .before .before .before .args .values .now))
+midpoint-is c =
+    let s = total-word (c .before .before .before .before) in
+    let n = c .before .before .nearest in
+    back-of (n .ok) ∙ n .ensures ∙ ap (λ (z : ℤ). nearest z 5200) (plain-is (search bounds depth 9) tt) ∙ sym (midpoint-52 _)
+
+slope-is : (c : tie.After-nearest2)
+    → toZ w64 (ofZ w64 (c .nearest2 .result)) ≡ slope 1 52 (at (c .before .before .before .before .before .before .before .args .values .now))
+slope-is c =
+    let t = moment-word (c .before .before .before .before) in
+    let n = c .nearest2 in
+    back-of (n .ok) ∙ n .ensures ∙ ap (λ (z : ℤ). nearest z 35139) (plain-is (search bounds depth 9) tt) ∙ sym (slope-52 _)
+
+returns-2 : tie.Need-returns-2
+unfolding fitRule
+returns-2 c =
+    (rw (midpoint-is c, slope-is c) (sym (reply-accepted _ _ (accepted (c .before .before .before .before .before)))), tt)
+
+pub fit-spec : {M : Type 1} → statement M
+fit-spec =
+    tie.close
+    (tie.spec
+    list-refusal-requires
+    returns
+    sums-requires
+    nearest-requires
+    nearest-requires-2
+    returns-2)

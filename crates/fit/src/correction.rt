@@ -1,0 +1,121 @@
+// The smoothed and the corrected values of a track.
+use super::Smoothed;
+use super::answers::smoothed_number;
+use super::smooth;
+ghost use mathlib.Core.Path.{_≡_};
+ghost use mathlib.Core.Bool.{false};
+ghost use Prim.Native.Nat.{ℕ, _+_, _*_, _^_, _≤_};
+ghost use lib.IntN.{_+ℤ_, _-ℤ_};
+ghost use lib.ListN.{length};
+ghost use Rattle.whole.specs.Table.{tabulate};
+ghost use Rattle.whole.specs.Words.{Within};
+ghost use Rattle.exact.specs.Corrected.{at};
+ghost use Rattle.fit.specs.Lists.{anyBeyond};
+ghost use Rattle.fit.specs.Smooth.{smoothed};
+
+// The smoothed values of 52 blocks, or the number of a refusal.
+pub struct Blocks {
+    pub refusal: u32,
+    pub values: [i64; 52],
+}
+
+pub fn smooth_blocks(measurements: &[i64]) -> Blocks
+    requires { ⌜ (length (now measurements) ≡ 780) × (anyBeyond (10 ^ 12) (now measurements) ≡ false) ⌝ }
+    ensures { λ r. ⌜ (r .refusal ≡ 0) × (r .values ≡ tabulate (λ j. smoothed (λ i. at (now (measurements .entry)) (15 * j + i))) 52) ⌝ }
+{
+    let mut values = [0i64; 52];
+    let mut j = 0;
+    while j < 52 {
+        let from = 15 * j;
+        let to = from + 15;
+        let answer = smooth(&measurements[from..to]);
+        let Smoothed::Value(value) = answer else {
+            let refusal = smoothed_number(answer);
+            return Blocks { refusal, values };
+        };
+        values[j] = value;
+        j += 1;
+    }
+    Blocks { refusal: 0, values }
+}
+
+// A of document 01 at one block. The delay is INT + CAB - REF.
+fn corrected(
+    smoothed: i64,
+    delay: i64,
+    geometry: i64,
+    relativity: i64,
+    ionosphere: i64,
+    troposphere: i64,
+    gd: i64,
+) -> i64
+    requires { ⌜ Within (3 * 10 ^ 12) smoothed × Within (3 * 10 ^ 10) delay × Within (10 ^ 10) gd ⌝ }
+    requires { ⌜ Within (2 * 10 ^ 11) geometry × Within (10 ^ 10) relativity × Within (10 ^ 10) ionosphere × Within (10 ^ 10) troposphere ⌝ }
+    ensures { λ r. ⌜ r ≡ smoothed -ℤ delay -ℤ geometry +ℤ relativity -ℤ ionosphere -ℤ troposphere -ℤ gd ⌝ }
+{
+    smoothed - delay - geometry + relativity - ionosphere - troposphere - gd
+}
+
+// A at each block.
+pub fn a_values(
+    smoothed: &[i64],
+    delay: i64,
+    geometry: &[i64],
+    relativity: &[i64],
+    ionosphere: &[i64],
+    troposphere: &[i64],
+    gd: i64,
+) -> [i64; 52]
+    requires { ⌜ (length (now smoothed) ≡ 52) × ((j : ℕ) → Within (3 * 10 ^ 12) (at (now smoothed) j)) ⌝ }
+    requires { ⌜ Within (3 * 10 ^ 10) delay × Within (10 ^ 10) gd ⌝ }
+    requires { ⌜ (length (now geometry) ≡ 52) × (anyBeyond (2 * 10 ^ 11) (now geometry) ≡ false) ⌝ }
+    requires { ⌜ (length (now relativity) ≡ 52) × (anyBeyond (10 ^ 10) (now relativity) ≡ false) ⌝ }
+    requires { ⌜ (length (now ionosphere) ≡ 52) × (anyBeyond (10 ^ 10) (now ionosphere) ≡ false) ⌝ }
+    requires { ⌜ (length (now troposphere) ≡ 52) × (anyBeyond (10 ^ 10) (now troposphere) ≡ false) ⌝ }
+    ensures { λ r. ⌜ r ≡ tabulate (λ j. at (now (smoothed .entry)) j -ℤ delay -ℤ at (now (geometry .entry)) j +ℤ at (now (relativity .entry)) j -ℤ at (now (ionosphere .entry)) j -ℤ at (now (troposphere .entry)) j -ℤ gd) 52 ⌝ }
+{
+    let mut values = [0i64; 52];
+    let mut j = 0;
+    while j < 52 {
+        values[j] = corrected(
+            smoothed[j],
+            delay,
+            geometry[j],
+            relativity[j],
+            ionosphere[j],
+            troposphere[j],
+            gd,
+        );
+        j += 1;
+    }
+    values
+}
+
+// B at each block: A and the satellite clock.
+pub fn b_values(a: &[i64], clock: &[i64]) -> [i64; 52]
+    requires { ⌜ (length (now a) ≡ 52) × ((j : ℕ) → Within (4 * 10 ^ 12) (at (now a) j)) ⌝ }
+    requires { ⌜ (length (now clock) ≡ 52) × (anyBeyond (10 ^ 10) (now clock) ≡ false) ⌝ }
+    ensures { λ r. ⌜ r ≡ tabulate (λ j. at (now (a .entry)) j +ℤ at (now (clock .entry)) j) 52 ⌝ }
+{
+    let mut values = [0i64; 52];
+    let mut j = 0;
+    while j < 52 {
+        values[j] = a[j] + clock[j];
+        j += 1;
+    }
+    values
+}
+
+// C and D: a column as it was given.
+pub fn copied(column: &[i64]) -> [i64; 52]
+    requires { ⌜ length (now column) ≡ 52 ⌝ }
+    ensures { λ r. ⌜ r ≡ tabulate (at (now (column .entry))) 52 ⌝ }
+{
+    let mut values = [0i64; 52];
+    let mut j = 0;
+    while j < 52 {
+        values[j] = column[j];
+        j += 1;
+    }
+    values
+}

@@ -1,0 +1,30 @@
+// Signed numbers: the magnitude, and the nearest whole number to a fraction.
+ghost use mathlib.Core.Path.{_≡_};
+ghost use Prim.Native.Nat.{_^_, _<_};
+ghost use lib.IntN.{natAbs};
+ghost use Rattle.whole.specs.Nearest.{nearest};
+ghost use Rattle.whole.specs.Words.{Within};
+
+// How far v lies from 0. That of the least i64 does not fit an i64, so the last step is made in u64.
+pub fn magnitude(v: i64) -> u64
+    ensures { λ r. ⌜ r ≡ natAbs v ⌝ }
+{
+    if v < 0 {
+        return (-1 - v) as u64 + 1;
+    }
+    v as u64
+}
+
+// The nearest whole number to n / d, a tie going up: the floor of (2n + d) / 2d, where the language's quotient rounds
+// toward 0.
+pub fn nearest(n: i64, d: u32) -> i64
+    requires { ⌜ Within (2 ^ 61) n × (0 < d) ⌝ }
+    ensures { λ r. ⌜ r ≡ nearest n d ⌝ }
+{
+    let x = 2 * n + d as i64;
+    let m = 2 * d as i64;
+    if x < 0 {
+        return -1 - (-1 - x) / m;
+    }
+    x / m
+}
