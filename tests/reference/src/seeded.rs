@@ -22,14 +22,15 @@ impl Seeded {
         ((u128::from(self.bits()) * u128::from(count)) >> 64) as u64
     }
 
-    /// A number from low to high, both included.
+    /// A number from low to high, both included, where these are not the ends of the type.
     pub fn range(&mut self, low: i64, high: i64) -> i64 {
-        low + self.below((high - low) as u64 + 1) as i64
+        let count = high.wrapping_sub(low) as u64 + 1;
+        low.wrapping_add(self.below(count) as i64)
     }
 
     /// A number within plus or minus a limit, its size spread over the powers of two so that small ones come as often.
     pub fn spread(&mut self, limit: i64) -> i64 {
-        let bound = (limit >> self.below(64 - u64::from(limit.leading_zeros()) + 1)).max(0);
+        let bound = limit >> self.below(65 - u64::from(limit.leading_zeros()));
         self.range(-bound, bound)
     }
 
