@@ -262,7 +262,7 @@ fn spoil_level(case: &mut Case, fault: Fault, seeded: &mut Seeded) {
 }
 
 /// Adds a, -a, -a, a along a column: neither its sum nor its slope changes.
-pub fn add_wave(case: &mut Case, column: usize, a: i64) {
+fn add_wave(case: &mut Case, column: usize, a: i64) {
     case.columns[column].iter_mut().enumerate().for_each(|(j, v)| *v += if matches!(j % 4, 0 | 3) { a } else { -a });
 }
 

@@ -8,6 +8,7 @@
 mod blocks;
 mod case;
 mod compare;
+mod edges;
 mod faults;
 mod library;
 mod lines;
