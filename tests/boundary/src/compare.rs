@@ -41,7 +41,10 @@ pub struct Compare {
 }
 
 /// The bytes of one case: guard, lent line, guard; before the call, after each of the two.
+#[derive(Default)]
 struct Lines {
+    /// where the lent line begins
+    at: usize,
     before: Vec<u8>,
     wanted: Vec<u8>,
     got: Vec<u8>,
@@ -62,7 +65,7 @@ impl Compare {
         let total = start + lent.len() + GUARD;
         let at = self.seeded.below((self.pool.len() - total) as u64) as usize;
         let before = self.pool[at..at + total].to_vec();
-        (Lines { wanted: before.clone(), got: before.clone(), before }, start..start + lent.len())
+        (Lines { at: start, wanted: before.clone(), got: before.clone(), before }, start..start + lent.len())
     }
 
     fn judge(&mut self, of: &'static str, lent: Lent, wanted: u32, got: u32, lines: &Lines) -> bool {
@@ -78,9 +81,10 @@ impl Compare {
         eprintln!("  answer: should be {wanted}, was {got}");
         let differing = lines.wanted.iter().zip(&lines.got).position(|(a, b)| a != b);
         if let Some(at) = differing {
-            eprintln!("  first byte that differs: {} from the lent line's start region", at as i64 - GUARD as i64);
-            eprintln!("  should be {:?}", String::from_utf8_lossy(&lines.wanted[GUARD..]));
-            eprintln!("  was       {:?}", String::from_utf8_lossy(&lines.got[GUARD..]));
+            let text = |bytes: &[u8]| String::from_utf8_lossy(&bytes[lines.at..]).chars().take(113).collect::<String>();
+            eprintln!("  first byte that differs: {} of the lent line", at as i64 - lines.at as i64);
+            eprintln!("  should be {:?}", text(&lines.wanted));
+            eprintln!("  was       {:?}", text(&lines.got));
         }
         self.differences += 1;
         if self.differences >= SHOWN {
@@ -126,8 +130,7 @@ impl Compare {
         let got = library::start(mjd, second);
         *self.answers.entry(("start", wanted)).or_default() += 1;
         if wanted != got {
-            let nothing = Lines { before: vec![], wanted: vec![], got: vec![] };
-            self.show("start", &(mjd, second), wanted, got, &nothing);
+            self.show("starts", &(mjd, second), wanted, got, &Lines::default());
         }
     }
 
