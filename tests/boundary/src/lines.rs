@@ -2,6 +2,7 @@
 
 use crate::compare::{Compare, Lent};
 use crate::faults::*;
+use reference::published::published;
 use reference::seeded::Seeded;
 use reference::{Labels, Numbers};
 
@@ -13,6 +14,7 @@ pub fn run(compare: &mut Compare, seeded: &mut Seeded, scale: usize) {
         compare.faults("line", &LINE_ORDER, &[], answer);
         junk(compare, seeded);
     }
+    printed(compare);
     sweep_bytes(compare, seeded);
     sweep_words(compare, seeded);
     number_edges(compare, seeded);
@@ -40,6 +42,17 @@ fn one_faulty(compare: &mut Compare, seeded: &mut Seeded, faults: &[Fault]) {
     let answer = compare.line("faulty lines", &labels, &numbers, lent);
     let numbers: Vec<u32> = faults.iter().map(|fault| fault.number()).collect();
     compare.faults("line", &LINE_ORDER, &numbers, answer);
+}
+
+/// The lines printed in the format documents.
+fn printed(compare: &mut Compare) {
+    for case in published() {
+        for (labels, numbers) in case.printed.iter().chain([&case.put_in]) {
+            for lent in [Lent::Null, Lent::Bytes(0), Lent::Bytes(112), Lent::Bytes(113), Lent::Bytes(114)] {
+                compare.line(case.name, labels, numbers, lent);
+            }
+        }
+    }
 }
 
 /// Any bits, in one part of the labels and numbers or in all.

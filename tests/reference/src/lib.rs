@@ -9,6 +9,7 @@
 mod block;
 mod fit;
 mod line;
+pub mod published;
 mod schedule;
 pub mod seeded;
 mod track;

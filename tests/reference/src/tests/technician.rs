@@ -110,4 +110,6 @@ fn lent_lines() {
 #[test]
 fn sample_block() {
     assert_eq!(run_block(&Given::constant(1000).block(&SAMPLE_LABELS)).as_deref(), Ok(SAMPLE_LINE));
+    let packed = include_bytes!("../../../../examples/sample.blk");
+    assert_eq!(run_block(packed).as_deref(), Ok(SAMPLE_LINE));
 }

@@ -104,6 +104,10 @@ fn ranges_of_labels_are_7() {
     for (azth, expected) in [(0, 0), (3599, 0), (3600, 7), (65535, 7)] {
         check(expected, Labels { azth, ..s });
     }
+    // observation codes of the format document that three capitals and digits can't write
+    for frc in [*b"B1i", *b" E1"] {
+        check(7, Labels { frc, ..s });
+    }
     for mjd in [0, 50721, 100_000, u32::MAX] {
         check(7, Labels { mjd, ..s });
     }
