@@ -18,8 +18,8 @@ OURS = dict(CL='{:02X}', MJD='{:05d}', STTIME='{:06d}', TRKL='{:04d}', ELV='{:03
 # how wide it stands in document 003's line, whose first column is blank
 WIDTHS = dict(SAT=3, CL=2, MJD=5, STTIME=6, TRKL=4, ELV=3, AZTH=4, REFSV=11, SRSV=6, REFSYS=11, SRSYS=6, DSG=4, IOE=3,
               MDTR=4, SMDT=4, MDIO=4, SMDI=4)
-HEADER = """# Made by expected.py from published.txt. For each published line: Line's answer and the columns in our form,
-# as published and with what is put in. A line is written where the answer is 0.
+HEADER = """# Made by expected.py from published.txt. For each published line: Line's answer and the columns in our
+# form, as published and with what is put in. A line is written where the answer is 0.
 """
 
 

@@ -32,7 +32,8 @@ pub enum Fault {
     Label(usize),
     TrackLength,
     Start,
-    Lent,
+    /// the lent line
+    Short,
 }
 
 use Fault::*;
@@ -49,14 +50,14 @@ impl Fault {
             Dsg => 6,
             Label(_) | TrackLength => 7,
             Start => 8,
-            Lent => 9,
+            Short => 9,
         }
     }
 }
 
 /// What a line's numbers and labels can break: common to blocks and lines.
 fn common() -> Vec<Fault> {
-    let mut all = vec![Refsv, Refsys, Srsv, Srsys, Dsg, Start, Lent];
+    let mut all = vec![Refsv, Refsys, Srsv, Srsys, Dsg, Start, Short];
     all.extend([TROPOSPHERE, IONOSPHERE].iter().flat_map(|k| [Slope(*k), Low(*k), High(*k)]));
     all.extend((0..LABELS).map(Label));
     all
@@ -192,24 +193,20 @@ fn spoil_number(numbers: &mut Numbers, fault: Fault, seeded: &mut Seeded) {
 /// A line that is long enough; the lengths that are asked for by name come most often.
 pub fn long_lent(seeded: &mut Seeded) -> Lent {
     let any = seeded.range(113, 300) as usize;
-    compare_bytes(seeded.pick(&[113, 113, 114, 114, 4096, any]))
+    Lent::Bytes(seeded.pick(&[113, 113, 114, 114, 4096, any]))
 }
 
 /// A line that is too short.
 pub fn short_lent(seeded: &mut Seeded) -> Lent {
     let any = seeded.range(1, 111) as usize;
     if seeded.below(4) == 0 {
-        return crate::compare::Lent::Null;
+        return Lent::Null;
     }
-    compare_bytes(seeded.pick(&[0, 112, 112, any]))
+    Lent::Bytes(seeded.pick(&[0, 112, 112, any]))
 }
 
-fn compare_bytes(n: usize) -> crate::compare::Lent {
-    crate::compare::Lent::Bytes(n)
-}
-
-fn lent_for(faults: &[Fault], seeded: &mut Seeded) -> crate::compare::Lent {
-    if faults.contains(&Lent) {
+fn lent_for(faults: &[Fault], seeded: &mut Seeded) -> Lent {
+    if faults.contains(&Short) {
         short_lent(seeded)
     } else {
         long_lent(seeded)
@@ -228,7 +225,7 @@ fn spoil_labels(labels: &mut Labels, faults: &[Fault], seeded: &mut Seeded) {
 }
 
 /// A good line with these faults in it.
-pub fn faulty_line(faults: &[Fault], seeded: &mut Seeded) -> (Labels, Numbers, crate::compare::Lent) {
+pub fn faulty_line(faults: &[Fault], seeded: &mut Seeded) -> (Labels, Numbers, Lent) {
     let (mut labels, mut numbers) = (good_labels(seeded), good_numbers(seeded));
     spoil_labels(&mut labels, faults, seeded);
     faults.iter().for_each(|fault| spoil_number(&mut numbers, *fault, seeded));
@@ -326,7 +323,7 @@ fn spoil_length(mut bytes: Vec<u8>, seeded: &mut Seeded) -> Option<Vec<u8>> {
 }
 
 /// A good block with these faults in it. None is NULL.
-pub fn faulty_block(faults: &[Fault], seeded: &mut Seeded) -> (Option<Vec<u8>>, crate::compare::Lent) {
+pub fn faulty_block(faults: &[Fault], seeded: &mut Seeded) -> (Option<Vec<u8>>, Lent) {
     let mut case = good(seeded);
     faults.iter().for_each(|fault| spoil_slope(&mut case, *fault, seeded));
     faults.iter().for_each(|fault| spoil_level(&mut case, *fault, seeded));

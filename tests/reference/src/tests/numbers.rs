@@ -4,15 +4,15 @@ use super::*;
 
 const LARGE: i64 = 999_999_999_949;
 
-/// The refusal, or 0.
-fn refusal(given: &Given) -> u32 {
-    given.track().err().unwrap_or(0)
-}
-
 fn changed(change: impl Fn(&mut Given)) -> Given {
     let mut given = Given::constant(1000);
     change(&mut given);
     given
+}
+
+/// The sample with a change gives this refusal, or 0.
+fn expect(refusal: u32, change: impl Fn(&mut Given)) {
+    assert_eq!(changed(change).track().err().unwrap_or(0), refusal);
 }
 
 #[test]
@@ -54,139 +54,100 @@ fn midpoint_is_at_389_and_a_half() {
 
 #[test]
 fn counts_are_1() {
-    assert_eq!(refusal(&changed(|g| g.measurements.push(0))), 1);
-    assert_eq!(refusal(&changed(|g| g.measurements.clear())), 1);
+    expect(1, |g| g.measurements.push(0));
+    expect(1, |g| g.measurements.clear());
     for k in 0..5 {
-        assert_eq!(refusal(&changed(|g| g.columns[k].push(0))), 1);
-        assert_eq!(refusal(&changed(|g| g.columns[k].truncate(51))), 1);
+        expect(1, |g| g.columns[k].push(0));
+        expect(1, |g| g.columns[k].truncate(51));
     }
-    assert_eq!(
-        refusal(&changed(|g| {
-            g.measurements[0] = i64::MAX;
-            g.columns[4].clear()
-        })),
-        1
-    );
+    expect(1, |g| {
+        g.measurements[0] = i64::MAX;
+        g.columns[4].clear();
+    });
 }
 
 #[test]
 fn limits_are_2() {
     for at in [0, 389, 779] {
         for bad in [1_000_000_000_001, -1_000_000_000_001, i64::MIN, i64::MAX] {
-            assert_eq!(refusal(&changed(|g| g.measurements[at] = bad)), 2);
+            expect(2, |g| g.measurements[at] = bad);
         }
     }
     for k in 0..5 {
         let limit = if k == 0 { 200_000_000_000 } else { 10_000_000_000 };
-        for at in [0, 51] {
-            for bad in [limit + 1, -limit - 1, i64::MIN, i64::MAX] {
-                assert_eq!(refusal(&changed(|g| g.columns[k][at] = bad)), 2);
-            }
+        for bad in [limit + 1, -limit - 1, i64::MIN, i64::MAX] {
+            expect(2, |g| g.columns[k][0] = bad);
+            expect(2, |g| g.columns[k][51] = bad);
         }
-        // at the limit itself it is no 2: a constant column is seen by 3 or 5 at most
-        assert_ne!(refusal(&changed(|g| g.columns[k].fill(limit))), 2);
+        // a column at its limit is no 2: the air's delays are 5, the others fit
+        expect(if k == 2 || k == 3 { 5 } else { 0 }, |g| g.columns[k].fill(limit));
     }
     for bad in [10_000_000_001, -10_000_000_001, i64::MIN] {
-        assert_eq!(refusal(&changed(|g| g.delays.int = bad)), 2);
-        assert_eq!(refusal(&changed(|g| g.delays.cab = bad)), 2);
-        assert_eq!(refusal(&changed(|g| g.delays.refdly = bad)), 2);
-        assert_eq!(refusal(&changed(|g| g.delays.gd = bad)), 2);
+        expect(2, |g| g.delays.int = bad);
+        expect(2, |g| g.delays.cab = bad);
+        expect(2, |g| g.delays.refdly = bad);
+        expect(2, |g| g.delays.gd = bad);
     }
 }
 
 #[test]
-fn fits_3_4_5_and_6() {
-    assert_eq!(refusal(&Given::constant(LARGE)), 0);
-    assert_eq!(refusal(&Given::constant(LARGE + 1)), 3); // a tie goes up, to 10000000000
-    assert_eq!(refusal(&Given::constant(-LARGE - 1)), 0); // a tie goes up, to -9999999999
-    assert_eq!(refusal(&Given::constant(-LARGE - 2)), 3);
-    // REFSYS alone
-    assert_eq!(
-        refusal(&changed(|g| {
-            g.measurements.fill(LARGE);
-            g.columns[4].fill(1)
-        })),
-        3
-    );
-    // REFSV alone
-    assert_eq!(
-        refusal(&changed(|g| {
-            g.measurements.fill(LARGE + 1);
-            g.columns[4].fill(-1)
-        })),
-        3
-    );
-    // T / 35139 = 99999.5 goes up to 100000: T is 51 times the last value
-    let steep = (99_999 * 35_139 + 17_570) / 51 + 1;
-    assert_eq!(refusal(&changed(|g| g.columns[1][51] = steep)), 4);
-    // troposphere: a slope of 1000 from the last value
-    let slope = (999 * 35_139 + 17_570) / 51 + 1;
-    assert_eq!(refusal(&changed(|g| g.columns[3][51] = slope)), 4);
-    assert_eq!(refusal(&changed(|g| g.columns[3][51] = slope - 1)), 0);
-    assert_eq!(refusal(&changed(|g| g.columns[2][51] = slope)), 4);
-    // delays that no column holds: 999949 gives 9999
-    for k in [2, 3] {
-        assert_eq!(refusal(&changed(|g| g.columns[k].fill(999_949))), 0);
-        assert_eq!(refusal(&changed(|g| g.columns[k].fill(999_950))), 5);
-        assert_eq!(refusal(&changed(|g| g.columns[k].fill(-50))), 0);
-        assert_eq!(refusal(&changed(|g| g.columns[k].fill(-51))), 5);
+fn midpoints_are_3() {
+    expect(0, |g| g.measurements.fill(LARGE));
+    expect(3, |g| g.measurements.fill(LARGE + 1)); // a tie goes up, to 10000000000
+    expect(0, |g| g.measurements.fill(-LARGE - 1)); // a tie goes up, to -9999999999
+    expect(3, |g| g.measurements.fill(-LARGE - 2));
+    // REFSYS alone, then REFSV alone
+    for (measured, clock) in [(LARGE, 1), (LARGE + 1, -1)] {
+        expect(3, |g| {
+            g.measurements.fill(measured);
+            g.columns[4].fill(clock);
+        });
     }
-    let waves = |g: &mut Given, a: i64| g.columns[4] = [a, -a, -a, a].repeat(13);
-    assert_eq!(refusal(&changed(|g| waves(g, 999_949))), 0);
-    assert_eq!(refusal(&changed(|g| waves(g, 999_950))), 6);
+}
+
+#[test]
+fn slopes_are_4_and_levels_5() {
+    // T is 51 times the last value, and 35139 times 99999.5 is just passed
+    let steep = (99_999 * 35_139 + 17_570) / 51 + 1;
+    expect(4, |g| g.columns[1][51] = steep);
+    let slope = (999 * 35_139 + 17_570) / 51 + 1;
+    expect(4, |g| g.columns[3][51] = slope);
+    expect(0, |g| g.columns[3][51] = slope - 1);
+    expect(4, |g| g.columns[2][51] = slope);
+    expect(0, |g| g.columns[2][51] = slope - 1);
+    for k in [2, 3] {
+        expect(0, |g| g.columns[k].fill(999_949));
+        expect(5, |g| g.columns[k].fill(999_950));
+        expect(0, |g| g.columns[k].fill(-50));
+        expect(5, |g| g.columns[k].fill(-51));
+    }
+}
+
+/// Puts in a fault of this number.
+fn spoil(given: &mut Given, number: u32) {
+    match number {
+        2 => given.delays.gd = i64::MAX,
+        3 => {
+            given.measurements.fill(1_000_000_000_000);
+            given.columns[0].fill(-1_000_000_000);
+        }
+        4 => given.columns[2][51] += 1_000_000,
+        5 => given.columns[3].fill(-51),
+        _ => given.columns[4] = [999_950, -999_950, -999_950, 999_950].repeat(13),
+    }
 }
 
 #[test]
 fn order_of_two_faults() {
-    let deep = |g: &mut Given| g.columns[3].fill(-51); // 5
-    let steep = |g: &mut Given| g.columns[2][51] += 1_000_000; // 4
-    let far = |g: &mut Given| {
-        g.measurements.fill(1_000_000_000_000);
-        g.columns[0].fill(-1_000_000_000)
-    }; // 3
-    let wide = |g: &mut Given| g.columns[4] = [2_000_000, -2_000_000, -2_000_000, 2_000_000].repeat(13); // 6
-    assert_eq!(
-        refusal(&changed(|g| {
-            deep(g);
-            wide(g)
-        })),
-        5
-    );
-    assert_eq!(
-        refusal(&changed(|g| {
-            deep(g);
-            steep(g)
-        })),
-        4
-    );
-    assert_eq!(
-        refusal(&changed(|g| {
-            wide(g);
-            steep(g)
-        })),
-        4
-    );
-    assert_eq!(
-        refusal(&changed(|g| {
-            far(g);
-            steep(g)
-        })),
-        3
-    );
-    assert_eq!(
-        refusal(&changed(|g| {
-            far(g);
-            wide(g)
-        })),
-        3
-    );
-    assert_eq!(
-        refusal(&changed(|g| {
-            wide(g);
-            g.delays.gd = i64::MAX
-        })),
-        2
-    );
+    for first in 2..=6 {
+        for second in first..=6 {
+            expect(first, |g| {
+                spoil(g, first);
+                spoil(g, second);
+            });
+        }
+    }
+    expect(0, |g| g.columns[4] = [999_949, -999_949, -999_949, 999_949].repeat(13));
 }
 
 #[test]
