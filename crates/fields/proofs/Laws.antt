@@ -10,7 +10,7 @@ use lib.ListN.{length, take, drop, set, getD, length-append}
 use lib.Seq.{take-suc, take-length, drop-length}
 use lib.IntN.{ℤ, pos, negsuc, negℤ, natAbs}
 use borrow.Rule.Slice.PartMut.{putMid, midOf}
-use Rattle.fields.specs.Text.{decimal, sign, signed, total}
+use Rattle.fields.specs.Text.{decimal, sign, signed, hexadecimal, total}
 use Rattle.fields.specs.Read.{digitsAfter, readDecimal, readSigned}
 use Rattle.fields.proofs.Lists.{drop-set-same}
 
@@ -39,6 +39,15 @@ unfolding decimal
 length-decimal zero n = refl
 length-decimal (suc columns) n =
     length-append (decimal columns (n / 10)) ((48 + n % 10) ∷ []) ∙ omega (arith, length-decimal columns (n / 10))
+
+pub length-signed : (columns : ℕ) (z : ℤ) → length (signed columns z) ≡ columns
+unfolding signed
+length-signed zero z = refl
+length-signed (suc columns) z = ap suc (length-decimal columns (natAbs z))
+
+pub length-hexadecimal : (n : ℕ) → length (hexadecimal n) ≡ 2
+unfolding hexadecimal
+length-hexadecimal n = refl
 
 total-append : (xs ys : List ℕ) → total (xs ++ ys) ≡ total xs + total ys
 unfolding total
