@@ -1,6 +1,6 @@
 -- What an answer 0 of Line tells: no condition of a refusal holds.
 -- Assumes nothing.
-use mathlib.Core.Path.{_≡_, ap, ap₂, _∙_}
+use mathlib.Core.Path.{_≡_, sym, ap, ap₂, _∙_}
 use mathlib.Core.List.{List, _++_}
 use mathlib.Core.Bool.{Bool, true, false, not, _||_}
 use Prim.Native.Nat.{ℕ, _≤_}
@@ -50,9 +50,13 @@ pub kept : (l : Labels) (n : Numbers) (lent : List ℕ) → (lineAnswer l n (len
 unfolding lineAfter
 kept l n lent h = simp (ne-eqb (lineAnswer l n (length lent)) 0 h)
 
+pub after-is : (l : Labels) (n : Numbers) (lent : List ℕ) → lineAnswer l n (length lent) ≡ 0 → lineAfter l n lent ≡ lineText l n ++ drop lineLength lent
+unfolding lineAfter
+after-is l n lent e = simp (eq-eqb (lineAnswer l n (length lent)) 0 e)
+
 pub written : (l : Labels) (n : Numbers) (lent text after : List ℕ) → lineAnswer l n (length lent) ≡ 0 → text ≡ lineText l n
     → after ≡ take (length text) text ++ drop (length text) lent → after ≡ lineAfter l n lent
-unfolding lineAfter
 written l n lent text after e t a =
-    simp (eq-eqb (lineAnswer l n (length lent)) 0 e)
-    (a ∙ ap₂ (λ (x : List ℕ) (k : ℕ). x ++ drop k lent) (take-length text ∙ t) (ap length t ∙ line-width l n))
+    a
+    ∙ ap₂ (λ (x : List ℕ) (k : ℕ). x ++ drop k lent) (take-length text ∙ t) (ap length t ∙ line-width l n)
+    ∙ sym (after-is l n lent e)

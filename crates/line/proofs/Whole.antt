@@ -12,7 +12,7 @@ use Rattle.line.specs.declared.Numbers.{Numbers}
 use Rattle.line.specs.Placed.{Put}
 use Rattle.line.specs.Text.{lineLength, trackColumns, clockColumns, delayColumns, columns, spaced, lineText}
 use Rattle.line.proofs.Placing.{onto, placed-whole, placed-front}
-use Rattle.line.proofs.Widths.{track-width, clock-width, columns-width, groups}
+use Rattle.line.proofs.Widths.{width, track-sized, clock-sized, columns-width, groups}
 
 module _ (l : Labels) (n : Numbers) (blank : List ℕ) (long : length blank ≡ lineLength) where
   -- columns 1 to 111
@@ -20,8 +20,8 @@ module _ (l : Labels) (n : Numbers) (blank : List ℕ) (long : length blank ≡ 
       → Put d₂ d₃ 77 (spaced (delayColumns l n)) → Put blank d₃ 0 (spaced (columns l n))
   all-columns {d₁} {d₂} {d₃} p q r =
       subst (Put blank d₃ 0) (groups l n)
-      (onto long (omega arith) (ap (λ (k : ℕ). 0 + k) (track-width l (n .trkl))) p
-      (onto (p .long) (omega arith) (ap (λ (k : ℕ). 34 + k) (clock-width n)) q r))
+      (onto long (omega arith) (ap (λ (k : ℕ). 0 + k) (width (track-sized l (n .trkl)))) p
+      (onto (p .long) (omega arith) (ap (λ (k : ℕ). 34 + k) (width (clock-sized n))) q r))
 
   pub text-is : {d₁ d₂ d₃ d₄ : List ℕ} {sum : ℕ} → Put blank d₁ 0 (spaced (trackColumns l (n .trkl))) → Put d₁ d₂ 34 (spaced (clockColumns n))
       → Put d₂ d₃ 77 (spaced (delayColumns l n)) → sum ≡ checksum (take 111 d₃) → Put d₃ d₄ 111 (hexadecimal sum) → d₄ ≡ lineText l n

@@ -1,6 +1,7 @@
 -- The labels' ranges and the track length (document 01, "The line's columns").
 -- Assumes nothing.
 use Prim.Native.Nat.{ℕ}
+use Prim.Native.Char.{code}
 use mathlib.Core.Bool.{Bool, _&&_, _||_}
 use lib.Dec.{leb, eqb}
 use Rattle.line.specs.declared.Labels.{Labels}
@@ -8,15 +9,15 @@ use Rattle.line.specs.declared.Labels.{Labels}
 -- The constellation letters G, R, E, C and J, and each one's ranges of IOE and FR.
 unfoldable pub constellationFits : (letter ioe fr : ℕ) → Bool
 constellationFits letter ioe fr =
-    eqb letter 71 && leb ioe 255 && eqb fr 0
-    || eqb letter 82 && leb 1 ioe && leb ioe 96 && leb 1 fr && leb fr 24
-    || eqb letter 69 && leb ioe 999 && eqb fr 0
-    || eqb letter 67 && leb ioe 23 && eqb fr 0
-    || eqb letter 74 && leb ioe 255 && eqb fr 0
+    eqb letter (code "G") && leb ioe 255 && eqb fr 0
+    || eqb letter (code "R") && leb 1 ioe && leb ioe 96 && leb 1 fr && leb fr 24
+    || eqb letter (code "E") && leb ioe 999 && eqb fr 0
+    || eqb letter (code "C") && leb ioe 23 && eqb fr 0
+    || eqb letter (code "J") && leb ioe 255 && eqb fr 0
 
 -- A character of FRC: A to Z or 0 to 9.
 unfoldable pub codeFits : ℕ → Bool
-codeFits c = leb 65 c && leb c 90 || leb 48 c && leb c 57
+codeFits c = leb (code "A") c && leb c (code "Z") || leb (code "0") c && leb c (code "9")
 
 -- All labels but the date and the start, which the start test judges. CL is any byte.
 unfoldable pub labelsFit : Labels → Bool

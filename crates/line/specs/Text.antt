@@ -2,6 +2,7 @@
 -- of all that in the last two. It is a line only where labels and numbers are accepted.
 -- Assumes nothing.
 use Prim.Native.Nat.{ℕ, _/_, _%_}
+use Prim.Native.Char.{code}
 use mathlib.Core.List.{List, [], _∷_, _++_}
 use lib.IntN.{ℤ, natAbs}
 use Rattle.fields.specs.Text.{decimal, signed, hexadecimal, checksum}
@@ -55,10 +56,10 @@ delayColumns l n =
 unfoldable pub columns : Labels → Numbers → List (List ℕ)
 columns l n = trackColumns l (n .trkl) ++ (clockColumns n ++ delayColumns l n)
 
--- Columns with a space (32) behind each.
+-- Columns with a space behind each.
 unfoldable pub spaced : List (List ℕ) → List ℕ
 spaced [] = []
-spaced (c ∷ cs) = c ++ 32 ∷ spaced cs
+spaced (c ∷ cs) = c ++ code " " ∷ spaced cs
 
 -- Columns 1 to 113.
 unfoldable pub lineText : Labels → Numbers → List ℕ

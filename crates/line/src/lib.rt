@@ -6,6 +6,7 @@ ghost use lib.ListN.{length};
 ghost use Rattle.line.specs.Line.{lineAnswer, lineAfter};
 
 mod columns;
+pub mod exports;
 mod ranges;
 
 // The labels of a track, in the order of the hire block.
