@@ -1,0 +1,6 @@
+pub mod Labels
+pub mod Text
+pub mod Line
+pub mod Columns
+pub mod Given
+pub mod Placed
