@@ -1,9 +1,9 @@
--- What an answer 0 tells: no condition held, and a number that is not outside its limits is inside them.
+-- The order of refusals, and what an answer 0 tells: no condition held, and a number that is not outside its limits is inside them.
 -- Assumes nothing.
 use mathlib.Core.Path.{_≡_, refl}
 use mathlib.Core.Bool.{Bool, true, false, _||_, true≢false}
-use Prim.Native.Nat.{ℕ, zero, suc, _≤_, suc-le-suc}
-use native.Mathlib.Nat.{suc-ne-zero}
+use Prim.Native.Nat.{ℕ, zero, suc, _≤_, _<_, suc-le-suc}
+use native.Mathlib.Nat.{suc-ne-zero, not-suc-le-zero}
 use lib.IntN.{ℤ, pos, negsuc, natAbs}
 use lib.Dec.{ltb, eqb·suc-zero}
 use borrow.Author.Tests.{ltb-false}
@@ -15,6 +15,16 @@ pub then-zero : (first next : ℕ) → first then next ≡ 0 → (first ≡ 0) �
 unfolding _then_
 then-zero zero next e = (refl, e)
 then-zero (suc first) next e = absurd (suc-ne-zero first (rw (eqb·suc-zero first) at e))
+
+-- a refusal stands before what comes next
+pub then-refused : (first next : ℕ) → 0 < first → first then next ≡ first
+unfolding _then_
+then-refused zero next h = absurd (not-suc-le-zero h)
+then-refused (suc first) next h = rw (eqb·suc-zero first)
+
+pub then-passed : (first next : ℕ) → first ≡ 0 → first then next ≡ next
+unfolding _then_
+then-passed first next e = rw e
 
 pub when-zero : (number : ℕ) (condition : Bool) → suc number when condition ≡ 0 → condition ≡ false
 unfolding _when_

@@ -4,3 +4,4 @@ pub mod Whole
 pub mod Accepted
 pub mod ReadBack
 pub mod Sample
+pub mod Blocks

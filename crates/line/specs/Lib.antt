@@ -4,3 +4,4 @@ pub mod Line
 pub mod Columns
 pub mod Given
 pub mod Placed
+pub mod Block

@@ -1,8 +1,10 @@
-// What C calls: the start test and Line, with numbers and a lent line. include/trackline.h declares them.
+// What C calls: the start test, Line and Block, with numbers and byte slices. include/trackline.h declares them.
 ghost use mathlib.Core.Path.{_≡_};
 ghost use lib.ListN.{length};
 ghost use Rattle.schedule.specs.Schedule.{startRule};
+ghost use Rattle.exact.specs.Accurate.{AccurateTrack};
 ghost use Rattle.line.specs.Line.{lineAnswer, lineAfter};
+ghost use Rattle.line.specs.Block.{blockGiven, blockAnswer, blockAfter, readFigures};
 ghost use Rattle.line.specs.Given.{labelsOf, numbersOf};
 use crate::Labels;
 use crate::Numbers;
@@ -13,6 +15,15 @@ pub extern "C" fn trackline_start(mjd: u32, second: u32) -> u32
     ensures { λ r. ⌜ r ≡ startRule mjd second ⌝ }
 {
     schedule::start(mjd, second)
+}
+
+#[no_mangle]
+pub extern "C" fn trackline_block(block: &[u8], lent: &mut [u8]) -> u32
+    ensures answer { λ r. ⌜ r ≡ blockAnswer (now (block .entry)) (length (now (lent .entry))) ⌝ }
+    ensures written { λ _. ⌜ now (lent .exit) ≡ blockAfter (now (block .entry)) (now (lent .entry)) ⌝ }
+    ensures accurate { λ r. ⌜ (r ≡ 0 → AccurateTrack 52 (blockGiven (now (block .entry))) (readFigures (now (lent .exit)))) ⌝ }
+{
+    crate::block(block, lent)
 }
 
 #[no_mangle]

@@ -1,12 +1,17 @@
-// Line: labels and the ten numbers of a track become one data line of 113 columns in a lent line.
-// It refuses labels, starts and numbers that the columns cannot hold, and a lent line that is too short, by the numbers and in the
-// order of document 01. Nothing is written before everything is accepted, and nothing behind the 113 columns.
+// Line and Block: labels and the ten numbers of a track, or a hire block, become one data line of 113 columns in a lent line.
+// They refuse labels, starts and numbers that the columns cannot hold, a lent line that is too short, and, in a block, what Track
+// refuses, by the numbers and in the order of document 01. Nothing is written before everything is accepted, and nothing behind the
+// 113 columns.
 ghost use mathlib.Core.Path.{_≡_};
 ghost use lib.ListN.{length};
+ghost use Rattle.exact.specs.Accurate.{AccurateTrack};
 ghost use Rattle.line.specs.Line.{lineAnswer, lineAfter};
+ghost use Rattle.line.specs.Block.{blockGiven, blockAnswer, blockAfter, readFigures};
+use decode::unsigned16;
 
 mod columns;
 pub mod exports;
+mod hire;
 mod ranges;
 
 // The labels of a track, in the order of the hire block.
@@ -51,4 +56,25 @@ pub fn line(labels: Labels, numbers: Numbers, lent: &mut [u8]) -> u32
     let text = columns::text(labels, numbers);
     bytes::copy(&text, lent);
     0
+}
+
+// The line of a hire block: what it is refused for, else its line in the lent one.
+pub fn block(block: &[u8], lent: &mut [u8]) -> u32
+    ensures answer { λ r. ⌜ r ≡ blockAnswer (now (block .entry)) (length (now (lent .entry))) ⌝ }
+    ensures written { λ _. ⌜ now (lent .exit) ≡ blockAfter (now (block .entry)) (now (lent .entry)) ⌝ }
+    ensures accurate { λ r. ⌜ (r ≡ 0 → AccurateTrack 52 (blockGiven (now (block .entry))) (readFigures (now (lent .exit)))) ⌝ }
+{
+    if block.len() != 8378 {
+        return 11;
+    }
+    if (unsigned16(block, 0) != 780) | (unsigned16(block, 2) != 52) {
+        return 1;
+    }
+    let tracked = hire::track(block);
+    let refusal = tracked.refusal;
+    if refusal != 0 {
+        return refusal;
+    }
+    let record = tracked.record;
+    line(hire::labels(block), hire::numbers(record), lent)
 }
