@@ -41,6 +41,11 @@ unfolding little
 two-bytes at bytes h =
     rw (drop-cons bytes at 0 (omega arith), drop-cons bytes (suc at) 0 (omega arith), add-one) (omega arith)
 
+-- a number of one byte
+pub one-byte : (at : ℕ) (bytes : List ℕ) → at < length bytes → getD bytes at 0 ≡ unsignedAt 1 bytes at
+unfolding little unsignedAt
+one-byte at bytes h = simp (le-leb (at + 1) (length bytes) (omega arith)) (rw (drop-cons bytes at 0 h) (omega arith))
+
 -- ---- whether a number lies within the bytes, by a difference
 
 pub lies-at : (at width end : ℕ) → at ≤ end → leb width (end - at) ≡ leb (at + width) end

@@ -15,6 +15,13 @@ fn lies(bytes: &[u8], at: usize, width: usize) -> bool
     at <= bytes.len() && width <= bytes.len() - at
 }
 
+// The byte at the offset.
+pub fn unsigned8(bytes: &[u8], at: usize) -> u8
+    ensures { λ r. ⌜ r ≡ unsignedAt 1 (now (bytes .entry)) at ⌝ }
+{
+    if at < bytes.len() { bytes[at] } else { 0 }
+}
+
 // The unsigned numbers of two, four and eight bytes.
 pub fn unsigned16(bytes: &[u8], at: usize) -> u16
     ensures { λ r. ⌜ r ≡ unsignedAt 2 (now (bytes .entry)) at ⌝ }

@@ -7,6 +7,7 @@ ghost use Rattle.line.specs.Line.{lineAnswer, lineAfter};
 
 mod columns;
 pub mod exports;
+mod hire;
 mod ranges;
 
 // The labels of a track, in the order of the hire block.
@@ -40,6 +41,7 @@ pub struct Numbers {
     pub trkl: i64,
 }
 
+// Line of document 01. It answers 0 with the line in the first 113 bytes of the lent one, or the number of the first refusal.
 pub fn line(labels: Labels, numbers: Numbers, lent: &mut [u8]) -> u32
     ensures answer { λ r. ⌜ r ≡ lineAnswer labels numbers (length (now (lent .entry))) ⌝ }
     ensures written { λ _. ⌜ now (lent .exit) ≡ lineAfter labels numbers (now (lent .entry)) ⌝ }
