@@ -1,4 +1,5 @@
-// The columns of a line, written into 113 bytes. A writer of a column also writes the space that ends it.
+// The columns of a line, written into 113 bytes. A writer of a column also writes the space that ends it. Offsets count from 0, so they
+// are one less than the columns of document 01.
 ghost use mathlib.Core.Path.{_≡_};
 ghost use mathlib.Core.List.{[], _∷_};
 ghost use Prim.Native.Nat.{_+_, _≤_, _<_};
@@ -10,6 +11,7 @@ use crate::Labels;
 use crate::Numbers;
 use fields::magnitude;
 
+// Digits in a part of the bytes, with no space behind them.
 fn digits_at(bytes: &mut [u8], at: usize, width: usize, value: u64)
     requires { ⌜ at + width ≤ length (now bytes) ⌝ }
     ensures { λ _. ⌜ now (bytes .exit) ≡ placed (now (bytes .entry)) at (decimal width value) ⌝ }
@@ -54,6 +56,7 @@ fn put_signed(line: &mut [u8; 113], at: usize, width: usize, value: i64)
     put_byte(line, at + width, b' ');
 }
 
+// Two hexadecimal digits, with no space behind them.
 fn put_hexadecimal(line: &mut [u8; 113], at: usize, value: u8)
     requires { ⌜ (length (now line) ≡ lineLength) × (at + 2 ≤ lineLength) ⌝ }
     ensures { λ _. ⌜ Put (now (line .entry)) (now (line .exit)) at (hexadecimal value) ⌝ }
@@ -62,6 +65,7 @@ fn put_hexadecimal(line: &mut [u8; 113], at: usize, value: u8)
     put_byte(line, at + 1, fields::hex_digit(value));
 }
 
+// Columns 1 to 4.
 fn put_satellite(line: &mut [u8; 113], constellation: u8, satellite: u8)
     requires { ⌜ length (now line) ≡ lineLength ⌝ }
     ensures { λ _. ⌜ Put (now (line .entry)) (now (line .exit)) 0 (ended (constellation ∷ decimal 2 satellite)) ⌝ }
@@ -70,6 +74,7 @@ fn put_satellite(line: &mut [u8; 113], constellation: u8, satellite: u8)
     put_decimal(line, 1, 2, satellite as u64);
 }
 
+// Columns 5 to 7.
 fn put_class(line: &mut [u8; 113], cl: u8)
     requires { ⌜ length (now line) ≡ lineLength ⌝ }
     ensures { λ _. ⌜ Put (now (line .entry)) (now (line .exit)) 4 (ended (hexadecimal cl)) ⌝ }
@@ -78,6 +83,7 @@ fn put_class(line: &mut [u8; 113], cl: u8)
     put_byte(line, 6, b' ');
 }
 
+// Columns 14 to 20: the start as hhmmss.
 fn put_clock(line: &mut [u8; 113], second: u32)
     requires { ⌜ length (now line) ≡ lineLength ⌝ }
     ensures { λ _. ⌜ Put (now (line .entry)) (now (line .exit)) 13 (ended (clock second)) ⌝ }
@@ -87,6 +93,7 @@ fn put_clock(line: &mut [u8; 113], second: u32)
     put_decimal(line, 17, 2, (second % 60) as u64);
 }
 
+// Columns 108 to 111.
 fn put_code(line: &mut [u8; 113], frc1: u8, frc2: u8, frc3: u8)
     requires { ⌜ length (now line) ≡ lineLength ⌝ }
     ensures { λ _. ⌜ Put (now (line .entry)) (now (line .exit)) 107 (ended (frc1 ∷ frc2 ∷ frc3 ∷ [])) ⌝ }

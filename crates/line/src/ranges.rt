@@ -8,6 +8,7 @@ use limits::outside;
 use limits::then;
 use limits::when;
 
+// Whether the letter is a constellation's, and IOE and FR are in its ranges.
 fn constellation_fits(letter: u8, ioe: u16, fr: u8) -> bool
     ensures { λ r. ⌜ r ≡ constellationFits letter ioe fr ⌝ }
 {
@@ -18,12 +19,14 @@ fn constellation_fits(letter: u8, ioe: u16, fr: u8) -> bool
         | (letter == b'J') & (ioe <= 255) & (fr == 0)
 }
 
+// Whether c may stand in FRC.
 fn code_fits(c: u8) -> bool
     ensures { λ r. ⌜ r ≡ codeFits c ⌝ }
 {
     (b'A' <= c) & (c <= b'Z') | (b'0' <= c) & (c <= b'9')
 }
 
+// Whether all labels are in range but the date and the start.
 fn labels_fit(labels: Labels) -> bool
     ensures { λ r. ⌜ r ≡ labelsFit labels ⌝ }
 {
@@ -40,6 +43,7 @@ const TRACK_LENGTH: i64 = 780;
 
 const LINE_LENGTH: usize = 113;
 
+// The first refusal, or 0; room is the length of the lent line.
 pub fn answer(labels: Labels, numbers: Numbers, room: usize) -> u32
     ensures { λ r. ⌜ r ≡ lineAnswer labels numbers room ⌝ }
 {

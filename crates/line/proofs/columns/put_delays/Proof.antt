@@ -83,9 +83,9 @@ returns c =
           (begin (delayColumns (a .args .labels) (a .args .numbers)) (a .args .line .now) 77 (a .pre) (omega arith))
           (ioe .put-decimal .ensures))
           (simp (mdtr .before .magnitude .ensures, toZ-ofZ (f .0)) at (mdtr .put-decimal2 .ensures)))
-          (simp (toZ-ofZ (f .1)) at (smdt .put-signed .ensures)))
+          (simp (toZ-ofZ (f .1), toZ-ofZ (f .3)) at (smdt .put-signed .ensures)))
           (simp (mdio .before .magnitude2 .ensures, toZ-ofZ (f .2)) at (mdio .put-decimal3 .ensures)))
-          (simp (toZ-ofZ (f .3)) at (smdi .put-signed2 .ensures)))
+          (simp (toZ-ofZ (f .1), toZ-ofZ (f .3)) at (smdi .put-signed2 .ensures)))
           (fr .put-decimal4 .ensures))
           (hc .put-decimal5 .ensures))
           (c .put-code .ensures));

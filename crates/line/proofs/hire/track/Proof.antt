@@ -1,85 +1,63 @@
+-- `line::hire::track` meets its contract: what Track is given are the numbers of the block.
+-- Assumes nothing.
 use borrow.Author.Needs.{needs}
 use mathlib.Core.Path.{_∙_}
 use Rattle.whole.specs.Words.{back-of}
 use Rattle.line.specs.Block.{blockGiven}
 use Rattle.line.proofs.hire.track.Statement.{statement}
 use Rattle.line.proofs.hire.track.Tie as tie
-use Rattle.line.proofs.hire.track.Reads as reads
-use Rattle.line.proofs.hire.track.Lts as lts
-use Rattle.decode.proofs.signed64.Reads as signed64-reads
-use Rattle.fit.proofs.track.Reads as track-reads
-use Rattle.line.proofs.hire.column.Reads as column-reads
-use Rattle.line.proofs.hire.seconds.Reads as seconds-reads
 
--- src/hire.rt:77:24
 seconds-requires : tie.Need-seconds-requires
 seconds-requires c κs = search needs
 
--- src/hire.rt:78:20
 column-requires : tie.Need-column-requires
 column-requires c κs = search needs
 
--- src/hire.rt:79:22
 column-requires-2 : tie.Need-column-requires-2
 column-requires-2 c κs = search needs
 
--- src/hire.rt:80:22
 column-requires-3 : tie.Need-column-requires-3
 column-requires-3 c κs = search needs
 
--- src/hire.rt:81:23
 column-requires-4 : tie.Need-column-requires-4
 column-requires-4 c κs = search needs
 
--- src/hire.rt:82:17
 column-requires-5 : tie.Need-column-requires-5
 column-requires-5 c κs = search needs
 
--- src/hire.rt:84:9
 slice-aggregate-track : tie.Need-slice-aggregate-track
 slice-aggregate-track c = search needs
 
--- src/hire.rt:85:9
 signed64-requires : tie.Need-signed64-requires
 signed64-requires c κs = search needs
 
--- src/hire.rt:86:9
 signed64-requires-2 : tie.Need-signed64-requires-2
 signed64-requires-2 c κs = search needs
 
--- src/hire.rt:87:9
 signed64-requires-3 : tie.Need-signed64-requires-3
 signed64-requires-3 c κs = search needs
 
--- src/hire.rt:88:9
 signed64-requires-4 : tie.Need-signed64-requires-4
 signed64-requires-4 c κs = search needs
 
--- src/hire.rt:89:9
 slice-aggregate-track-2 : tie.Need-slice-aggregate-track-2
 slice-aggregate-track-2 c = search needs
 
--- src/hire.rt:90:9
 slice-aggregate-track-3 : tie.Need-slice-aggregate-track-3
 slice-aggregate-track-3 c = search needs
 
--- src/hire.rt:91:9
 slice-aggregate-track-4 : tie.Need-slice-aggregate-track-4
 slice-aggregate-track-4 c = search needs
 
--- src/hire.rt:92:9
 slice-aggregate-track-5 : tie.Need-slice-aggregate-track-5
 slice-aggregate-track-5 c = search needs
 
--- src/hire.rt:93:9
 slice-aggregate-track-6 : tie.Need-slice-aggregate-track-6
 slice-aggregate-track-6 c = search needs
 
--- src/hire.rt:83:5
 track-requires : tie.Need-track-requires
 track-requires c κs = search needs
 
--- src/hire.rt:73:1
 returns : tie.Need-returns
 unfolding blockGiven
 returns c =
