@@ -17,39 +17,39 @@ lineLength = 113
 unfoldable pub clock : ℕ → List ℕ
 clock second = decimal 2 (second / 3600) ++ (decimal 2 (second / 60 % 60) ++ decimal 2 (second % 60))
 
--- Columns 1 to 33: the satellite, the class, the date, the start, the track length, and the satellite's direction.
+-- Columns 1 to 33: the constellation and the satellite, the class, the date, the start, the track length, and the satellite's direction.
 unfoldable pub trackColumns : Labels → (trkl : ℤ) → List (List ℕ)
 trackColumns l trkl =
-    (l .constellation ∷ decimal 2 (l .satellite))
-    ∷ hexadecimal (l .cl)
-    ∷ decimal 5 (l .mjd)
-    ∷ clock (l .start)
-    ∷ decimal 4 (natAbs trkl)
-    ∷ decimal 3 (l .elv)
-    ∷ decimal 4 (l .azth)
+    (l .constellation ∷ decimal 2 (l .satellite))  -- 1, 2-3
+    ∷ hexadecimal (l .cl)  -- 5-6 CL
+    ∷ decimal 5 (l .mjd)  -- 8-12 MJD
+    ∷ clock (l .start)  -- 14-19 start
+    ∷ decimal 4 (natAbs trkl)  -- 21-24 TRKL
+    ∷ decimal 3 (l .elv)  -- 26-28 ELV
+    ∷ decimal 4 (l .azth)  -- 30-33 AZTH
     ∷ []
 
 -- Columns 35 to 76: the two clocks, their slopes, and the scatter.
 unfoldable pub clockColumns : Numbers → List (List ℕ)
 clockColumns n =
-    signed 11 (n .refsv)
-    ∷ signed 6 (n .srsv)
-    ∷ signed 11 (n .refsys)
-    ∷ signed 6 (n .srsys)
-    ∷ decimal 4 (natAbs (n .dsg))
+    signed 11 (n .refsv)  -- 35-45 REFSV
+    ∷ signed 6 (n .srsv)  -- 47-52 SRSV
+    ∷ signed 11 (n .refsys)  -- 54-64 REFSYS
+    ∷ signed 6 (n .srsys)  -- 66-71 SRSYS
+    ∷ decimal 4 (natAbs (n .dsg))  -- 73-76 DSG
     ∷ []
 
 -- Columns 78 to 110: the ephemeris, the delays of the air, their slopes, the channels, and the observation code.
 unfoldable pub delayColumns : Labels → Numbers → List (List ℕ)
 delayColumns l n =
-    decimal 3 (l .ioe)
-    ∷ decimal 4 (natAbs (n .mdtr))
-    ∷ signed 4 (n .smdt)
-    ∷ decimal 4 (natAbs (n .mdio))
-    ∷ signed 4 (n .smdi)
-    ∷ decimal 2 (l .fr)
-    ∷ decimal 2 (l .hc)
-    ∷ (l .frc1 ∷ l .frc2 ∷ l .frc3 ∷ [])
+    decimal 3 (l .ioe)  -- 78-80 IOE
+    ∷ decimal 4 (natAbs (n .mdtr))  -- 82-85 MDTR
+    ∷ signed 4 (n .smdt)  -- 87-90 SMDT
+    ∷ decimal 4 (natAbs (n .mdio))  -- 92-95 MDIO
+    ∷ signed 4 (n .smdi)  -- 97-100 SMDI
+    ∷ decimal 2 (l .fr)  -- 102-103 FR
+    ∷ decimal 2 (l .hc)  -- 105-106 HC
+    ∷ (l .frc1 ∷ l .frc2 ∷ l .frc3 ∷ [])  -- 108-110 FRC
     ∷ []
 
 -- All columns but the last two.
@@ -61,6 +61,6 @@ unfoldable pub spaced : List (List ℕ) → List ℕ
 spaced [] = []
 spaced (c ∷ cs) = c ++ code " " ∷ spaced cs
 
--- Columns 1 to 113.
+-- All 113 columns, 112-113 being CK.
 unfoldable pub lineText : Labels → Numbers → List ℕ
 lineText l n = spaced (columns l n) ++ hexadecimal (checksum (spaced (columns l n)))
