@@ -1,0 +1,108 @@
+-- Laws of texts at the front of a buffer (specs/Printed.antt), and how long what is printed can be.
+-- Assumes nothing.
+use mathlib.Core.Path.{_≡_, refl, sym, ap, _∙_, subst}
+use mathlib.Core.List.{List, [], _∷_, _++_, append-assoc, append-nil}
+use Prim.Native.Nat.{ℕ, suc, _+_, _/_, _%_, _≤_, _<_}
+use native.Mathlib.Nat.{le-of-eq}
+use native.Mathlib.Omega.{arith}
+use native.Mathlib.Decide.{decLt, ℕ-discrete}
+use lib.ListN.{length, take, drop, length-append, length-drop, drop-of-length-le}
+use lib.Seq.{take-length, take-at}
+use lib.Dec.{lit≤}
+use borrow.Author.Tests.{lt-ltb, le-ltb, eq-eqb, ne-eqb}
+use Rattle.fields.specs.Text.{decimal}
+use Rattle.line.specs.Text.{lineLength, lineText}
+use Rattle.line.specs.Block.{blockLabels, blockGiven, numbersIn, blockAnswer, blockAfter}
+use Rattle.line.proofs.Widths.{line-width}
+use Rattle.fit.specs.Track.{results}
+use Rattle.trackline.specs.Printed.{refusal, answer, printed, Text, Pushed}
+
+-- ---- texts
+
+-- a text copied to the front
+pub copied : (text out after : List ℕ) (n : ℕ) → n ≡ length text → length text ≤ 115 → length out ≡ 115
+    → after ≡ take (length text) text ++ drop (length text) out → Text after n text
+copied text out after n e h l a =
+    let is : after ≡ text ++ drop (length text) out = a ∙ ap (λ (x : List ℕ). x ++ drop (length text) out) (take-length text) in
+    record {
+      is = ap (take n) is ∙ take-at text (drop (length text) out) n (sym e);
+      ends = e;
+      long = ap length is ∙ simp (length-append, length-drop) (omega arith);
+    }
+
+-- one byte more
+pub pushed : {before after text : List ℕ} {at byte next : ℕ} → Text before at text → Pushed before after at byte next
+    → Text after next (text ++ byte ∷ [])
+pushed {text = text} {byte = byte} t p =
+    record {
+      is = p .is ∙ ap (λ (x : List ℕ). x ++ byte ∷ []) (t .is);
+      ends = p .next-is ∙ simp (length-append) (omega (arith, t .ends));
+      long = p .long ∙ t .long;
+    }
+
+pub retext : {out text text′ : List ℕ} {end : ℕ} → Text out end text → text ≡ text′ → Text out end text′
+retext {out} {end = end} t e = subst (λ (x : List ℕ). Text out end x) e t
+
+-- ---- the refusal
+
+-- what stands before the number
+abbrev pub refusedText : List ℕ
+refusedText = 114 ∷ 101 ∷ 102 ∷ 117 ∷ 115 ∷ 101 ∷ 100 ∷ 32 ∷ []
+
+pub one-digit : (number : ℕ) → number < 10 → refusedText ++ (48 + number % 10) ∷ [] ≡ refusal number
+unfolding refusal decimal
+one-digit number h = rw (lt-ltb number 10 h)
+
+pub two-digits : (number : ℕ) → 10 ≤ number → (refusedText ++ (48 + number / 10 % 10) ∷ []) ++ (48 + number % 10) ∷ [] ≡ refusal number
+unfolding refusal decimal
+two-digits number h = rw (le-ltb number 10 h)
+
+refusal-length : (number : ℕ) → length (refusal number) ≤ 10
+refusal-length number = go (decLt number 10)
+  where
+    go : Dec (number < 10) → length (refusal number) ≤ 10
+    go (yes h) = subst (λ (x : List ℕ). length x ≤ 10) (one-digit number h) (lit≤ tt)
+    go (no h) = subst (λ (x : List ℕ). length x ≤ 10) (two-digits number (omega arith)) (lit≤ tt)
+
+-- ---- the answer
+
+pub refused-answer : (b : List ℕ) (number : ℕ) → number ≡ blockAnswer b lineLength → (number ≡ 0 → ⊥) → refusal number ≡ answer b
+unfolding answer
+refused-answer b number e h = rw (← e, ne-eqb number 0 h)
+
+-- the text of the block's line
+abbrev text : List ℕ → List ℕ
+text b = lineText (blockLabels b) (numbersIn (results (blockGiven b)))
+
+accepted-answer : (b : List ℕ) → blockAnswer b lineLength ≡ 0 → answer b ≡ text b
+unfolding answer
+accepted-answer b e = rw (eq-eqb (blockAnswer b lineLength) 0 e)
+
+pub written-answer : (b lent after : List ℕ) → length lent ≡ lineLength → blockAnswer b (length lent) ≡ 0 → after ≡ blockAfter b lent
+    → after ≡ answer b
+unfolding blockAfter
+written-answer b lent after l e a =
+    a
+    ∙ rw (eq-eqb (blockAnswer b (length lent)) 0 e) (ap (λ (x : List ℕ). text b ++ x) (drop-of-length-le lent (le-of-eq l)))
+    ∙ append-nil (text b)
+    ∙ sym (accepted-answer b (ap (blockAnswer b) (sym l) ∙ e))
+
+pub answer-length : (b : List ℕ) → length (answer b) ≤ 113
+answer-length b = go (ℕ-discrete (blockAnswer b lineLength) 0)
+  where
+    go : Dec (blockAnswer b lineLength ≡ 0) → length (answer b) ≤ 113
+    go (yes e) = omega (arith, ap length (accepted-answer b e) ∙ line-width (blockLabels b) (numbersIn (results (blockGiven b))))
+    go (no h) =
+        omega (arith, ap length (refused-answer b (blockAnswer b lineLength) refl h), refusal-length (blockAnswer b lineLength))
+
+-- there is room for what is printed
+pub room : (b : List ℕ) {out : List ℕ} {end : ℕ} → Text out end (answer b) → end ≤ 113
+room b t = omega (arith, t .ends, answer-length b)
+
+pub printed-is : (b : List ℕ) → (answer b ++ 13 ∷ []) ++ 10 ∷ [] ≡ printed b
+unfolding printed
+printed-is b = append-assoc (answer b) (13 ∷ []) (10 ∷ [])
+
+pub printed-room : (b : List ℕ) {out : List ℕ} {end : ℕ} → Text out end (printed b) → end ≤ length out
+unfolding printed
+printed-room b t = omega (arith, t .ends, t .long, answer-length b, length-append (answer b) (13 ∷ 10 ∷ []))
