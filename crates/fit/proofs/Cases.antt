@@ -13,7 +13,6 @@ use Rattle.limits.specs.Limits.{outside, dsgRule}
 use Rattle.exact.specs.Places.{place}
 use Rattle.exact.specs.Weights.{weights}
 use Rattle.fit.specs.Lists.{anyOutside, listRule}
-use Rattle.fit.specs.Answers.{Reply, reply}
 use Rattle.fit.specs.Smooth.{smoothed, smoothRule}
 use Rattle.fit.specs.Fit.{total, moment, midpoint, slope, fitRule}
 use Rattle.fit.specs.Scatter.{residual, squares, edge, climb, dsg, scatterRule}

@@ -2,18 +2,14 @@
 -- Assumes nothing.
 use borrow.Author.Needs.{needs}
 use mathlib.Core.Path.{_≡_, sym, ap, _∙_}
-use Prim.Native.Nat.{_*_, _^_, _<_}
+use Prim.Native.Nat.{_^_, _<_}
 use native.Mathlib.Omega.{arith}
 use native.Mathlib.Nat.{le-refl}
 use lib.Dec.{lit<}
-use lib.IntN.{ℤ, pos, negsuc, _*ℤ_}
-use mir.Syntax.{w64}
-use mir.Val.{toZ, ofZ}
-use Rattle.whole.specs.Sum.{sum}
+use lib.IntN.{ℤ, pos, negsuc}
 use Rattle.whole.specs.Nearest.{nearest}
 use Rattle.whole.specs.Words.{Word, known, equal, back-of, bound, plain-is, bounds}
 use Rattle.exact.specs.Corrected.{at}
-use Rattle.exact.specs.Weights.{weights}
 use Rattle.fit.specs.Lists.{listRule}
 use Rattle.fit.specs.Smooth.{smoothed, smoothRule}
 use Rattle.fit.proofs.Lists.{list-accepted, within-limit}
