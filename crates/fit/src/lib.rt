@@ -29,6 +29,7 @@ use series::dsg;
 use series::list_refusal;
 use series::squares;
 use series::sums;
+use series::values_refusal;
 use series::weighted;
 ghost use mathlib.Core.Path.{_≡_};
 ghost use mathlib.Core.Bool.{false};
@@ -97,7 +98,7 @@ pub fn fit(values: &[i64]) -> Fitted
     ensures answer { λ r. ⌜ fitReply r ≡ fitRule (now (values .entry)) ⌝ }
     ensures variant { λ r. ⌜ fitNumbered r ⌝ }
 {
-    let refusal = list_refusal(values, 52, -2_000_000_000_000, 2_000_000_000_000);
+    let refusal = values_refusal(values);
     if refusal != 0 {
         return Fitted::Refused(refusal);
     }
@@ -113,7 +114,7 @@ pub fn scatter(values: &[i64]) -> Scattered
     ensures answer { λ r. ⌜ scatterReply r ≡ scatterRule (now (values .entry)) ⌝ }
     ensures variant { λ r. ⌜ scatterNumbered r ⌝ }
 {
-    let refusal = list_refusal(values, 52, -2_000_000_000_000, 2_000_000_000_000);
+    let refusal = values_refusal(values);
     if refusal != 0 {
         return Scattered::Refused(refusal);
     }

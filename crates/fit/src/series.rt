@@ -15,7 +15,7 @@ ghost use Rattle.whole.specs.Words.{Within};
 ghost use Rattle.exact.specs.Corrected.{at};
 ghost use Rattle.exact.specs.Places.{place};
 ghost use Rattle.exact.specs.Weights.{weights};
-ghost use Rattle.fit.specs.Lists.{anyOutside, anyBeyond, listRule};
+ghost use Rattle.fit.specs.Lists.{anyOutside, anyBeyond, rangeRule, listRule};
 ghost use Rattle.fit.specs.Fit.{total, moment};
 ghost use Rattle.fit.specs.Scatter.{squares, edge, dsg};
 
@@ -57,12 +57,19 @@ pub fn any_outside(values: &[i64], low: i64, high: i64) -> bool
 
 // 1 where the values are not count many, 2 where one is outside low to high, else 0.
 pub fn list_refusal(values: &[i64], count: usize, low: i64, high: i64) -> u32
-    ensures { λ r. ⌜ r ≡ listRule count low high (now (values .entry)) ⌝ }
+    ensures { λ r. ⌜ r ≡ rangeRule count low high (now (values .entry)) ⌝ }
 {
     then(
         when(1, values.len() != count),
         when(2, any_outside(values, low, high)),
     )
+}
+
+// The same for the values of Fit and Scatter: 52 of them, each within ±2 × 10^12.
+pub fn values_refusal(values: &[i64]) -> u32
+    ensures { λ r. ⌜ r ≡ listRule 52 (2 * 10 ^ 12) (now (values .entry)) ⌝ }
+{
+    list_refusal(values, 52, -2_000_000_000_000, 2_000_000_000_000)
 }
 
 // The sum of fifteen measurements, each times its weight.

@@ -68,6 +68,7 @@ add-delay c =
     let s = c .before .before .before in
     let i = int-word s in
     let k = cab-word s in
+    let r = refdly-word s in
     fits (search bounds depth 9) tt
 
 sub-delay : tie.Need-sub-delay
@@ -150,10 +151,10 @@ b-values-requires c κs =
     )
 
 copied-requires : tie.Need-copied-requires
-copied-requires c κs = sizes (c .before .before .before .before .before .before .before) .size-troposphere
+copied-requires c κs = let n = sizes (c .before .before .before .before .before .before .before) in search
 
 copied-requires-2 : tie.Need-copied-requires-2
-copied-requires-2 c κs = sizes (c .before .before .before .before .before .before .before .before) .size-ionosphere
+copied-requires-2 c κs = let n = sizes (c .before .before .before .before .before .before .before .before) in search
 
 judged-requires : tie.Need-judged-requires
 judged-requires c κs = search needs

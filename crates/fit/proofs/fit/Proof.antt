@@ -11,7 +11,7 @@ use mir.Val.{toZ, ofZ}
 use Rattle.whole.specs.Nearest.{nearest}
 use Rattle.whole.specs.Words.{Word, known, equal, back-of, bound, plain-is, bounds}
 use Rattle.exact.specs.Corrected.{at}
-use Rattle.fit.specs.Lists.{listRule}
+use Rattle.fit.specs.Lists.{rangeRule}
 use Rattle.fit.specs.Fit.{midpoint, slope, fitRule}
 use Rattle.fit.proofs.Lists.{list-accepted}
 use Rattle.fit.proofs.Fitting.{midpoint-52, slope-52}
@@ -19,19 +19,19 @@ use Rattle.fit.proofs.Replies.{reply-accepted, reply-refused}
 use Rattle.fit.proofs.fit.Statement.{statement}
 use Rattle.fit.proofs.fit.Tie as tie
 
-list-refusal-requires : tie.Need-list-refusal-requires
-list-refusal-requires c κs = search needs
+values-refusal-requires : tie.Need-values-refusal-requires
+values-refusal-requires c κs = search needs
 
 returns : tie.Need-returns
 unfolding fitRule
 returns c =
-    let r = c .before .list-refusal in
+    let r = c .before .values-refusal in
     let h : 0 < r .result = omega arith in
     (rw (r .ensures) (sym (reply-refused _ _ (rw (r .ensures) at h))), h)
 
 -- the list is not refused
-accepted : (c : tie.Else1) → listRule 52 (negsuc 1999999999999) (pos 2000000000000) (c .before .before .args .values .now) ≡ 0
-accepted c = sym (c .before .list-refusal .ensures) ∙ c .if1 .left
+accepted : (c : tie.Else1) → rangeRule 52 (negsuc 1999999999999) (pos 2000000000000) (c .before .before .args .values .now) ≡ 0
+accepted c = sym (c .before .values-refusal .ensures) ∙ c .if1 .left
 
 sums-requires : tie.Need-sums-requires
 sums-requires c κs = list-accepted _ _ _ _ (accepted c)
@@ -72,7 +72,7 @@ pub fit-spec : {M : Type 1} → statement M
 fit-spec =
     tie.close
     (tie.spec
-    list-refusal-requires
+    values-refusal-requires
     returns
     sums-requires
     nearest-requires

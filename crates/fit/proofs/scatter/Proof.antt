@@ -11,7 +11,7 @@ use Rattle.whole.specs.Words.{Word, known, equal, count-read, fits, count, plai
 use Rattle.limits.specs.Limits.{dsgRule}
 use Rattle.exact.specs.Corrected.{at}
 use Rattle.fit.specs.Answers.{reply}
-use Rattle.fit.specs.Lists.{listRule}
+use Rattle.fit.specs.Lists.{rangeRule}
 use Rattle.fit.specs.Fit.{total, moment}
 use Rattle.fit.specs.Scatter.{squares, edge, dsg, scatterRule}
 use Rattle.fit.proofs.Lists.{list-accepted}
@@ -21,20 +21,20 @@ use Rattle.fit.proofs.Replies.{reply-accepted, reply-refused, then-refu
 use Rattle.fit.proofs.scatter.Statement.{statement}
 use Rattle.fit.proofs.scatter.Tie as tie
 
-list-refusal-requires : tie.Need-list-refusal-requires
-list-refusal-requires c κs = search needs
+values-refusal-requires : tie.Need-values-refusal-requires
+values-refusal-requires c κs = search needs
 
 returns : tie.Need-returns
 unfolding scatterRule
 returns c =
-    let r = c .before .list-refusal in
+    let r = c .before .values-refusal in
     let h : 0 < r .result = omega arith in
     let first = then-refused (r .result) (dsgRule (pos (dsg 1 52 (squares 52 (at (c .before .before .args .values .now)))))) h in
     (sym (rw (← (r .ensures)) (rw first (reply-refused _ _ h))), h)
 
 -- the list is not refused
-accepted : (c : tie.Else1) → listRule 52 (negsuc 1999999999999) (pos 2000000000000) (c .before .before .args .values .now) ≡ 0
-accepted c = sym (c .before .list-refusal .ensures) ∙ c .if1 .left
+accepted : (c : tie.Else1) → rangeRule 52 (negsuc 1999999999999) (pos 2000000000000) (c .before .before .args .values .now) ≡ 0
+accepted c = sym (c .before .values-refusal .ensures) ∙ c .if1 .left
 
 sums-requires : tie.Need-sums-requires
 sums-requires c κs = list-accepted _ _ _ _ (accepted c)
@@ -100,7 +100,7 @@ pub scatter-spec : {M : Type 1} → statement M
 scatter-spec =
     tie.close
     (tie.spec
-    list-refusal-requires
+    values-refusal-requires
     returns
     sums-requires
     squares-requires
