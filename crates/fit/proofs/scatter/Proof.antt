@@ -2,16 +2,16 @@
 -- Assumes nothing.
 use borrow.Author.Needs.{needs}
 use mathlib.Core.Path.{_≡_, sym, ap, _∙_}
-use Prim.Native.Nat.{ℕ, _≤_, _<_}
+use Prim.Native.Nat.{_*_, _^_, ℕ, _≤_, _<_}
 use native.Mathlib.Omega.{arith}
 use lib.Dec.{lit<}
-use lib.IntN.{ℤ, pos, negsuc, natAbs}
+use lib.IntN.{ℤ, pos, natAbs}
 use Rattle.whole.specs.Order.{_⩽_, pos-le, pos-lt}
-use Rattle.whole.specs.Words.{Word, known, equal, count-read, fits, count, plain-is, bounds}
+use Rattle.whole.specs.Words.{Word, told, count-read, fits, count, plain-is, bounds}
 use Rattle.limits.specs.Limits.{dsgRule}
 use Rattle.exact.specs.Corrected.{at}
 use Rattle.fit.specs.Answers.{reply}
-use Rattle.fit.specs.Lists.{rangeRule}
+use Rattle.fit.specs.Lists.{listRule}
 use Rattle.fit.specs.Fit.{total, moment}
 use Rattle.fit.specs.Scatter.{squares, edge, dsg, scatterRule}
 use Rattle.fit.proofs.Lists.{list-accepted}
@@ -33,7 +33,7 @@ returns c =
     (sym (rw (← (r .ensures)) (rw first (reply-refused _ _ h))), h)
 
 -- the list is not refused
-accepted : (c : tie.Else1) → rangeRule 52 (negsuc 1999999999999) (pos 2000000000000) (c .before .before .args .values .now) ≡ 0
+accepted : (c : tie.Else1) → listRule 52 (2 * 10 ^ 12) (c .before .before .args .values .now) ≡ 0
 accepted c = sym (c .before .values-refusal .ensures) ∙ c .if1 .left
 
 sums-requires : tie.Need-sums-requires
@@ -41,10 +41,10 @@ sums-requires c κs = list-accepted _ _ _ _ (accepted c)
 
 -- the two sums that sums hands back
 abbrev total-word : (c : tie.After-sums) → Word (c .sums .result .total)
-total-word c = equal (c .sums .ensures .0 .0) (known (rw (c .sums .ensures .0 .0) at (c .sums .ensures .1 .0 .within)))
+total-word c = told (c .sums .ensures .0 .0) (c .sums .ensures .1 .0)
 
 abbrev moment-word : (c : tie.After-sums) → Word (c .sums .result .moment)
-moment-word c = equal (c .sums .ensures .0 .1) (known (rw (c .sums .ensures .0 .1) at (c .sums .ensures .1 .1 .within)))
+moment-word c = told (c .sums .ensures .0 .1) (c .sums .ensures .1 .1)
 
 squares-requires : tie.Need-squares-requires
 squares-requires c κs =
