@@ -139,9 +139,13 @@ fn corrected_track(
     troposphere: &[i64],
     clock: &[i64],
 ) -> Tracked
-    requires { ⌜ wrongSizes (given (now measurements) int cab refdly gd (now geometry) (now relativity) (now ionosphere) (now troposphere) (now clock)) ≡ false ⌝ }
-    requires { ⌜ outOfLimits (given (now measurements) int cab refdly gd (now geometry) (now relativity) (now ionosphere) (now troposphere) (now clock)) ≡ false ⌝ }
-    ensures { λ r. ⌜ r ≡ trackRule (given (now (measurements .entry)) int cab refdly gd (now (geometry .entry)) (now (relativity .entry)) (now (ionosphere .entry)) (now (troposphere .entry)) (now (clock .entry))) ⌝ }
+    requires { ⌜ wrongSizes (given (now measurements) int cab refdly gd
+        (now geometry) (now relativity) (now ionosphere) (now troposphere) (now clock)) ≡ false ⌝ }
+    requires { ⌜ outOfLimits (given (now measurements) int cab refdly gd
+        (now geometry) (now relativity) (now ionosphere) (now troposphere) (now clock)) ≡ false ⌝ }
+    ensures { λ r. ⌜ r ≡ trackRule (given (now (measurements .entry)) int cab refdly gd
+        (now (geometry .entry)) (now (relativity .entry)) (now (ionosphere .entry)) (now (troposphere .entry))
+        (now (clock .entry))) ⌝ }
 {
     let blocks = smooth_blocks(measurements);
     let refusal = blocks.refusal;
@@ -178,7 +182,9 @@ pub fn track(
     troposphere: &[i64],
     clock: &[i64],
 ) -> Tracked
-    ensures answer { λ r. ⌜ r ≡ trackRule (given (now (measurements .entry)) int cab refdly gd (now (geometry .entry)) (now (relativity .entry)) (now (ionosphere .entry)) (now (troposphere .entry)) (now (clock .entry))) ⌝ }
+    ensures answer { λ r. ⌜ r ≡ trackRule (given (now (measurements .entry)) int cab refdly gd
+        (now (geometry .entry)) (now (relativity .entry)) (now (ionosphere .entry)) (now (troposphere .entry))
+        (now (clock .entry))) ⌝ }
 {
     let sizes = (measurements.len() != 780)
         | columns_miscounted(geometry, relativity, ionosphere, troposphere, clock);

@@ -102,7 +102,8 @@ pub fn place(j: usize) -> i64
 
 pub fn sums(values: &[i64]) -> Moments
     requires { ⌜ (length (now values) ≡ 52) × (anyBeyond (2 * 10 ^ 12) (now values) ≡ false) ⌝ }
-    ensures { λ r. ⌜ (r .total ≡ total 52 (at (now (values .entry)))) × (r .moment ≡ moment 52 (at (now (values .entry)))) ⌝ }
+    ensures { λ r. ⌜ (r .total ≡ total 52 (at (now (values .entry))))
+        × (r .moment ≡ moment 52 (at (now (values .entry)))) ⌝ }
     ensures { λ r. ⌜ Within (104 * 10 ^ 12) (r .total) × Within (5408 * 10 ^ 12) (r .moment) ⌝ }
 {
     let mut total: i64 = 0;
@@ -119,7 +120,8 @@ pub fn sums(values: &[i64]) -> Moments
 
 // The residual of a value at a place, by the two sums of its list.
 fn residual(value: i64, place: i64, total: i64, moment: i64) -> i64
-    requires { ⌜ Within (2 * 10 ^ 12) value × Within 52 place × Within (104 * 10 ^ 12) total × Within (5408 * 10 ^ 12) moment ⌝ }
+    requires { ⌜ Within (2 * 10 ^ 12) value × Within 52 place
+        × Within (104 * 10 ^ 12) total × Within (5408 * 10 ^ 12) moment ⌝ }
     ensures { λ r. ⌜ r ≡ nearest (pos 46852 *ℤ value -ℤ pos 901 *ℤ total -ℤ place *ℤ moment) 46852 ⌝ }
 {
     nearest(46852 * value - 901 * total - place * moment, 46852)
