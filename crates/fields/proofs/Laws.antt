@@ -8,10 +8,13 @@ use native.Mathlib.Omega.{arith}
 use native.Mathlib.Numerals.{add-one}
 use lib.ListN.{length, take, drop, set, getD, length-append}
 use lib.Seq.{take-suc, take-length, drop-length}
+use mathlib.Core.Bool.{true, false}
+use lib.Dec.{ltb}
+use borrow.Author.Tests.{ltb-true, ltb-false, le-leb, lt-leb}
 use lib.IntN.{ℤ, pos, negsuc, negℤ, natAbs}
 use borrow.Rule.Slice.PartMut.{putMid, midOf}
-use Rattle.fields.specs.Text.{decimal, sign, signed, total}
-use Rattle.fields.specs.Read.{digitsAfter, readDecimal, readSigned}
+use Rattle.fields.specs.Text.{decimal, sign, signed, hexDigit, hexadecimal, total}
+use Rattle.fields.specs.Read.{digitsAfter, readDecimal, readSigned, readDigit, readHexadecimal}
 use Rattle.fields.proofs.Lists.{drop-set-same}
 
 less : (i : ℕ) → suc i - 1 ≡ i
@@ -39,6 +42,15 @@ unfolding decimal
 length-decimal zero n = refl
 length-decimal (suc columns) n =
     length-append (decimal columns (n / 10)) ((48 + n % 10) ∷ []) ∙ omega (arith, length-decimal columns (n / 10))
+
+pub length-signed : (columns : ℕ) (z : ℤ) → length (signed columns z) ≡ columns
+unfolding signed
+length-signed zero z = refl
+length-signed (suc columns) z = ap suc (length-decimal columns (natAbs z))
+
+pub length-hexadecimal : (n : ℕ) → length (hexadecimal n) ≡ 2
+unfolding hexadecimal
+length-hexadecimal n = refl
 
 total-append : (xs ys : List ℕ) → total (xs ++ ys) ≡ total xs + total ys
 unfolding total
@@ -95,3 +107,15 @@ pub read-signed : (columns : ℕ) (z : ℤ) → natAbs z < 10 ^ columns → read
 unfolding readSigned signed sign
 read-signed columns (pos n) h = ap pos (read-decimal columns n h)
 read-signed columns (negsuc n) h = ap (λ (k : ℕ). negℤ (pos k)) (read-decimal columns (suc n) h)
+
+read-digit : (n : ℕ) → readDigit (hexDigit n) ≡ n % 16
+unfolding readDigit hexDigit
+read-digit n = elim (ltb (n % 16) 10) as (λ t. ltb (n % 16) 10 ≡ t → readDigit (hexDigit n) ≡ n % 16) [
+  | true ↦ λ e. simp (e, lt-leb 65 (48 + n % 16) (omega (arith, ltb-true (n % 16) 10 e))) (omega arith)
+  | false ↦ λ e. simp (e, le-leb 65 (65 + n % 16 - 10) (omega (arith, ltb-false (n % 16) 10 e))) (omega (arith, ltb-false (n % 16) 10 e))
+] refl
+
+-- a byte is read back from its two digits
+pub read-hexadecimal : (n : ℕ) → n < 256 → readHexadecimal (hexadecimal n) ≡ n
+unfolding readHexadecimal hexadecimal
+read-hexadecimal n h = omega (arith, read-digit (n / 16), read-digit n)

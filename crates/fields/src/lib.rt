@@ -13,7 +13,7 @@ pub fn decimal(value: u64, out: &mut [u8])
     let mut i = out.len();
     while 0 < i {
         i -= 1;
-        out[i] = 48 + (rest % 10) as u8;
+        out[i] = b'0' + (rest % 10) as u8;
         rest = rest / 10;
     }
 }
@@ -50,7 +50,7 @@ pub fn hex_digit(n: u8) -> u8
     ensures { λ r. ⌜ r ≡ hexDigit n ⌝ }
 {
     let d = n % 16;
-    if d < 10 { 48 + d } else { 55 + d }
+    if d < 10 { b'0' + d } else { b'A' + d - 10 }
 }
 
 fn wide(b: u8) -> u32

@@ -8,3 +8,4 @@ pub mod Edges
 pub mod Arrays
 pub mod Blocks
 pub mod Tracks
+pub mod Accuracy

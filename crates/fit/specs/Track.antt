@@ -10,6 +10,7 @@ use Rattle.limits.specs.Limits.{beyond, limitsRule, dsgRule}
 use Rattle.fit.specs.declared.TrackRecord.{TrackRecord}
 use Rattle.fit.specs.declared.Tracked.{Tracked}
 use Rattle.whole.specs.Table.{tabulate}
+use Rattle.exact.specs.Accurate.{Figures}
 use Rattle.exact.specs.Corrected.{at, Given, block, toA, toB}
 use Rattle.fit.specs.Lists.{miscounted, anyBeyond}
 use Rattle.fit.specs.Smooth.{smoothed}
@@ -55,6 +56,21 @@ recordOf a b c d =
 
 unfoldable pub results : Given → TrackRecord
 results g = recordOf (tabulate (valueA g) 52) (tabulate (valueB g) 52) (tabulate (valueC g) 52) (tabulate (valueD g) 52)
+
+-- Its midpoints, slopes and DSG, of which demand 3 speaks.
+abbrev pub figures : TrackRecord → Figures
+figures t =
+    record {
+      refsv = t .refsv;
+      srsv = t .srsv;
+      refsys = t .refsys;
+      srsys = t .srsys;
+      mdtr = t .mdtr;
+      smdt = t .smdt;
+      mdio = t .mdio;
+      smdi = t .smdi;
+      dsg = t .dsg;
+    }
 
 -- 1: the measurements are not 780 or a column is not 52.
 unfoldable pub wrongSizes : Given → Bool

@@ -37,7 +37,8 @@ ghost use Rattle.fit.specs.Answers.{smoothReply, smoothNumbered, fitRepl
 ghost use Rattle.fit.specs.Smooth.{smoothRule};
 ghost use Rattle.fit.specs.Fit.{fitRule};
 ghost use Rattle.fit.specs.Scatter.{scatterRule};
-ghost use Rattle.fit.specs.Track.{given, wrongSizes, outOfLimits, trackRule};
+ghost use Rattle.exact.specs.Accurate.{AccurateTrack};
+ghost use Rattle.fit.specs.Track.{given, figures, wrongSizes, outOfLimits, trackRule};
 
 // What Smooth answers: the smoothed value, or the number of the refusal.
 pub enum Smoothed {
@@ -185,6 +186,9 @@ pub fn track(
     ensures answer { λ r. ⌜ r ≡ trackRule (given (now (measurements .entry)) int cab refdly gd
         (now (geometry .entry)) (now (relativity .entry)) (now (ionosphere .entry)) (now (troposphere .entry))
         (now (clock .entry))) ⌝ }
+    ensures accurate { λ r. ⌜ (r .refusal ≡ 0 → AccurateTrack 52 (given (now (measurements .entry)) int cab refdly gd
+        (now (geometry .entry)) (now (relativity .entry)) (now (ionosphere .entry)) (now (troposphere .entry))
+        (now (clock .entry))) (figures (r .«record»))) ⌝ }
 {
     let sizes = (measurements.len() != 780)
         | columns_miscounted(geometry, relativity, ionosphere, troposphere, clock);

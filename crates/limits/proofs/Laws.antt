@@ -1,20 +1,30 @@
--- What an answer 0 tells: no condition held, and a number that is not outside its limits is inside them.
+-- The order of refusals, and what an answer 0 tells: no condition held, and a number that is not outside its limits is inside them.
 -- Assumes nothing.
 use mathlib.Core.Path.{_≡_, refl}
 use mathlib.Core.Bool.{Bool, true, false, _||_, true≢false}
-use Prim.Native.Nat.{ℕ, zero, suc, _≤_, suc-le-suc}
-use native.Mathlib.Nat.{suc-ne-zero}
+use Prim.Native.Nat.{ℕ, zero, suc, _≤_, _<_, suc-le-suc}
+use native.Mathlib.Nat.{suc-ne-zero, not-suc-le-zero}
 use lib.IntN.{ℤ, pos, negsuc, natAbs}
 use lib.Dec.{ltb, eqb·suc-zero}
 use borrow.Author.Tests.{ltb-false}
 use Rattle.limits.specs.Refusal.{_when_, _then_}
-use Rattle.limits.specs.Limits.{outside, beyond}
+use Rattle.limits.specs.Limits.{outside, beyond, limitsRule, dsgRule}
 
 -- an answer put together from two is 0 only where both are
 pub then-zero : (first next : ℕ) → first then next ≡ 0 → (first ≡ 0) × (next ≡ 0)
 unfolding _then_
 then-zero zero next e = (refl, e)
 then-zero (suc first) next e = absurd (suc-ne-zero first (rw (eqb·suc-zero first) at e))
+
+-- a refusal stands before what comes next
+pub then-refused : (first next : ℕ) → 0 < first → first then next ≡ first
+unfolding _then_
+then-refused zero next h = absurd (not-suc-le-zero h)
+then-refused (suc first) next h = rw (eqb·suc-zero first)
+
+pub then-passed : (first next : ℕ) → first ≡ 0 → first then next ≡ next
+unfolding _then_
+then-passed first next e = rw e
 
 pub when-zero : (number : ℕ) (condition : Bool) → suc number when condition ≡ 0 → condition ≡ false
 unfolding _when_
@@ -33,8 +43,44 @@ magnitude-within (suc limit) (pos n) e = ltb-false (suc limit) n e
 magnitude-within zero (negsuc n) e = absurd (true≢false e)
 magnitude-within (suc limit) (negsuc n) e = suc-le-suc (ltb-false limit n (or-false (ltb limit n) false e .0))
 
--- within 0 to a limit, the number is a natural one
-pub natural-within : (limit : ℕ) (z : ℤ) → outside (pos 0) (pos limit) z ≡ false → (pos (natAbs z) ≡ z) × (natAbs z ≤ limit)
+-- within two limits that are not below 0, the number is a natural one
+pub natural-within : (low high : ℕ) (z : ℤ) → outside (pos low) (pos high) z ≡ false → (pos (natAbs z) ≡ z) × (low ≤ natAbs z) × (natAbs z ≤ high)
 unfolding outside
-natural-within limit (pos n) e = (refl, ltb-false limit n (or-false (ltb n 0) (ltb limit n) e .1))
-natural-within limit (negsuc n) e = absurd (true≢false e)
+natural-within low high (pos n) e =
+    let f = or-false (ltb n low) (ltb high n) e in
+    (refl, ltb-false n low (f .0), ltb-false high n (f .1))
+natural-within low high (negsuc n) e = absurd (true≢false e)
+
+-- what an answer 0 on the eight fitted numbers tells
+pub record Within (refsv srsv refsys srsys mdtr smdt mdio smdi : ℤ) : Type 0 where
+  pub midpoints : (natAbs refsv ≤ 9999999999) × (natAbs refsys ≤ 9999999999)
+  pub slopes : (natAbs srsv ≤ 99999) × (natAbs srsys ≤ 99999) × (natAbs smdt ≤ 999) × (natAbs smdi ≤ 999)
+  pub delays : (pos (natAbs mdtr) ≡ mdtr) × (natAbs mdtr ≤ 9999) × (pos (natAbs mdio) ≡ mdio) × (natAbs mdio ≤ 9999)
+
+pub within : (refsv srsv refsys srsys mdtr smdt mdio smdi : ℤ) → limitsRule refsv srsv refsys srsys mdtr smdt mdio smdi ≡ 0
+    → Within refsv srsv refsys srsys mdtr smdt mdio smdi
+unfolding limitsRule
+within refsv srsv refsys srsys mdtr smdt mdio smdi e =
+    let three = then-zero _ _ e in
+    let four = then-zero _ _ (three .1) in
+    let m = or-false (beyond 9999999999 refsv) _ (when-zero 2 _ (three .0)) in
+    let s = or-false (beyond 99999 srsv || beyond 99999 srsys || beyond 999 smdt) _ (when-zero 3 _ (four .0)) in
+    let t = or-false (beyond 99999 srsv || beyond 99999 srsys) _ (s .0) in
+    let u = or-false (beyond 99999 srsv) _ (t .0) in
+    let d = or-false (outside (pos 0) (pos 9999) mdtr) _ (when-zero 4 _ (four .1)) in
+    let r = natural-within 0 9999 mdtr (d .0) in
+    let i = natural-within 0 9999 mdio (d .1) in
+    record {
+      midpoints = (magnitude-within 9999999999 refsv (m .0), magnitude-within 9999999999 refsys (m .1));
+      slopes = (
+        magnitude-within 99999 srsv (u .0),
+        magnitude-within 99999 srsys (u .1),
+        magnitude-within 999 smdt (t .1),
+        magnitude-within 999 smdi (s .1),
+      );
+      delays = (r .0, r .2, i .0, i .2);
+    }
+
+pub dsg-within : (dsg : ℤ) → dsgRule dsg ≡ 0 → (pos (natAbs dsg) ≡ dsg) × (natAbs dsg ≤ 9999)
+unfolding dsgRule
+dsg-within dsg e = let d = natural-within 0 9999 dsg (when-zero 5 _ e) in (d .0, d .2)

@@ -7,8 +7,9 @@ use native.Mathlib.Nat.{not-suc-le-zero, le-refl}
 use native.Mathlib.Omega.{arith}
 use lib.Dec.{T, leb, ltb, eqb, eqb→eq, ltb→lt}
 use lib.IntN.{ℤ, pos, negsuc, natAbs, subℕ, negℤ-negℤ, _-ℤ_}
-use borrow.Author.Tests.{lt-ltb, le-ltb, eq-eqb, leb-true, leb-false, eqb-true, eqb-false}
-use Rattle.schedule.specs.Schedule.{day, tracks, broughtIn, startMinute, some, isStart}
+use borrow.Author.Tests.{lt-ltb, le-ltb, eq-eqb, leb-true, leb-false, eqb-true, eqb-false, ltb-false, not-false}
+use Rattle.limits.proofs.Laws.{then-zero, when-zero, or-false}
+use Rattle.schedule.specs.Schedule.{firstDate, lastDate, day, tracks, broughtIn, startMinute, some, isStart, startRule}
 
 -- ---- differences of natural numbers
 
@@ -162,3 +163,13 @@ row n second = same (whole && inside && step && track) (isStart n second) (λ t.
 
     flags : Tests n second → T (whole && inside && step && track)
     flags t = simp (eq-eqb _ _ (t .whole), lt-ltb _ _ (t .inside), eq-eqb _ _ (t .step), lt-ltb _ _ (t .track)) tt
+
+-- an accepted date and start
+pub accepted : (mjd second : ℕ) → startRule mjd second ≡ 0 → (mjd ≤ lastDate) × (second < 60 * day)
+unfolding startRule
+accepted mjd second e =
+    let f = then-zero _ _ e in
+    let date = or-false (ltb mjd firstDate) (ltb lastDate mjd) (when-zero 6 _ (f .0)) in
+    let start = not-false (isStart (mjd - firstDate) second) (when-zero 7 _ (f .1)) in
+    let tests = start-passes (mjd - firstDate) second (subst T (sym start) tt) in
+    (ltb-false lastDate mjd (date .1), omega (arith, tests .inside))

@@ -1,4 +1,4 @@
--- `fit::track` meets its contract.
+-- `fit::track` meets its contract: its answer is the rule's, and so accurate where it is accepted.
 -- Assumes nothing.
 use mathlib.Core.Bool.{Bool, _||_}
 use mathlib.Core.Path.{_≡_, sym, ap, ap₂, _∙_}
@@ -8,8 +8,11 @@ use mir.Facts.{toZ-ofZ}
 use Rattle.limits.specs.Refusal.{_when_, _then_}
 use Rattle.limits.specs.Limits.{beyond}
 use Rattle.exact.specs.Corrected.{Given}
+use Rattle.exact.specs.Accurate.{AccurateTrack}
 use Rattle.fit.specs.Lists.{miscounted}
-use Rattle.fit.specs.Track.{given, wrongSizes, outOfLimits}
+use Rattle.fit.specs.declared.Tracked.{Tracked}
+use Rattle.fit.specs.Track.{given, figures, wrongSizes, outOfLimits, trackRule}
+use Rattle.fit.proofs.Accuracy.{tracked-accurate}
 use Rattle.fit.proofs.Tracks.{inputsNumber, inputs-accepted, track-refused}
 use borrow.Author.Needs.{needs}
 use Rattle.fit.proofs.track.Statement.{statement}
@@ -68,12 +71,17 @@ then-requires c κs = search needs
 refused-requires : tie.Need-refused-requires
 refused-requires c κs = search needs
 
+-- both clauses, from the answer
+both : (s : tie.Start) (t : Tracked) → t ≡ trackRule (g s)
+    → (t ≡ trackRule (g s)) × (t .refusal ≡ 0 → AccurateTrack 52 (g s) (figures (t .«record»)))
+both s t e = (e, tracked-accurate (g s) t e)
+
 returns : tie.Need-returns
 returns c =
     let n = c .before .before in
     let s = n .before .before .before .before .before .before .before in
     let h : 0 < n .then .result = omega (arith, c .before .if1 .taken) in
-    c .refused .ensures ∙ sym (track-refused (g s) (n .then .result) (refusal-is n) h)
+    both s (c .refused .result) (c .refused .ensures ∙ sym (track-refused (g s) (n .then .result) (refusal-is n) h))
 
 corrected-track-requires : tie.Need-corrected-track-requires
 corrected-track-requires c κs =
@@ -84,8 +92,10 @@ corrected-track-requires c κs =
 
 returns-2 : tie.Need-returns-2
 returns-2 c =
-    let f = c .before .before .before .before .before .before .before .before .before .fits in
-    simp (toZ-ofZ (f .int), toZ-ofZ (f .cab), toZ-ofZ (f .refdly), toZ-ofZ (f .gd)) at (c .corrected-track .ensures)
+    let s = c .before .before .before .before .before .before .before .before .before in
+    let f = s .fits in
+    both s (c .corrected-track .result)
+    (simp (toZ-ofZ (f .int), toZ-ofZ (f .cab), toZ-ofZ (f .refdly), toZ-ofZ (f .gd)) at (c .corrected-track .ensures))
 
 pub track-spec : {M : Type 1} → statement M
 track-spec =

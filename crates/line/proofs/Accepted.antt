@@ -1,0 +1,62 @@
+-- What an answer 0 of Line tells: no condition of a refusal holds.
+-- Assumes nothing.
+use mathlib.Core.Path.{_≡_, sym, ap, ap₂, _∙_}
+use mathlib.Core.List.{List, _++_}
+use mathlib.Core.Bool.{Bool, true, false, not, _||_}
+use Prim.Native.Nat.{ℕ, _≤_}
+use lib.ListN.{length, take, drop}
+use lib.Seq.{take-length}
+use lib.IntN.{pos}
+use borrow.Author.Tests.{ltb-false, not-false, eq-eqb, ne-eqb}
+use Rattle.limits.specs.Refusal.{_when_, _then_}
+use Rattle.limits.specs.Limits.{outside, limitsRule, dsgRule}
+use Rattle.limits.proofs.Laws.{then-zero, when-zero, or-false}
+use Rattle.schedule.specs.Schedule.{startRule}
+use Rattle.line.specs.declared.Labels.{Labels}
+use Rattle.line.specs.declared.Numbers.{Numbers}
+use Rattle.line.specs.Labels.{labelsFit, trackLength}
+use Rattle.line.specs.Line.{lineAnswer, lineAfter}
+use Rattle.line.specs.Text.{lineLength, lineText}
+use Rattle.line.proofs.Widths.{line-width}
+
+pub record Accepted (l : Labels) (n : Numbers) (bytes : ℕ) : Type 0 where
+  pub labels : labelsFit l ≡ true
+  pub trkl : outside (pos trackLength) (pos trackLength) (n .trkl) ≡ false
+  pub start : startRule (l .mjd) (l .start) ≡ 0
+  pub limits : limitsRule (n .refsv) (n .srsv) (n .refsys) (n .srsys) (n .mdtr) (n .smdt) (n .mdio) (n .smdi) ≡ 0
+  pub dsg : dsgRule (n .dsg) ≡ 0
+  pub room : lineLength ≤ bytes
+
+pub accepted : (l : Labels) (n : Numbers) (bytes : ℕ) → lineAnswer l n bytes ≡ 0 → Accepted l n bytes
+unfolding lineAnswer
+accepted l n bytes e =
+    let label = then-zero _ _ e in
+    let start = then-zero _ _ (label .1) in
+    let limits = then-zero _ _ (start .1) in
+    let dsg = then-zero _ _ (limits .1) in
+    let either = or-false (not (labelsFit l)) (outside (pos trackLength) (pos trackLength) (n .trkl)) (when-zero 6 _ (label .0)) in
+    record {
+      labels = not-false (labelsFit l) (either .0);
+      trkl = either .1;
+      start = start .0;
+      limits = limits .0;
+      dsg = dsg .0;
+      room = ltb-false bytes lineLength (when-zero 8 _ (dsg .1));
+    }
+
+-- ---- the lent line afterwards
+
+pub kept : (l : Labels) (n : Numbers) (lent : List ℕ) → (lineAnswer l n (length lent) ≡ 0 → ⊥) → lent ≡ lineAfter l n lent
+unfolding lineAfter
+kept l n lent h = simp (ne-eqb (lineAnswer l n (length lent)) 0 h)
+
+pub after-is : (l : Labels) (n : Numbers) (lent : List ℕ) → lineAnswer l n (length lent) ≡ 0 → lineAfter l n lent ≡ lineText l n ++ drop lineLength lent
+unfolding lineAfter
+after-is l n lent e = simp (eq-eqb (lineAnswer l n (length lent)) 0 e)
+
+pub written : (l : Labels) (n : Numbers) (lent text after : List ℕ) → lineAnswer l n (length lent) ≡ 0 → text ≡ lineText l n
+    → after ≡ take (length text) text ++ drop (length text) lent → after ≡ lineAfter l n lent
+written l n lent text after e t a =
+    a
+    ∙ ap₂ (λ (x : List ℕ) (k : ℕ). x ++ drop k lent) (take-length text ∙ t) (ap length t ∙ line-width l n)
+    ∙ sym (after-is l n lent e)

@@ -1,0 +1,118 @@
+-- Laws of Block (specs/Block.antt): which number comes first, and that the figures in the columns of an accepted line are Track's.
+-- Assumes nothing.
+use mathlib.Core.Path.{_≡_, refl, sym, ap, _∙_, subst}
+use mathlib.Core.Bool.{Bool, true, false, not, _||_}
+use mathlib.Core.List.{List, _++_}
+use Prim.Native.Nat.{ℕ, zero, suc, _<_}
+use native.Mathlib.Omega.{arith}
+use lib.ListN.{length, drop}
+use lib.Dec.{eqb}
+use borrow.Author.Tests.{eq-eqb, ne-eqb}
+use Rattle.limits.specs.Refusal.{_when_, _then_}
+use Rattle.limits.proofs.Laws.{then-refused, then-passed}
+use Rattle.decode.specs.Number.{unsignedAt}
+use Rattle.exact.specs.Corrected.{Given}
+use Rattle.exact.specs.Accurate.{Figures, AccurateTrack}
+use Rattle.fit.specs.declared.TrackRecord.{TrackRecord}
+use Rattle.fit.specs.declared.Tracked.{Tracked}
+use Rattle.fit.specs.Track.{figures, results, tracked, trackNumber, trackRule}
+use Rattle.line.specs.Text.{lineLength}
+use Rattle.line.specs.Line.{lineAnswer, lineAfter}
+use Rattle.line.specs.Block.{blockLength, blockLabels, blockGiven, numbersIn, blockAnswer, blockAfter, figuresIn, readFigures}
+use Rattle.line.proofs.Accepted.{accepted, after-is}
+use Rattle.line.proofs.ReadBack.{numbers-back}
+
+-- ---- what Track's answer says
+
+number-of : (number : ℕ) (g : Given) → tracked number (results g) .refusal ≡ number
+unfolding tracked
+number-of zero g = refl
+number-of (suc number) g = refl
+
+pub track-number : (g : Given) (t : Tracked) → t ≡ trackRule g → t .refusal ≡ trackNumber g
+unfolding trackRule
+track-number g t e = ap (λ (t : Tracked). t .refusal) e ∙ number-of (trackNumber g) g
+
+pub track-record : (g : Given) (t : Tracked) → t ≡ trackRule g → t .refusal ≡ 0 → t .«record» ≡ results g
+unfolding trackRule tracked
+track-record g t e h =
+    ap (λ (t : Tracked). t .«record») e ∙ ap (λ (n : ℕ). tracked n (results g) .«record») (sym (track-number g t e) ∙ h)
+
+-- ---- the answer, test by test
+
+-- the two sizes are wrong
+abbrev pub missized : List ℕ → Bool
+missized b = not (eqb (unsignedAt 2 b 0) 780) || not (eqb (unsignedAt 2 b 2) 52)
+
+module _ (b : List ℕ) (room : ℕ) where
+  pub wrong-length : (length b ≡ blockLength → ⊥) → 11 ≡ blockAnswer b room
+  unfolding blockAnswer _when_ _then_
+  wrong-length h = rw (ne-eqb (length b) blockLength h)
+
+  pub wrong-sizes : length b ≡ blockLength → missized b ≡ true → 1 ≡ blockAnswer b room
+  unfolding blockAnswer _when_ _then_
+  wrong-sizes h e = rw (eq-eqb (length b) blockLength h, e)
+
+  passed : length b ≡ blockLength → missized b ≡ false
+      → blockAnswer b room ≡ trackNumber (blockGiven b) then lineAnswer (blockLabels b) (numbersIn (results (blockGiven b))) room
+  unfolding blockAnswer _when_
+  passed h e = rw (eq-eqb (length b) blockLength h, e) (then-passed 0 _ refl ∙ then-passed 0 _ refl)
+
+  pub track-refuses : length b ≡ blockLength → missized b ≡ false → (n : ℕ) → n ≡ trackNumber (blockGiven b) → 0 < n
+      → n ≡ blockAnswer b room
+  track-refuses h e n t k =
+      let next = lineAnswer (blockLabels b) (numbersIn (results (blockGiven b))) room in
+      sym (then-refused n next k) ∙ ap (λ (m : ℕ). m then next) t ∙ sym (passed h e)
+
+  pub line-answers : length b ≡ blockLength → missized b ≡ false → trackNumber (blockGiven b) ≡ 0
+      → lineAnswer (blockLabels b) (numbersIn (results (blockGiven b))) room ≡ blockAnswer b room
+  line-answers h e t = sym (then-passed (trackNumber (blockGiven b)) _ t) ∙ sym (passed h e)
+
+-- ---- the three clauses
+
+module _ (b lent : List ℕ) where
+  abbrev pub Promised : ℕ → List ℕ → Type 0
+  Promised r after =
+      (r ≡ blockAnswer b (length lent))
+      × ((after ≡ blockAfter b lent) × (r ≡ 0 → AccurateTrack 52 (blockGiven b) (readFigures after)))
+
+  kept : (blockAnswer b (length lent) ≡ 0 → ⊥) → lent ≡ blockAfter b lent
+  unfolding blockAfter
+  kept h = rw (ne-eqb (blockAnswer b (length lent)) 0 h)
+
+  -- a refusal leaves the lent line as it was
+  pub refused : (r : ℕ) → 0 < r → r ≡ blockAnswer b (length lent) → Promised r lent
+  refused r h e = (e, (kept (λ z. positive (e ∙ z)), λ z. absurd (positive z)))
+    where
+      positive : r ≡ 0 → ⊥
+      positive z = omega arith
+
+  -- where Track accepts, the lent line is Line's
+  same-after : lineAnswer (blockLabels b) (numbersIn (results (blockGiven b))) (length lent) ≡ blockAnswer b (length lent)
+      → lineAfter (blockLabels b) (numbersIn (results (blockGiven b))) lent ≡ blockAfter b lent
+  unfolding lineAfter blockAfter
+  same-after e = rw e
+
+  -- and its columns read back as Track's figures
+  figures-back : (t : TrackRecord) → lineAnswer (blockLabels b) (numbersIn t) (length lent) ≡ 0
+      → readFigures (lineAfter (blockLabels b) (numbersIn t) lent) ≡ figures t
+  unfolding readFigures
+  figures-back t e =
+      ap readFigures (after-is (blockLabels b) (numbersIn t) lent e)
+      ∙ ap figuresIn
+      (numbers-back (blockLabels b) (numbersIn t) (length lent) (drop lineLength lent) (accepted (blockLabels b) (numbersIn t) (length lent) e))
+
+  pub written : (t : Tracked) → length b ≡ blockLength → missized b ≡ false → t ≡ trackRule (blockGiven b)
+      → (t .refusal ≡ 0 → AccurateTrack 52 (blockGiven b) (figures (t .«record»))) → t .refusal ≡ 0
+      → (r : ℕ) (after : List ℕ) → r ≡ lineAnswer (blockLabels b) (numbersIn (t .«record»)) (length lent)
+      → after ≡ lineAfter (blockLabels b) (numbersIn (t .«record»)) lent → Promised r after
+  written t h s e accurate z r after answer line =
+      let g = blockGiven b in
+      let is = track-record g t e z in
+      let number = line-answers b (length lent) h s (sym (track-number g t e) ∙ z) in (
+        answer ∙ ap (λ (x : TrackRecord). lineAnswer (blockLabels b) (numbersIn x) (length lent)) is ∙ number,
+        (
+          line ∙ ap (λ (x : TrackRecord). lineAfter (blockLabels b) (numbersIn x) lent) is ∙ same-after number,
+          λ k. subst (λ (f : Figures). AccurateTrack 52 g f) (sym (ap readFigures line ∙ figures-back (t .«record») (sym answer ∙ k))) (accurate z),
+        ),
+      )

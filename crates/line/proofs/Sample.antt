@@ -1,0 +1,64 @@
+-- The sample line of document 01 ("The hire block"): the definitions give it to the letter, and Line accepts its labels and numbers.
+-- Assumes nothing.
+use mathlib.Core.Path.{_≡_, refl}
+use mathlib.Core.Bool.{true, false}
+use mathlib.Core.List.{List, [], _∷_}
+use Prim.Native.Nat.{ℕ}
+use Prim.Native.Char.{code}
+use Prim.Native.String.{String, [] as []ˢ, _∷_ as _∷ˢ_}
+use lib.IntN.{pos}
+use Rattle.limits.specs.Refusal.{_when_, _then_}
+use Rattle.limits.specs.Limits.{outside, limitsRule, dsgRule}
+use Rattle.schedule.specs.Schedule.{broughtIn, startMinute, some, isStart, startRule}
+use Rattle.fields.specs.Text.{decimal, sign, signed, hexDigit, hexadecimal, total, checksum}
+use Rattle.line.specs.declared.Labels.{Labels}
+use Rattle.line.specs.declared.Numbers.{Numbers}
+use Rattle.line.specs.Labels.{constellationFits, codeFits, labelsFit}
+use Rattle.line.specs.Line.{lineAnswer}
+use Rattle.line.specs.Text.{clock, trackColumns, clockColumns, delayColumns, columns, spaced, lineText}
+
+-- the bytes of a text of plain characters
+unfoldable pub bytesOf : String → List ℕ
+bytesOf []ˢ = []
+bytesOf (c ∷ˢ s) = code c ∷ bytesOf s
+
+abbrev pub labels : Labels
+labels =
+    record {
+      constellation = code "G";
+      satellite = 5;
+      cl = 255;
+      fr = 0;
+      hc = 0;
+      frc1 = code "L";
+      frc2 = code "1";
+      frc3 = code "C";
+      mjd = 50722;
+      start = 120;
+      elv = 450;
+      azth = 1800;
+      ioe = 7;
+    }
+
+abbrev pub numbers : Numbers
+numbers =
+    record {
+      refsv = pos 10;
+      srsv = pos 0;
+      refsys = pos 10;
+      srsys = pos 0;
+      mdtr = pos 0;
+      smdt = pos 0;
+      mdio = pos 0;
+      smdi = pos 0;
+      dsg = pos 0;
+      trkl = pos 780;
+    }
+
+pub sample : lineText labels numbers ≡ bytesOf "G05 FF 50722 000200 0780 450 1800 +0000000010 +00000 +0000000010 +00000 0000 007 0000 +000 0000 +000 00 00 L1C 26"
+unfolding bytesOf lineText columns trackColumns clockColumns delayColumns spaced clock decimal signed sign hexadecimal hexDigit checksum total
+sample = refl
+
+pub sample-accepted : lineAnswer labels numbers 113 ≡ 0
+unfolding lineAnswer _when_ _then_ labelsFit constellationFits codeFits startRule isStart some startMinute broughtIn limitsRule dsgRule outside
+sample-accepted = refl

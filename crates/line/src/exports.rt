@@ -1,0 +1,95 @@
+// What C calls: the start test, Line and Block, with numbers and byte slices. include/trackline.h declares them.
+ghost use mathlib.Core.Path.{_≡_};
+ghost use lib.ListN.{length};
+ghost use Rattle.schedule.specs.Schedule.{startRule};
+ghost use Rattle.exact.specs.Accurate.{AccurateTrack};
+ghost use Rattle.line.specs.Line.{lineAnswer, lineAfter};
+ghost use Rattle.line.specs.Block.{blockGiven, blockAnswer, blockAfter, readFigures};
+ghost use Rattle.line.specs.Given.{labelsOf, numbersOf};
+use crate::Labels;
+use crate::Numbers;
+use crate::line;
+
+#[no_mangle]
+pub extern "C" fn trackline_start(mjd: u32, second: u32) -> u32
+    ensures { λ r. ⌜ r ≡ startRule mjd second ⌝ }
+{
+    schedule::start(mjd, second)
+}
+
+#[no_mangle]
+pub extern "C" fn trackline_block(block: &[u8], lent: &mut [u8]) -> u32
+    ensures answer { λ r. ⌜ r ≡ blockAnswer (now (block .entry)) (length (now (lent .entry))) ⌝ }
+    ensures written { λ _. ⌜ now (lent .exit) ≡ blockAfter (now (block .entry)) (now (lent .entry)) ⌝ }
+    ensures accurate { λ r. ⌜ (r ≡ 0 → AccurateTrack 52 (blockGiven (now (block .entry))) (readFigures (now (lent .exit)))) ⌝ }
+{
+    crate::block(block, lent)
+}
+
+#[no_mangle]
+pub extern "C" fn trackline_line(
+    constellation: u8,
+    satellite: u8,
+    cl: u8,
+    fr: u8,
+    hc: u8,
+    frc1: u8,
+    frc2: u8,
+    frc3: u8,
+    mjd: u32,
+    start: u32,
+    elv: u16,
+    azth: u16,
+    ioe: u16,
+    refsv: i64,
+    srsv: i64,
+    refsys: i64,
+    srsys: i64,
+    mdtr: i64,
+    smdt: i64,
+    mdio: i64,
+    smdi: i64,
+    dsg: i64,
+    trkl: i64,
+    lent: &mut [u8],
+) -> u32
+    ensures answer { λ r. ⌜
+        r ≡ lineAnswer
+        (labelsOf constellation satellite cl fr hc frc1 frc2 frc3 mjd start elv azth ioe)
+        (numbersOf refsv srsv refsys srsys mdtr smdt mdio smdi dsg trkl)
+        (length (now (lent .entry))) ⌝ }
+    ensures written { λ _. ⌜
+        now (lent .exit) ≡ lineAfter
+        (labelsOf constellation satellite cl fr hc frc1 frc2 frc3 mjd start elv azth ioe)
+        (numbersOf refsv srsv refsys srsys mdtr smdt mdio smdi dsg trkl)
+        (now (lent .entry)) ⌝ }
+{
+    let labels = Labels {
+        constellation,
+        satellite,
+        cl,
+        fr,
+        hc,
+        frc1,
+        frc2,
+        frc3,
+        mjd,
+        start,
+        elv,
+        azth,
+        ioe,
+    };
+    let numbers = Numbers {
+        refsv,
+        srsv,
+        refsys,
+        srsys,
+        mdtr,
+        smdt,
+        mdio,
+        smdi,
+        dsg,
+        trkl,
+    };
+    line(labels, numbers, lent)
+}

@@ -1,0 +1,81 @@
+// Line and Block: labels and the ten numbers of a track, or a hire block, become one data line of 113 columns in a lent line.
+// They refuse labels, starts and numbers that the columns cannot hold, a lent line that is too short, and, in a block, what Track
+// refuses, by the numbers and in the order of document 01. Nothing is written before everything is accepted, and nothing behind the
+// 113 columns.
+ghost use mathlib.Core.Path.{_≡_};
+ghost use lib.ListN.{length};
+ghost use Rattle.exact.specs.Accurate.{AccurateTrack};
+ghost use Rattle.line.specs.Line.{lineAnswer, lineAfter};
+ghost use Rattle.line.specs.Block.{blockGiven, blockAnswer, blockAfter, readFigures};
+use decode::unsigned16;
+
+mod columns;
+pub mod exports;
+mod hire;
+mod ranges;
+
+// The labels of a track, in the order of the hire block.
+pub struct Labels {
+    pub constellation: u8,
+    pub satellite: u8,
+    pub cl: u8,
+    pub fr: u8,
+    pub hc: u8,
+    pub frc1: u8,
+    pub frc2: u8,
+    pub frc3: u8,
+    pub mjd: u32,
+    pub start: u32,
+    pub elv: u16,
+    pub azth: u16,
+    pub ioe: u16,
+}
+
+// The ten numbers of a track, in their fixed order.
+pub struct Numbers {
+    pub refsv: i64,
+    pub srsv: i64,
+    pub refsys: i64,
+    pub srsys: i64,
+    pub mdtr: i64,
+    pub smdt: i64,
+    pub mdio: i64,
+    pub smdi: i64,
+    pub dsg: i64,
+    pub trkl: i64,
+}
+
+// Line of document 01. It answers 0 with the line in the first 113 bytes of the lent one, or the number of the first refusal.
+pub fn line(labels: Labels, numbers: Numbers, lent: &mut [u8]) -> u32
+    ensures answer { λ r. ⌜ r ≡ lineAnswer labels numbers (length (now (lent .entry))) ⌝ }
+    ensures written { λ _. ⌜ now (lent .exit) ≡ lineAfter labels numbers (now (lent .entry)) ⌝ }
+{
+    let answer = ranges::answer(labels, numbers, lent.len());
+    if answer != 0 {
+        return answer;
+    }
+    let text = columns::text(labels, numbers);
+    bytes::copy(&text, lent);
+    0
+}
+
+// The line of a hire block: what it is refused for, else its line in the lent one.
+pub fn block(block: &[u8], lent: &mut [u8]) -> u32
+    ensures answer { λ r. ⌜ r ≡ blockAnswer (now (block .entry)) (length (now (lent .entry))) ⌝ }
+    ensures written { λ _. ⌜ now (lent .exit) ≡ blockAfter (now (block .entry)) (now (lent .entry)) ⌝ }
+    ensures accurate { λ r. ⌜ (r ≡ 0 → AccurateTrack 52 (blockGiven (now (block .entry))) (readFigures (now (lent .exit)))) ⌝ }
+{
+    if block.len() != 8378 {
+        return 11;
+    }
+    if (unsigned16(block, 0) != 780) | (unsigned16(block, 2) != 52) {
+        return 1;
+    }
+    let tracked = hire::track(block);
+    let refusal = tracked.refusal;
+    if refusal != 0 {
+        return refusal;
+    }
+    let record = tracked.record;
+    line(hire::labels(block), hire::numbers(record), lent)
+}

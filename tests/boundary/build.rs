@@ -1,0 +1,19 @@
+//! Links the archive that LINE_ARCHIVE names, or the one that `rt staticlib line` writes.
+
+use std::path::{Path, PathBuf};
+
+fn main() {
+    println!("cargo:rerun-if-env-changed=LINE_ARCHIVE");
+    let root = Path::new(env!("CARGO_MANIFEST_DIR")).join("../..");
+    let archive =
+        std::env::var_os("LINE_ARCHIVE").map(PathBuf::from).unwrap_or_else(|| root.join("target/staticlib/libline.a"));
+    println!("cargo:rerun-if-changed={}", archive.display());
+    let Ok(archive) = archive.canonicalize() else {
+        eprintln!("no archive at {}: run `rt staticlib line`, or set LINE_ARCHIVE to its path", archive.display());
+        std::process::exit(1);
+    };
+    let folder = archive.parent().expect("a file has a folder");
+    let name = archive.file_name().expect("a file has a name").to_string_lossy();
+    println!("cargo:rustc-link-search=native={}", folder.display());
+    println!("cargo:rustc-link-lib=static:+verbatim={name}");
+}

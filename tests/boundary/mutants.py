@@ -1,0 +1,301 @@
+#!/usr/bin/env python3
+"""Shows that the boundary test notices a wrong program.
+
+    python3 tests/boundary/mutants.py [WORD..]     all, or those whose name has one of the words
+
+For each mutant the plain Rust implementation is copied, made wrong in one way, built as an archive with the three C
+functions, and put in the place of the proved one. The boundary test must then fail. The first archive is made without
+an edit, and must pass. Everything is built in a folder of its own. It takes about eight minutes and is no part of
+`make test`.
+"""
+import os
+import pathlib
+import shutil
+import subprocess
+import sys
+import tempfile
+
+HERE = pathlib.Path(__file__).resolve().parent
+REFERENCE = HERE.parent / 'reference'
+MANIFEST = '''[package]
+name = "line"
+version = "0.1.0"
+edition = "2021"
+[lib]
+crate-type = ["staticlib"]
+[dependencies]
+reference = { path = "../mutant/reference" }
+[profile.release]
+panic = "abort"
+'''
+EXPORTS = '''
+use reference::{Labels, Numbers};
+unsafe fn bytes<'a>(at: *const u8, len: usize) -> &'a [u8] {
+    if at.is_null() { &[] } else { std::slice::from_raw_parts(at, len) }
+}
+unsafe fn lent<'a>(at: *mut u8, len: usize) -> &'a mut [u8] {
+    if at.is_null() { &mut [] } else { std::slice::from_raw_parts_mut(at, len) }
+}
+#[no_mangle]
+pub unsafe extern "C" fn trackline_block(block: *const u8, block_len: usize, line: *mut u8, line_len: usize) -> u32 {
+    reference::block(bytes(block, block_len), lent(line, line_len))
+}
+#[no_mangle]
+pub unsafe extern "C" fn trackline_line(
+    constellation: u8, satellite: u8, cl: u8, fr: u8, hc: u8, frc1: u8, frc2: u8, frc3: u8,
+    mjd: u32, start: u32, elv: u16, azth: u16, ioe: u16,
+    refsv: i64, srsv: i64, refsys: i64, srsys: i64,
+    mdtr: i64, smdt: i64, mdio: i64, smdi: i64, dsg: i64, trkl: i64,
+    line: *mut u8, line_len: usize,
+) -> u32 {
+    let frc = [frc1, frc2, frc3];
+    let labels = Labels { constellation, satellite, cl, fr, hc, frc, mjd, start, elv, azth, ioe };
+    let numbers = Numbers { refsv, srsv, refsys, srsys, mdtr, smdt, mdio, smdi, dsg, trkl };
+    reference::line(&labels, &numbers, lent(line, line_len))
+}
+#[no_mangle]
+pub unsafe extern "C" fn trackline_start(mjd: u32, second: u32) -> u32 {
+    reference::start(mjd, second)
+}
+'''
+RESIDUAL = 'let residual = nearest(46852 * v - 901 * s - place(j) * t, 46852);'
+SQUARE = 'q += i128::from(residual) * i128::from(residual);'
+SMOOTHED = 'Ok(nearest(sum, 1105))'
+COPY = 'lent[..LINE_BYTES].copy_from_slice(&line_text(labels, numbers));'
+JUDGED = 'if let Err(refusal) = judge(labels, numbers, lent.len()) {'
+LABELS = 'if !labels.in_range() || numbers.trkl != 780 {'
+SIZES = 'u16_at(block, 0) != SECONDS as u16 || u16_at(block, 2) != BLOCKS as u16'
+# name, then file, text and what to write for it, as often as needed
+MUTANTS = [
+    # what the paper calls plausible and wrong
+    ('ties away from zero', 'lib.rs', '(2 * n + d).div_euclid(2 * d)',
+     '(2 * n.abs() + d).div_euclid(2 * d) * n.signum()'),
+    ('residuals divided by 50', 'fit.rs', '52 * root * root', '50 * root * root'),
+    ('midpoint at second 390', 'fit.rs', 'nearest(s, 5200)', 'nearest(13515 * s + t, 70278000)'),
+    ('REFSYS from rounded terms', 'track.rs', 'refsys: line_b.midpoint',
+     'refsys: line_a.midpoint + fit(columns.clock)?.midpoint'),
+    ('REF subtracted with CAB', 'track.rs', 'delays.cab - delays.refdly', 'delays.cab + delays.refdly'),
+    ('checksum through its own columns', 'line.rs', 'text.hexadecimal(check);',
+     'text.hexadecimal(check); let own = text.sum(); text.len -= 2; text.hexadecimal(own);'),
+    # roundings
+    ('smoothed value floored', 'fit.rs', SMOOTHED, 'Ok(sum.div_euclid(1105))'),
+    ('smoothed value cut', 'fit.rs', SMOOTHED, 'Ok(sum / 1105)'),
+    ('smoothed value up a little early', 'fit.rs', SMOOTHED, 'Ok((sum + 553).div_euclid(1105))'),
+    ('smoothed value up a little late', 'fit.rs', SMOOTHED, 'Ok((sum + 551).div_euclid(1105))'),
+    ('smoothed value the plain mean', 'fit.rs', SMOOTHED,
+     '{ let _ = sum; Ok(nearest(measurements.iter().sum(), 15)) }'),
+    ('midpoint ties away', 'fit.rs', 'nearest(s, 5200)', 'nearest(s.abs(), 5200) * s.signum()'),
+    ('midpoint ties down', 'fit.rs', 'nearest(s, 5200)', '-nearest(-s, 5200)'),
+    ('midpoint cut', 'fit.rs', 'nearest(s, 5200)', '(2 * s + 5200) / 10400'),
+    ('slope cut', 'fit.rs', 'nearest(t, 35139)', '(2 * t + 35139) / 70278'),
+    ('slope up a little early', 'fit.rs', 'nearest(t, 35139)', '(2 * t + 35140).div_euclid(70278)'),
+    ('slope over 35140', 'fit.rs', 'nearest(t, 35139)', 'nearest(t, 35140)'),
+    ('residual ties away', 'fit.rs', RESIDUAL, 'let x = 46852 * v - 901 * s - place(j) * t; '
+     'let residual = nearest(x.abs(), 46852) * x.signum();'),
+    ('residual ties down', 'fit.rs', RESIDUAL,
+     'let residual = -nearest(901 * s + place(j) * t - 46852 * v, 46852);'),
+    ('residual floored', 'fit.rs', RESIDUAL,
+     'let residual = (46852 * v - 901 * s - place(j) * t).div_euclid(46852);'),
+    ('residual without the slope', 'fit.rs', ' - place(j) * t, 46852', ', 46852'),
+    ('squares summed in 64 bits', 'fit.rs', SQUARE,
+     'q = i128::from((q as u64).wrapping_add((residual as u64).wrapping_mul(residual as u64)));'),
+    ('squares in 64 bits', 'fit.rs', SQUARE, 'q += i128::from(residual.wrapping_mul(residual));'),
+    ('DSG below its edge', 'fit.rs', 'if edge(d) <= q', 'if edge(d) < q'),
+    ('DSG one too many', 'fit.rs', 'q >= edge(MOST_DSG + 1)', 'q > edge(MOST_DSG + 1)'),
+    ('DSG one too few', 'fit.rs', 'q >= edge(MOST_DSG + 1)', 'q >= edge(MOST_DSG)'),
+    ('DSG floored', 'fit.rs', '100 * d - 50', '100 * d'),
+    ('a weight moved', 'fit.rs', '147, 162, 167, 162', '147, 161, 168, 162'),
+    ('weights askew', 'fit.rs', '42, -13, -78]', '42, -14, -77]'),
+    ('first block copied', 'track.rs', '[BLOCK_SECONDS * j..BLOCK_SECONDS * (j + 1)]', '[..BLOCK_SECONDS]'),
+    # corrections
+    ('geometry added', 'track.rs', '- columns.geometry[j]', '+ columns.geometry[j]'),
+    ('relativity subtracted', 'track.rs', '+ columns.relativity[j]', '- columns.relativity[j]'),
+    ('ionosphere added', 'track.rs', '- columns.ionosphere[j]', '+ columns.ionosphere[j]'),
+    ('troposphere added', 'track.rs', '- columns.troposphere[j]', '+ columns.troposphere[j]'),
+    ('GD added', 'track.rs', '- delays.gd;', '+ delays.gd;'),
+    ('GD forgotten', 'track.rs', '- delays.gd;', ';'),
+    ('clock subtracted', 'track.rs', 'a[j] + columns.clock[j]', 'a[j] - columns.clock[j]'),
+    ('C and D exchanged', 'track.rs', 'c[j] = columns.troposphere[j]', 'c[j] = columns.ionosphere[j]',
+     'track.rs', 'd[j] = columns.ionosphere[j]', 'd[j] = columns.troposphere[j]'),
+    ('a picosecond lost in A', 'track.rs', '- delays.gd;', '- delays.gd - i64::from(j == 17);'),
+    ('a picosecond lost in B', 'track.rs', '+ columns.clock[j];', '+ columns.clock[j] - i64::from(j == 51);'),
+    # limits
+    ('measurement limit up', 'fit.rs', 'i64 = 1_000_000_000_000', 'i64 = 1_000_000_000_001'),
+    ('measurement limit down', 'fit.rs', 'i64 = 1_000_000_000_000', 'i64 = 999_999_999_999'),
+    ('geometry limit up', 'track.rs', 'i64 = 200_000_000_000', 'i64 = 200_000_000_001'),
+    ('geometry limit down', 'track.rs', 'i64 = 200_000_000_000', 'i64 = 199_999_999_999'),
+    ('correction limit up', 'track.rs', 'i64 = 10_000_000_000', 'i64 = 10_000_000_001'),
+    ('correction limit down', 'track.rs', 'i64 = 10_000_000_000', 'i64 = 9_999_999_999'),
+    ('clock without limit', 'track.rs', 'lists[1..].iter()', 'lists[1..4].iter()'),
+    ('relativity without limit', 'track.rs', 'lists[1..].iter()', 'lists[2..].iter()'),
+    ('GD without limit', 'track.rs', 'delays.refdly, delays.gd]', 'delays.refdly, 0]'),
+    ('last measurement without limit', 'track.rs', 'all_within(measurements,', 'all_within(&measurements[..779],',
+     'fit.rs', 'measurements.iter().any', 'measurements[..14].iter().any',
+     'fit.rs', 'map(|(w, m)| w * m).sum()', 'fold(0i64, |s, (w, m)| s.wrapping_add(w.wrapping_mul(*m)))'),
+    ('limit by magnitude', 'lib.rs', '-limit <= v && v <= limit', 'v.wrapping_abs() <= limit'),
+    ('limit open below', 'lib.rs', '-limit <= v', '-limit < v'),
+    ('10 too early', 'fit.rs', 'i64 = 2_000_000_000_000', 'i64 = 1_600_000_000_000'),
+    ('REFSV one digit more', 'track.rs', 'self.refsv, 9_999_999_999', 'self.refsv, 10_000_000_000'),
+    ('REFSYS not tested', 'track.rs', '|| !within(self.refsys, 9_999_999_999)', ''),
+    ('SRSV limit up', 'track.rs', 'self.srsv, 99_999', 'self.srsv, 100_000'),
+    ('SRSYS limit down', 'track.rs', 'self.srsys, 99_999', 'self.srsys, 99_998'),
+    ('SMDT limit up', 'track.rs', 'self.smdt, 999', 'self.smdt, 1000'),
+    ('SMDI not tested', 'track.rs', '!within(self.smdi, 999)', 'false'),
+    ('MDTR below 0', 'track.rs', '(0..=9999).contains(&self.mdtr)', '(-1..=9999).contains(&self.mdtr)'),
+    ('MDIO 10000', 'track.rs', '(0..=9999).contains(&self.mdio)', '(0..=10000).contains(&self.mdio)'),
+    ('DSG below 0', 'track.rs', '(0..=MOST_DSG).contains', '(-1..=MOST_DSG).contains'),
+    # order
+    ('4 before 3', 'track.rs', 'if !within(self.refsv',
+     'if !within(self.srsv, 99_999) { return Err(4); }\nif !within(self.refsv'),
+    ('5 before 4', 'track.rs', 'let slopes =', 'if self.mdio < 0 { return Err(5); }\nlet slopes ='),
+    ('6 before 3 in Track', 'track.rs', 'numbers.check_fits()?;\n    numbers.dsg = scatter(&b)?;',
+     'numbers.dsg = scatter(&b)?;\n    numbers.check_fits()?;'),
+    ('6 before 3 in Line', 'line.rs', 'numbers.check_fits()?;\n',
+     'numbers.check_dsg()?;\n    numbers.check_fits()?;\n'),
+    ('3 before 8 in Line', 'line.rs', 'if start(labels.mjd', 'numbers.check_fits()?;\n    if start(labels.mjd'),
+    ('track length after the start', 'line.rs', LABELS, 'if !labels.in_range() {', 'line.rs', 'numbers.check_fits()?;',
+     'if numbers.trkl != 780 { return Err(7); }\n    numbers.check_fits()?;'),
+    ('9 first in Line', 'line.rs', LABELS, 'if lent < LINE_BYTES { return Err(9); }\n    ' + LABELS),
+    ('9 before Track', 'block.rs', 'match track(', 'if lent.len() < 113 { return 9; }\n    match track('),
+    ('9 never', 'line.rs', 'return Err(9);', 'return Ok(());', 'line.rs', COPY,
+     'let n = lent.len().min(113); lent[..n].copy_from_slice(&line_text(labels, numbers)[..n]);'),
+    ('9 at 113', 'line.rs', 'lent < LINE_BYTES', 'lent <= LINE_BYTES'),
+    ('labels before Track', 'block.rs', 'match track(', 'let n = crate::Numbers { trkl: 780, ..Default::default() };\n'
+     'let r = line(&labels(block), &n, &mut [0; 113]); if r != 0 { return r; }\n    match track('),
+    ('1 before 11', 'block.rs', 'if block.len() != BLOCK_BYTES',
+     'if block.len() >= 4 && (%s) { return 1; }\n    if block.len() != BLOCK_BYTES' % SIZES),
+    ('longer blocks taken', 'block.rs', 'block.len() != BLOCK_BYTES', 'block.len() < BLOCK_BYTES'),
+    ('second size not tested', 'block.rs', ' || u16_at(block, 2) != BLOCKS as u16', ''),
+    ('sizes added', 'block.rs', SIZES, 'u16_at(block, 0).wrapping_add(u16_at(block, 2)) != 832'),
+    # labels
+    ('satellite 100', 'line.rs', '(1..=99).contains(&self.sat', '(1..=100).contains(&self.sat'),
+    ('satellite 0', 'line.rs', '(1..=99).contains(&self.sat', '(0..=99).contains(&self.sat'),
+    ('HC 100', 'line.rs', 'self.hc <= 99', 'self.hc <= 100'),
+    ('ELV 901', 'line.rs', 'self.elv <= 900', 'self.elv <= 901'),
+    ('AZTH 3600', 'line.rs', 'self.azth <= 3599', 'self.azth <= 3600'),
+    ('AZTH not 3599', 'line.rs', 'self.azth <= 3599', 'self.azth <= 3598'),
+    ('IOE 0 for R', 'line.rs', "b'R' => 1..=96", "b'R' => 0..=96"),
+    ('IOE 97 for R', 'line.rs', "b'R' => 1..=96", "b'R' => 1..=97"),
+    ('IOE 24 for C', 'line.rs', '0..=23', '0..=24'),
+    ('IOE 256 for G and J', 'line.rs', '0..=255', '0..=256'),
+    ('IOE 1000 for E', 'line.rs', '0..=999', '0..=1000'),
+    ('FR 25', 'line.rs', '1..=24', '1..=25'),
+    ('FR 0 for R', 'line.rs', '1..=24', '0..=24'),
+    ('FR 1 for the others', 'line.rs', '0..=0', '0..=1'),
+    ('small letters in FRC', 'line.rs', 'is_ascii_uppercase', 'is_ascii_alphabetic'),
+    ('letter S', 'line.rs', "b'G' | b'J' =>", "b'G' | b'J' | b'S' =>"),
+    ('MJD 50721', 'schedule.rs', 'u32 = 50722', 'u32 = 50721'),
+    ('MJD not 99999', 'schedule.rs', 'u32 = 99999', 'u32 = 99998'),
+    # schedule
+    ('a day of 1436 minutes', 'schedule.rs', 'i64 = 1440', 'i64 = 1436'),
+    ('90 tracks', 'schedule.rs', '1..=89', '1..=90'),
+    ('88 tracks', 'schedule.rs', '1..=89', '1..=88'),
+    ('later each day', 'schedule.rs', '- 4 * n', '+ 4 * n'),
+    ('seconds of the minute ignored', 'schedule.rs', 'i64::from(second) == 60 * minute',
+     'i64::from(second) / 60 == minute'),
+    ('seconds past the day', 'schedule.rs', 'i64::from(second) ==', 'i64::from(second) % 86400 =='),
+    # text
+    ('blank fill', 'line.rs', "self.bytes[i] = b'0' + (rest % 10) as u8;",
+     "self.bytes[i] = if rest == 0 && i + 1 < self.len + width { b' ' } else { b'0' + (rest % 10) as u8 };"),
+    ('minus before zero', 'line.rs', 'if value < 0', 'if value <= 0'),
+    ('blank for plus', 'line.rs', "else { b'+' }", "else { b' ' }"),
+    ('small hexadecimal', 'line.rs', 'ABCDEF', 'abcdef'),
+    ('hexadecimal digits exchanged', 'line.rs', 'value >> 4', 'value & 15',
+     'line.rs', 'usize::from(value & 15)]);\n    }', 'usize::from(value >> 4)]);\n    }'),
+    ('checksum to column 110', 'line.rs', 'self.bytes[..self.len].iter()', 'self.bytes[..self.len - 1].iter()'),
+    ('REFSV twice', 'line.rs', 'text.signed(10, numbers.refsys)', 'text.signed(10, numbers.refsv)'),
+    ('MDTR twice', 'line.rs', 'text.decimal(4, numbers.mdio', 'text.decimal(4, numbers.mdtr'),
+    ('HC twice', 'line.rs', 'text.decimal(2, labels.fr', 'text.decimal(2, labels.hc'),
+    ('minutes of the day', 'line.rs', 'labels.start / 60 % 60', 'labels.start / 60 % 100'),
+    ('FRC backwards', 'line.rs', 'labels.frc.iter().for_each', 'labels.frc.iter().rev().for_each'),
+    # the lent line
+    ('a 114th byte', 'line.rs', COPY, COPY + ' if lent.len() > 113 { lent[113] = 0; }'),
+    ('a line end', 'line.rs', COPY, COPY + ' if lent.len() > 114 { lent[113] = 13; lent[114] = 10; }'),
+    ('the rest cleared', 'line.rs', COPY, COPY + ' lent[LINE_BYTES..].fill(0);'),
+    ('nothing written', 'line.rs', COPY, 'let _ = line_text(labels, numbers);'),
+    ('written on a refusal', 'line.rs', JUDGED, JUDGED + " if let Some(b) = lent.first_mut() { *b = b'?'; }"),
+    ('written on 9', 'line.rs', JUDGED, JUDGED + ' if refusal == 9 { let n = lent.len(); '
+     'lent.copy_from_slice(&line_text(labels, numbers)[..n]); }'),
+    ('a byte past the lent line', 'EXPORTS', '    let frc = [',
+     '    if line_len == 113 { *line.add(113) = 7; }\n    let frc = ['),
+    ('a byte before the lent line', 'EXPORTS', '    reference::block(',
+     '    if line_len == 4096 { *line.sub(1) = 7; }\n    reference::block('),
+    # the block's bytes
+    ('start of 16 bits', 'block.rs', 'start: u32_at(block, 16)', 'start: u16_at(block, 16).into()'),
+    ('MJD of 17 bits', 'block.rs', 'mjd: u32_at(block, 12)', 'mjd: u32_at(block, 12) & 0x1ffff'),
+    ('sizes with the high byte first', 'block.rs', 'u16_at(block, 0) !=', 'u16_at(block, 0).swap_bytes() !='),
+    ('REF and GD exchanged', 'block.rs', 'refdly: i64_at(block, 42), gd: i64_at(block, 50)',
+     'refdly: i64_at(block, 50), gd: i64_at(block, 42)'),
+    ('clock and troposphere exchanged', 'block.rs', 'troposphere: &column(block, 3)', 'troposphere: &column(block, 4)',
+     'block.rs', 'clock: &column(block, 4)', 'clock: &column(block, 3)'),
+    ('columns for groups', 'block.rs', '40 * j + 8 * which', '8 * j + 416 * which'),
+    ('ELV and AZTH exchanged', 'block.rs', 'elv: u16_at(block, 20)', 'elv: u16_at(block, 22)',
+     'block.rs', 'azth: u16_at(block, 22)', 'azth: u16_at(block, 20)'),
+]
+
+
+def edited(text, old, new):
+    if text.count(old) != 1:
+        raise SystemExit('mutants: %r stands %d times' % (old, text.count(old)))
+    return text.replace(old, new)
+
+
+def write_mutant(folder, edits):
+    """The implementation and the exports, with these edits."""
+    source = folder / 'mutant' / 'reference' / 'src'
+    exports = EXPORTS
+    shutil.rmtree(source, ignore_errors=True)
+    shutil.copytree(REFERENCE / 'src', source, copy_function=shutil.copyfile)
+    for name, old, new in zip(edits[::3], edits[1::3], edits[2::3]):
+        if name == 'EXPORTS':
+            exports = edited(exports, old, new)
+        else:
+            (source / name).write_text(edited((source / name).read_text(), old, new))
+    (folder / 'line' / 'src' / 'lib.rs').write_text(exports)
+
+
+def prepare(folder):
+    (folder / 'line' / 'src').mkdir(parents=True)
+    (folder / 'line' / 'Cargo.toml').write_text(MANIFEST)
+    (folder / 'mutant' / 'reference').mkdir(parents=True)
+    shutil.copyfile(REFERENCE / 'Cargo.toml', folder / 'mutant' / 'reference' / 'Cargo.toml')
+    # the implementation reads the published lines from beside it, and its tests are not built
+    shutil.copytree(HERE.parent / 'published', folder / 'mutant' / 'published')
+
+
+def cargo(folder, *arguments):
+    environment = dict(os.environ, CARGO_TARGET_DIR=str(folder / 'target'), RUSTFLAGS='-Awarnings',
+                       LINE_ARCHIVE=str(folder / 'target' / 'release' / 'libline.a'))
+    result = subprocess.run(['cargo', 'build', '--release', '--offline', '--quiet', *arguments],
+                            env=environment, capture_output=True, text=True)
+    if result.returncode:
+        raise SystemExit('mutants: no build\n' + result.stderr)
+
+
+def passes(folder, edits):
+    """Whether the boundary test passes with this mutant."""
+    write_mutant(folder, edits)
+    cargo(folder, '--manifest-path', str(folder / 'line' / 'Cargo.toml'))
+    cargo(folder, '--manifest-path', str(HERE / 'Cargo.toml'))
+    test = subprocess.run([str(folder / 'target' / 'release' / 'boundary')], capture_output=True)
+    return test.returncode == 0
+
+
+def main(words):
+    chosen = [m for m in MUTANTS if not words or any(word in m[0] for word in words)]
+    with tempfile.TemporaryDirectory() as name:
+        folder = pathlib.Path(name)
+        prepare(folder)
+        if not passes(folder, ()):
+            raise SystemExit('mutants: the test fails on the implementation itself')
+        missed = []
+        for label, *edits in chosen:
+            noticed = not passes(folder, edits)
+            print('%-8s %s' % ('noticed' if noticed else 'MISSED', label), flush=True)
+            missed += [] if noticed else [label]
+    print('mutants: %d of %d noticed' % (len(chosen) - len(missed), len(chosen)))
+    return 1 if missed else 0
+
+
+if __name__ == '__main__':
+    sys.exit(main(sys.argv[1:]))

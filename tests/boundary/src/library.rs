@@ -1,0 +1,75 @@
+//! The archive's three C functions, called as a C program calls them.
+
+use reference::{Labels, Numbers};
+
+extern "C" {
+    fn trackline_block(block: *const u8, block_len: usize, line: *mut u8, line_len: usize) -> u32;
+    #[rustfmt::skip]
+    fn trackline_line(
+        constellation: u8,
+        satellite: u8,
+        cl: u8,
+        fr: u8,
+        hc: u8,
+        frc1: u8,
+        frc2: u8,
+        frc3: u8,
+        mjd: u32,
+        start: u32,
+        elv: u16,
+        azth: u16,
+        ioe: u16,
+        refsv: i64,
+        srsv: i64,
+        refsys: i64,
+        srsys: i64,
+        mdtr: i64,
+        smdt: i64,
+        mdio: i64,
+        smdi: i64,
+        dsg: i64,
+        trkl: i64,
+        line: *mut u8,
+        line_len: usize,
+    ) -> u32;
+    fn trackline_start(mjd: u32, second: u32) -> u32;
+}
+
+/// A slice, or NULL with length 0.
+pub type Bytes<'a> = Option<&'a [u8]>;
+pub type LentBytes<'a> = Option<&'a mut [u8]>;
+
+fn as_c(bytes: Bytes) -> (*const u8, usize) {
+    bytes.map_or((std::ptr::null(), 0), |b| (b.as_ptr(), b.len()))
+}
+
+fn lent_as_c(lent: LentBytes) -> (*mut u8, usize) {
+    lent.map_or((std::ptr::null_mut(), 0), |b| (b.as_mut_ptr(), b.len()))
+}
+
+pub fn block(block: Bytes, lent: LentBytes) -> u32 {
+    let (block, block_len) = as_c(block);
+    let (line, line_len) = lent_as_c(lent);
+    // SAFETY: both are live slices, or NULL with length 0, which the interface allows.
+    unsafe { trackline_block(block, block_len, line, line_len) }
+}
+
+#[rustfmt::skip]
+pub fn line(l: &Labels, n: &Numbers, lent: LentBytes) -> u32 {
+    let (line, line_len) = lent_as_c(lent);
+    // SAFETY: a live slice, or NULL with length 0, which the interface allows.
+    unsafe {
+        trackline_line(
+            l.constellation, l.satellite, l.cl, l.fr, l.hc, l.frc[0], l.frc[1], l.frc[2],
+            l.mjd, l.start, l.elv, l.azth, l.ioe,
+            n.refsv, n.srsv, n.refsys, n.srsys,
+            n.mdtr, n.smdt, n.mdio, n.smdi, n.dsg, n.trkl,
+            line, line_len,
+        )
+    }
+}
+
+pub fn start(mjd: u32, second: u32) -> u32 {
+    // SAFETY: numbers only.
+    unsafe { trackline_start(mjd, second) }
+}

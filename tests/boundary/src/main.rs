@@ -1,0 +1,93 @@
+//! Compares the archive's C functions with the plain Rust implementation on seeded blocks, lines and starts.
+//!
+//!     boundary [SEED [SCALE]]
+//!
+//! Prints how many cases each answer, each pair of faults and each lent line had. Fails where the two differ in an
+//! answer or in a byte, and where a refusal or a pair of faults that can be reached was not.
+
+mod blocks;
+mod case;
+mod compare;
+mod edges;
+mod faults;
+mod library;
+mod lines;
+mod starts;
+
+use compare::{Compare, Lent};
+use reference::seeded::Seeded;
+use std::process::ExitCode;
+
+const LENTS: [Lent; 6] =
+    [Lent::Null, Lent::Bytes(0), Lent::Bytes(112), Lent::Bytes(113), Lent::Bytes(114), Lent::Bytes(4096)];
+
+fn main() -> ExitCode {
+    let arguments: Vec<u64> = std::env::args().skip(1).map(|a| a.parse().expect("a number")).collect();
+    let seed = arguments.first().copied().unwrap_or(1);
+    let scale = arguments.get(1).copied().unwrap_or(1) as usize;
+    let mut compare = Compare::new(seed);
+    lines::run(&mut compare, &mut Seeded::new(seed + 1), scale);
+    blocks::run(&mut compare, &mut Seeded::new(seed + 2), scale);
+    starts::run(&mut compare, &mut Seeded::new(seed + 3), scale);
+    let missing = report(&compare);
+    missing.iter().for_each(|what| eprintln!("MISSING: {what}"));
+    if compare.agreed() && missing.is_empty() {
+        println!("boundary: no difference");
+        return ExitCode::SUCCESS;
+    }
+    println!("boundary: FAILED");
+    ExitCode::FAILURE
+}
+
+/// Prints the counts; gives what should have been seen and was not.
+fn report(compare: &Compare) -> Vec<String> {
+    let mut missing = Vec::new();
+    for (of, order) in [("block", &faults::BLOCK_ORDER[..]), ("line", &faults::LINE_ORDER), ("start", &[7, 8])] {
+        let seen = |answer: u32| compare.answers.get(&(of, answer)).copied().unwrap_or(0);
+        let total: u64 = compare.answers.iter().filter(|(key, _)| key.0 == of).map(|(_, count)| count).sum();
+        println!("trackline_{of}: {total} cases");
+        for answer in std::iter::once(0).chain(order.iter().copied()) {
+            println!("  answer {answer:2}: {:9}", seen(answer));
+            if seen(answer) == 0 {
+                missing.push(format!("trackline_{of} never answered {answer}"));
+            }
+        }
+        pairs(compare, of, order, &mut missing);
+        if of != "start" {
+            lents(compare, of, order, &mut missing);
+        }
+    }
+    missing
+}
+
+/// A row for each deciding fault, a column for each other.
+fn pairs(compare: &Compare, of: &'static str, order: &[u32], missing: &mut Vec<String>) {
+    println!("  cases with two faults, the row's decides:");
+    for (i, first) in order.iter().enumerate() {
+        let mut row = format!("    {first:2}:");
+        for second in &order[i + 1..] {
+            let count = compare.pairs.get(&(of, *first, *second)).copied().unwrap_or(0);
+            row += &format!(" {second}:{count}");
+            if count == 0 {
+                missing.push(format!("trackline_{of} never met faults {first} and {second} together"));
+            }
+        }
+        println!("{row}");
+    }
+}
+
+/// Each answer with each lent line that it can go with.
+fn lents(compare: &Compare, of: &'static str, order: &[u32], missing: &mut Vec<String>) {
+    println!("  lent lines, all answers:");
+    for lent in LENTS {
+        let seen = |answer: u32| compare.lents.get(&(of, answer, lent)).copied().unwrap_or(0);
+        let answers = std::iter::once(0).chain(order.iter().copied());
+        println!("    {lent:?}: {}", answers.clone().map(seen).sum::<u64>());
+        let long = lent.len() >= reference::LINE_BYTES;
+        for answer in answers.filter(|answer| !(*answer == 0 && !long || *answer == 9 && long)) {
+            if seen(answer) == 0 {
+                missing.push(format!("trackline_{of} never answered {answer} to a lent line of {lent:?}"));
+            }
+        }
+    }
+}

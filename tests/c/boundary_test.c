@@ -1,0 +1,302 @@
+/*
+ * Calls the three functions from C, as a receiver's control program does: the paper's cases, each refusal, the order
+ * of two faults, and every byte of lent lines of all the lengths that matter. Expected answers and lines are written
+ * out here and come from the paper or were worked out by hand.
+ *
+ *     cc -std=c11 -Wall -Wextra -Werror -pedantic -Iinclude tests/c/boundary_test.c libline.a && ./a.out
+ */
+#include <inttypes.h>
+#include <stdio.h>
+#include <string.h>
+
+#include "trackline.h"
+
+static const char SAMPLE[] = "G05 FF 50722 000200 0780 450 1800 +0000000010 +00000 +0000000010 +00000 "
+                             "0000 007 0000 +000 0000 +000 00 00 L1C 26";
+static const char WIDEST[] = "R99 0A 50723 235800 0780 900 3599 -9999999999 +99999 +9999999999 -99999 "
+                             "9999 096 9999 -999 0007 +999 24 99 0Z9 FF";
+
+static int failed, checked;
+
+static void expect(const char *what, uint32_t got, uint32_t wanted)
+{
+    checked++;
+    if (got != wanted) {
+        failed++;
+        printf("FAILED %s: answered %" PRIu32 ", should be %" PRIu32 "\n", what, got, wanted);
+    }
+}
+
+static void expect_true(const char *what, int holds)
+{
+    checked++;
+    if (!holds) {
+        failed++;
+        printf("FAILED %s\n", what);
+    }
+}
+
+/* What trackline_line is given. */
+struct given {
+    uint8_t constellation, satellite, cl, fr, hc, frc[3];
+    uint32_t mjd, start;
+    uint16_t elv, azth, ioe;
+    int64_t refsv, srsv, refsys, srsys, mdtr, smdt, mdio, smdi, dsg, trkl;
+};
+
+static const struct given GOOD = {
+    'G', 5, 255, 0, 0, {'L', '1', 'C'}, 50722, 120, 450, 1800, 7, 10, 0, 10, 0, 0, 0, 0, 0, 0, 780};
+static const struct given FULL = {
+    'R', 99, 10, 24, 99, {'0', 'Z', '9'}, 50723, 86280, 900, 3599, 96,
+    -9999999999, 99999, 9999999999, -99999, 9999, -999, 7, 999, 9999, 780};
+
+static uint32_t line_of(const struct given *g, uint8_t *line, size_t length)
+{
+    return trackline_line(g->constellation, g->satellite, g->cl, g->fr, g->hc, g->frc[0], g->frc[1], g->frc[2],
+                          g->mjd, g->start, g->elv, g->azth, g->ioe, g->refsv, g->srsv, g->refsys, g->srsys,
+                          g->mdtr, g->smdt, g->mdio, g->smdi, g->dsg, g->trkl, line, length);
+}
+
+/* The sample's hire block. */
+static void sample_block(uint8_t *block)
+{
+    static const uint8_t labels[26] = {0x0C, 0x03, 52, 0, 'G', 5, 255, 0, 0, 'L', '1', 'C', 0x22, 0xC6, 0, 0,
+                                       120, 0, 0, 0, 0xC2, 0x01, 0x08, 0x07, 7, 0};
+    memset(block, 0, TRACKLINE_BLOCK_BYTES);
+    memcpy(block, labels, sizeof labels);
+    for (int i = 0; i < 780; i++) {
+        block[58 + 8 * i] = 0xE8;
+        block[59 + 8 * i] = 0x03;
+    }
+}
+
+/* Puts a signed number of eight bytes, the lowest first. */
+static void put_ps(uint8_t *block, size_t at, int64_t value)
+{
+    for (int i = 0; i < 8; i++) {
+        block[at + (size_t)i] = (uint8_t)((uint64_t)value >> (8 * i));
+    }
+}
+
+enum { ROOM = 4096, EDGE = 32 };
+static uint8_t room[EDGE + ROOM + EDGE];
+
+static uint8_t pattern(size_t i)
+{
+    return (uint8_t)(i * 167 + 89);
+}
+
+/* The room as it was filled, but for this text at the lent line's start. */
+static int kept_but(const char *text, size_t count)
+{
+    for (size_t i = 0; i < sizeof room; i++) {
+        int written = i >= EDGE && i < EDGE + count;
+        uint8_t wanted = written ? (uint8_t)text[i - EDGE] : pattern(i);
+        if (room[i] != wanted) {
+            return 0;
+        }
+    }
+    return 1;
+}
+
+static void fill(void)
+{
+    for (size_t i = 0; i < sizeof room; i++) {
+        room[i] = pattern(i);
+    }
+}
+
+/* Line and Block with a lent line of this length. */
+static void try_length(size_t length)
+{
+    static uint8_t block[TRACKLINE_BLOCK_BYTES];
+    uint32_t wanted = length < 113 ? 9 : 0;
+    size_t count = length < 113 ? 0 : 113;
+    uint8_t *line = room + EDGE;
+
+    fill();
+    expect("Line by lent length", line_of(&GOOD, line, length), wanted);
+    expect_true("Line: every byte of the lent line", kept_but(SAMPLE, count));
+    fill();
+    expect("Line with the widest numbers", line_of(&FULL, line, length), wanted);
+    expect_true("Line: every byte, widest numbers", kept_but(WIDEST, count));
+    fill();
+    sample_block(block);
+    expect("Block by lent length", trackline_block(block, sizeof block, line, length), wanted);
+    expect_true("Block: every byte of the lent line", kept_but(SAMPLE, count));
+    block[5] = 0;
+    fill();
+    expect("Block refused", trackline_block(block, sizeof block, line, length), 7);
+    expect_true("Block refused: every byte kept", kept_but("", 0));
+}
+
+static void lengths(void)
+{
+    static uint8_t block[TRACKLINE_BLOCK_BYTES];
+    static const size_t tried[] = {0, 1, 112, 113, 114, ROOM};
+    for (size_t i = 0; i < sizeof tried / sizeof tried[0]; i++) {
+        try_length(tried[i]);
+    }
+    sample_block(block);
+    expect("Line, no lent line", line_of(&GOOD, NULL, 0), 9);
+    expect("Block, no lent line", trackline_block(block, sizeof block, NULL, 0), 9);
+    expect("Block, no block", trackline_block(NULL, 0, room, sizeof room), 11);
+    expect("Block, nothing at all", trackline_block(NULL, 0, NULL, 0), 11);
+}
+
+static void starts(void)
+{
+    static const uint32_t cases[][3] = {
+        {50722, 120, 0}, {50722, 84600, 0}, {50722, 85560, 8}, {50723, 840, 0}, {50723, 86280, 0}, {50723, 120, 8},
+        {50721, 120, 7}, {100000, 120, 7}, {UINT32_MAX, 120, 7}, {50722, 86520, 8}, {50722, 121, 8},
+        {50722, UINT32_MAX, 8}, {50721, 121, 7}};
+    for (size_t i = 0; i < sizeof cases / sizeof cases[0]; i++) {
+        expect("start", trackline_start(cases[i][0], cases[i][1]), cases[i][2]);
+    }
+    int count = 0;
+    for (uint32_t second = 0; second < 86400; second++) {
+        count += trackline_start(60000, second) == 0;
+    }
+    expect_true("89 starts a day", count == 89);
+}
+
+/* Puts one fault of Line into what is given; the lent line's length is the fault of 9. */
+static void spoil(struct given *g, size_t *length, uint32_t fault)
+{
+    switch (fault) {
+    case 7: g->trkl = 765; break;
+    case 8: g->start = 86280 + 86400; break;
+    case 3: g->refsys = INT64_MIN; break;
+    case 4: g->smdt = 1000; break;
+    case 5: g->mdio = -1; break;
+    case 6: g->dsg = INT64_MAX; break;
+    default: *length = 112; break;
+    }
+}
+
+static void order_of_line(void)
+{
+    static const uint32_t order[] = {7, 8, 3, 4, 5, 6, 9};
+    for (size_t i = 0; i < 7; i++) {
+        for (size_t j = i; j < 7; j++) {
+            struct given g = FULL;
+            size_t length = 113;
+            spoil(&g, &length, order[i]);
+            spoil(&g, &length, order[j]);
+            fill();
+            expect("order of Line", line_of(&g, room + EDGE, length), order[i]);
+            expect_true("refused: nothing written", kept_but("", 0));
+        }
+    }
+}
+
+static void labels(void)
+{
+    struct given g;
+#define LABEL(change)                                               \
+    g = GOOD;                                                       \
+    g.change;                                                       \
+    fill();                                                         \
+    expect(#change, line_of(&g, room + EDGE, 113), 7);              \
+    expect_true(#change " writes nothing", kept_but("", 0))
+    LABEL(constellation = 'S');
+    LABEL(constellation = 'g');
+    LABEL(satellite = 0);
+    LABEL(satellite = 100);
+    LABEL(fr = 1);
+    LABEL(hc = 100);
+    LABEL(frc[0] = 'l');
+    LABEL(frc[1] = ' ');
+    LABEL(frc[2] = 0);
+    LABEL(mjd = 50721);
+    LABEL(mjd = 100000);
+    LABEL(elv = 901);
+    LABEL(azth = 3600);
+    LABEL(ioe = 256);
+    LABEL(ioe = 65535);
+    LABEL(trkl = 781);
+    LABEL(constellation = 'R');
+#undef LABEL
+}
+
+/* Puts one fault of Block into the sample. */
+static void spoil_block(uint8_t *block, size_t *block_len, size_t *line_len, uint32_t fault)
+{
+    switch (fault) {
+    case 11: *block_len = TRACKLINE_BLOCK_BYTES - 1; break;
+    case 1: block[2] = 51; break;
+    case 2: put_ps(block, 50, INT64_MIN); break;
+    case 3:
+        for (int i = 0; i < 780; i++) {
+            put_ps(block, (size_t)(58 + 8 * i), 1000000000000);
+            put_ps(block, (size_t)(6298 + 40 * (i / 15)), -200000000000);
+        }
+        break;
+    case 4: put_ps(block, 6298 + 40 * 51 + 24, 2000000); break;
+    case 5:
+        for (int j = 0; j < 52; j++) {
+            put_ps(block, (size_t)(6298 + 40 * j + 16), 1000000);
+        }
+        break;
+    case 6:
+        for (int j = 0; j < 52; j++) {
+            put_ps(block, (size_t)(6298 + 40 * j + 32), j % 4 == 0 || j % 4 == 3 ? 999950 : -999950);
+        }
+        break;
+    case 7: block[8] = 100; break;
+    case 8: block[16] = 121; break;
+    default: *line_len = 112; break;
+    }
+}
+
+static void order_of_block(void)
+{
+    static const uint32_t order[] = {11, 1, 2, 3, 4, 5, 6, 7, 8, 9};
+    static uint8_t block[TRACKLINE_BLOCK_BYTES];
+    for (size_t i = 0; i < 10; i++) {
+        for (size_t j = i; j < 10; j++) {
+            size_t block_len = sizeof block, line_len = 113;
+            sample_block(block);
+            spoil_block(block, &block_len, &line_len, order[i]);
+            spoil_block(block, &block_len, &line_len, order[j]);
+            fill();
+            expect("order of Block", trackline_block(block, block_len, room + EDGE, line_len), order[i]);
+            expect_true("refused: nothing written", kept_but("", 0));
+        }
+    }
+}
+
+/* Each correction once, so that a wrong sign shows: REFSV 2030, REFSYS 2220, MDTR 130, MDIO 110. */
+static void corrections(void)
+{
+    static const char wanted[] = "G05 FF 50722 000200 0780 450 1800 +0000002030 +00000 +0000002220 +00000 "
+                                 "0000 007 0130 +000 0110 +000 00 00 L1C 35";
+    static const int64_t delays[4] = {100000, 200000, 50000, 30000};
+    static const int64_t columns[5] = {500000, 7000, 11000, 13000, 19000};
+    static uint8_t block[TRACKLINE_BLOCK_BYTES];
+    sample_block(block);
+    for (size_t i = 0; i < 780; i++) {
+        put_ps(block, 58 + 8 * i, 1000000);
+    }
+    for (size_t k = 0; k < 4; k++) {
+        put_ps(block, 26 + 8 * k, delays[k]);
+    }
+    for (size_t i = 0; i < 260; i++) {
+        put_ps(block, 6298 + 8 * i, columns[i % 5]);
+    }
+    fill();
+    expect("corrections", trackline_block(block, sizeof block, room + EDGE, 113), 0);
+    expect_true("corrections: the line", kept_but(wanted, 113));
+}
+
+int main(void)
+{
+    lengths();
+    starts();
+    labels();
+    order_of_line();
+    order_of_block();
+    corrections();
+    printf("c boundary: %d checks, %d failed\n", checked, failed);
+    return failed != 0;
+}

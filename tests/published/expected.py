@@ -1,0 +1,117 @@
+#!/usr/bin/env python3
+"""What Line should answer to the published lines, and their columns in our form, worked out from published.txt.
+
+    python3 tests/published/expected.py            print it
+    python3 tests/published/expected.py --check    compare it with expected.txt, and test the checksums printed in 003
+
+A second way beside the plain Rust implementation, which is compared with expected.txt too (tests/reference).
+"""
+import pathlib
+import sys
+
+HERE = pathlib.Path(__file__).resolve().parent
+NAMES = 'SAT CL MJD STTIME TRKL ELV AZTH REFSV SRSV REFSYS SRSYS DSG IOE MDTR SMDT MDIO SMDI FR HC FRC CK'.split()
+# how a field stands in our line
+OURS = dict(CL='{:02X}', MJD='{:05d}', STTIME='{:06d}', TRKL='{:04d}', ELV='{:03d}', AZTH='{:04d}', REFSV='{:+011d}',
+            SRSV='{:+06d}', REFSYS='{:+011d}', SRSYS='{:+06d}', DSG='{:04d}', IOE='{:03d}', MDTR='{:04d}',
+            SMDT='{:+04d}', MDIO='{:04d}', SMDI='{:+04d}', FR='{:02d}', HC='{:02d}')
+# how wide it stands in document 003's line, whose first column is blank
+WIDTHS = dict(SAT=3, CL=2, MJD=5, STTIME=6, TRKL=4, ELV=3, AZTH=4, REFSV=11, SRSV=6, REFSYS=11, SRSYS=6, DSG=4, IOE=3,
+              MDTR=4, SMDT=4, MDIO=4, SMDI=4)
+HEADER = """# Made by expected.py from published.txt. For each published line: Line's answer and the columns in our
+# form, as published and with what is put in. A line is written where the answer is 0.
+"""
+
+
+def read():
+    """Name, printed fields and fields put in of each published line."""
+    for row in (HERE / 'published.txt').read_text().splitlines():
+        if row.strip() and not row.startswith('#'):
+            name, rest = row.split(':', 1)
+            printed, put = rest.split('|')
+            fields = dict(zip(NAMES, printed.split()))
+            assert len(printed.split()) == len(NAMES), row
+            yield name, fields, dict(word.split('=') for word in put.split())
+
+
+def completed(fields, put):
+    """The printed fields with the missing ones put in."""
+    missing = {name: value for name, value in put.items() if fields[name] == '-' or name == 'SAT'}
+    return {**fields, **missing}
+
+
+def value(fields, name):
+    return int(fields[name], 16) if name == 'CL' else int(fields[name])
+
+
+def text(fields):
+    words = [fields['SAT'][0] + fields['SAT'][1:].zfill(2)]
+    words += [OURS[name].format(value(fields, name)) for name in NAMES[1:19]]
+    columns = ' '.join(words + [fields['FRC']]) + ' '
+    assert len(columns) == 111, columns
+    return columns + '{:02X}'.format(sum(columns.encode()) % 256)
+
+
+def starts(mjd):
+    """The seconds of that day at which a track starts."""
+    return {(120 + 960 * k - 240 * (mjd - 50722)) % 86400 for k in range(89)}
+
+
+def answer(fields):
+    letter, number = fields['SAT'][0], int(fields['SAT'][1:])
+    n = {name: value(fields, name) for name in OURS}
+    issue = {'G': (0, 255), 'J': (0, 255), 'E': (0, 999), 'C': (0, 23), 'R': (1, 96)}.get(letter, (1, 0))
+    channel = (1, 24) if letter == 'R' else (0, 0)
+    ranges = [(number, 1, 99), (n['IOE'], *issue), (n['FR'], *channel), (n['HC'], 0, 99), (n['MJD'], 50722, 99999),
+              (n['ELV'], 0, 900), (n['AZTH'], 0, 3599), (n['TRKL'], 780, 780)]
+    code = set(fields['FRC']) <= set('ABCDEFGHIJKLMNOPQRSTUVWXYZ0123456789')
+    time = fields['STTIME'].zfill(6)
+    second = 3600 * int(time[:2]) + 60 * int(time[2:4]) + int(time[4:])
+
+    def beyond(limit, *names):
+        return any(abs(n[name]) > limit for name in names)
+
+    tests = [(7, not code or any(not low <= v <= high for v, low, high in ranges)),
+             (8, second not in starts(n['MJD'])),
+             (3, beyond(9999999999, 'REFSV', 'REFSYS')),
+             (4, beyond(99999, 'SRSV', 'SRSYS') or beyond(999, 'SMDT', 'SMDI')),
+             (5, any(not 0 <= n[name] <= 9999 for name in ('MDTR', 'MDIO'))),
+             (6, not 0 <= n['DSG'] <= 9999)]
+    return next((refusal for refusal, fails in tests if fails), 0)
+
+
+def expected():
+    records = []
+    for name, fields, put in read():
+        published = completed(fields, put)
+        # what lost its date can't be judged as published
+        known = fields['MJD'] != '-'
+        first = '%d  %s' % (answer(published), text(published)) if known else '-'
+        given = {**published, **put}
+        records.append('%s\n  published  %s\n  put in     %d  %s\n' % (name, first, answer(given), text(given)))
+    return HEADER + '\n' + ''.join(records)
+
+
+def misfits():
+    """Lines of document 003 whose printed checksum is not that of their columns."""
+    for name, fields, _ in read():
+        if name.startswith('003.'):
+            columns = ' '.join(fields[column].rjust(width) for column, width in WIDTHS.items()) + ' '
+            if '{:02X}'.format(sum(columns.encode()) % 256) != fields['CK'].replace('O', '0'):
+                yield name
+
+
+def main():
+    if sys.argv[1:] != ['--check']:
+        print(expected(), end='')
+        return 0
+    bad = list(misfits())
+    same = expected() == (HERE / 'expected.txt').read_text()
+    count = sum(1 for _ in read())
+    print('published: %d lines, expected.txt %s, checksums of 003 %s' % (
+        count, 'agrees' if same else 'DIFFERS', 'do NOT fit: %s' % bad if bad else 'fit'))
+    return 0 if same and not bad else 1
+
+
+if __name__ == '__main__':
+    sys.exit(main())

@@ -1,0 +1,95 @@
+//! Smooth, Fit and Scatter.
+
+use crate::{nearest, within};
+
+/// Limit of one measurement, in ps.
+pub(crate) const MEASUREMENT_LIMIT: i64 = 1_000_000_000_000;
+/// Limit of a value that is fitted, in ps.
+pub(crate) const VALUE_LIMIT: i64 = 2_000_000_000_000;
+/// The greatest DSG that its four columns hold.
+pub(crate) const MOST_DSG: i64 = 9999;
+
+/// Weights over 1105 that give a parabola's value at the middle of fifteen seconds.
+pub const WEIGHTS: [i64; 15] = [-78, -13, 42, 87, 122, 147, 162, 167, 162, 147, 122, 87, 42, -13, -78];
+
+/// A line through 52 values: midpoint in 0.1 ns, slope in 0.1 ps/s.
+#[derive(Clone, Copy, Debug, PartialEq, Eq)]
+pub struct Fitted {
+    pub midpoint: i64,
+    pub slope: i64,
+}
+
+/// Smooth: the parabola's value at the middle of fifteen measurements, in whole ps.
+pub fn smooth(measurements: &[i64]) -> Result<i64, u32> {
+    if measurements.len() != 15 {
+        return Err(1);
+    }
+    if measurements.iter().any(|&m| !within(m, MEASUREMENT_LIMIT)) {
+        return Err(2);
+    }
+    // the weights' magnitudes sum to 1469: below 1.5e15
+    let sum: i64 = WEIGHTS.iter().zip(measurements).map(|(w, m)| w * m).sum();
+    Ok(nearest(sum, 1105))
+}
+
+/// Twice the place of value j from the middle of the 52.
+fn place(j: usize) -> i64 {
+    2 * j as i64 - 51
+}
+
+/// The sum of the values, and the sum of the values times their places: below 1.1e14 and 2.8e15.
+fn sums(values: &[i64]) -> (i64, i64) {
+    let s = values.iter().sum();
+    let t = values.iter().enumerate().map(|(j, v)| place(j) * v).sum();
+    (s, t)
+}
+
+/// What Fit and Scatter ask of their list.
+fn admit(values: &[i64]) -> Result<(), u32> {
+    if values.len() != 52 {
+        return Err(1);
+    }
+    if values.iter().any(|&v| !within(v, VALUE_LIMIT)) {
+        return Err(2);
+    }
+    Ok(())
+}
+
+/// Fit: midpoint and slope of the line through 52 values.
+pub fn fit(values: &[i64]) -> Result<Fitted, u32> {
+    admit(values)?;
+    let (s, t) = sums(values);
+    Ok(Fitted { midpoint: nearest(s, 5200), slope: nearest(t, 35139) })
+}
+
+/// The least sum of squares whose DSG is d, for d from 1 up.
+fn edge(d: i64) -> i128 {
+    let root = i128::from(100 * d - 50);
+    52 * root * root
+}
+
+/// Scatter: DSG in 0.1 ns, from the squared whole residuals of the line through 52 values.
+pub fn scatter(values: &[i64]) -> Result<i64, u32> {
+    admit(values)?;
+    let (s, t) = sums(values);
+    let mut q: i128 = 0;
+    for (j, v) in values.iter().enumerate() {
+        // below 4e17
+        let residual = nearest(46852 * v - 901 * s - place(j) * t, 46852);
+        q += i128::from(residual) * i128::from(residual);
+    }
+    if q >= edge(MOST_DSG + 1) {
+        return Err(6);
+    }
+    // the greatest d whose edge is not above q; under edge 1, which is 130000, it is 0
+    let (mut low, mut above) = (0, MOST_DSG + 1);
+    while above - low > 1 {
+        let d = (low + above) / 2;
+        if edge(d) <= q {
+            low = d;
+        } else {
+            above = d;
+        }
+    }
+    Ok(low)
+}

@@ -1,0 +1,34 @@
+//! Track lines in plain Rust: smoothing, correcting, fitting, the start test, the data line and the hire block.
+//!
+//! Written from the paper alone and not from the proved program, so that the two can be compared. Every operation
+//! answers with the paper's refusal numbers, in the paper's order.
+//!
+//! Sums are 64-bit where the limits on what is given leave room for them (the bound stands beside each), and the sum
+//! of squares is 128-bit. Build with overflow checks, as `cargo test` and the boundary test do, and an overflow panics.
+
+mod block;
+mod fit;
+mod line;
+pub mod published;
+mod schedule;
+pub mod seeded;
+mod track;
+
+pub use block::{block, BLOCK_BYTES};
+pub use fit::{fit, scatter, smooth, Fitted, WEIGHTS};
+pub use line::{line, Labels, LINE_BYTES};
+pub use schedule::{start, FIRST_MJD, LAST_MJD};
+pub use track::{track, Columns, Delays, Numbers, Record, BLOCKS, BLOCK_SECONDS, SECONDS};
+
+/// Whether v lies within plus or minus the limit.
+fn within(v: i64, limit: i64) -> bool {
+    -limit <= v && v <= limit
+}
+
+/// The whole number nearest to n / d for d above 0, a tie going up.
+fn nearest(n: i64, d: i64) -> i64 {
+    (2 * n + d).div_euclid(2 * d)
+}
+
+#[cfg(test)]
+mod tests;

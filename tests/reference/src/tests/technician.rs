@@ -1,0 +1,115 @@
+//! The paper's cases: what the technician tries, and the sample line.
+
+use super::*;
+use crate::{fit, line, scatter, smooth, start, Fitted, Numbers};
+
+fn middle(value: i64) -> [i64; 15] {
+    let mut m = [0; 15];
+    m[7] = value;
+    m
+}
+
+/// a, -a, -a, a, thirteen times.
+fn waves(a: i64) -> Vec<i64> {
+    [a, -a, -a, a].repeat(13)
+}
+
+fn last(value: i64) -> Vec<i64> {
+    let mut v = vec![0; 52];
+    v[51] = value;
+    v
+}
+
+#[test]
+fn smooth_cases() {
+    assert_eq!(smooth(&[-7; 15]), Ok(-7));
+    assert_eq!(smooth(&middle(1105)), Ok(167));
+    let mut end = [0; 15];
+    end[14] = 1105;
+    assert_eq!(smooth(&end), Ok(-78));
+    assert_eq!(smooth(&middle(3)), Ok(0));
+    assert_eq!(smooth(&middle(4)), Ok(1));
+    assert_eq!(smooth(&middle(-4)), Ok(-1));
+    assert_eq!(smooth(&[1_000_000_000_000; 15]), Ok(1_000_000_000_000));
+    assert_eq!(smooth(&[-1_000_000_000_000; 15]), Ok(-1_000_000_000_000));
+    for at in 0..15 {
+        let mut m = [1_000_000_000_000; 15];
+        m[at] += 1;
+        assert_eq!(smooth(&m), Err(2));
+        m[at] = i64::MIN;
+        assert_eq!(smooth(&m), Err(2));
+    }
+    assert_eq!(smooth(&[i64::MAX; 14]), Err(1));
+    assert_eq!(smooth(&[0; 16]), Err(1));
+    assert_eq!(smooth(&[]), Err(1));
+}
+
+#[test]
+fn fit_cases() {
+    assert_eq!(fit(&[50; 52]), Ok(Fitted { midpoint: 1, slope: 0 }));
+    assert_eq!(fit(&[-50; 52]), Ok(Fitted { midpoint: 0, slope: 0 }));
+    assert_eq!(fit(&[-51; 52]), Ok(Fitted { midpoint: -1, slope: 0 }));
+    let ramp: Vec<i64> = (0..52).map(|j| 15 * j).collect();
+    assert_eq!(fit(&ramp), Ok(Fitted { midpoint: 4, slope: 10 }));
+    assert_eq!(fit(&last(345)).map(|f| f.slope), Ok(1));
+    assert_eq!(fit(&last(344)).map(|f| f.slope), Ok(0));
+    assert_eq!(fit(&[2_000_000_000_001; 52]), Err(2));
+    assert_eq!(fit(&[2_000_000_000_001; 51]), Err(1));
+    assert_eq!(fit(&[2_000_000_000_000; 52]), Ok(Fitted { midpoint: 20_000_000_000, slope: 0 }));
+}
+
+#[test]
+fn scatter_cases() {
+    assert_eq!(scatter(&waves(49)), Ok(0));
+    assert_eq!(scatter(&waves(50)), Ok(1));
+    assert_eq!(scatter(&waves(149)), Ok(1));
+    assert_eq!(scatter(&waves(150)), Ok(2));
+    assert_eq!(scatter(&waves(999_949)), Ok(9999));
+    assert_eq!(scatter(&waves(999_950)), Err(6));
+    // the sum of squares is 0 modulo 2^64
+    assert_eq!(scatter(&waves(1 << 32)), Err(6));
+    assert_eq!(scatter(&waves(2_000_000_000_000)), Err(6));
+    assert_eq!(scatter(&waves(2_000_000_000_001)), Err(2));
+    assert_eq!(scatter(&waves(2_000_000_000_001)[..48]), Err(1));
+}
+
+#[test]
+fn start_cases() {
+    assert_eq!(start(50722, 120), 0);
+    assert_eq!(start(50722, 84600), 0);
+    assert_eq!(start(50722, 85560), 8);
+    assert_eq!(start(50723, 840), 0);
+    assert_eq!(start(50723, 86280), 0);
+    assert_eq!(start(50723, 120), 8);
+    assert_eq!(start(50721, 120), 7);
+    assert_eq!(start(100_000, 120), 7);
+    assert_eq!(start(50722, 86400 + 120), 8);
+    assert_eq!(start(u32::MAX, u32::MAX), 7);
+    assert_eq!(start(50722, u32::MAX), 8);
+}
+
+#[test]
+fn each_day_has_89_starts() {
+    for mjd in (50722..=99999).step_by(997) {
+        assert_eq!((0..86400).filter(|second| start(mjd, *second) == 0).count(), 89);
+    }
+}
+
+#[test]
+fn lent_lines() {
+    let numbers = Numbers { trkl: 780, refsv: 10, refsys: 10, ..Numbers::default() };
+    let mut lent = [7; 114];
+    assert_eq!(line(&SAMPLE_LABELS, &numbers, &mut lent[..112]), 9);
+    assert_eq!(lent, [7; 114]);
+    assert_eq!(line(&SAMPLE_LABELS, &numbers, &mut []), 9);
+    assert_eq!(line(&SAMPLE_LABELS, &numbers, &mut lent), 0);
+    assert_eq!(&lent[..113], SAMPLE_LINE.as_bytes());
+    assert_eq!(lent[113], 7);
+}
+
+#[test]
+fn sample_block() {
+    assert_eq!(run_block(&Given::constant(1000).block(&SAMPLE_LABELS)).as_deref(), Ok(SAMPLE_LINE));
+    let packed = include_bytes!("../../../../examples/sample.blk");
+    assert_eq!(run_block(packed).as_deref(), Ok(SAMPLE_LINE));
+}

@@ -1,0 +1,143 @@
+//! Track: from 780 measurements and their corrections to the ten numbers of a line.
+
+use crate::fit::{fit, scatter, smooth, MEASUREMENT_LIMIT, MOST_DSG, VALUE_LIMIT};
+use crate::within;
+
+/// Measurements of a track, one a second.
+pub const SECONDS: usize = 780;
+/// Smoothed values of a track.
+pub const BLOCKS: usize = 52;
+/// Measurements that make one smoothed value.
+pub const BLOCK_SECONDS: usize = 15;
+
+const GEOMETRY_LIMIT: i64 = 200_000_000_000;
+const CORRECTION_LIMIT: i64 = 10_000_000_000;
+
+/// The single numbers, in ps. `refdly` is the paper's REF.
+#[derive(Clone, Copy, Debug, Default, PartialEq, Eq)]
+pub struct Delays {
+    pub int: i64,
+    pub cab: i64,
+    pub refdly: i64,
+    pub gd: i64,
+}
+
+/// The five columns of corrections, 52 values each, in ps.
+#[derive(Clone, Copy, Debug)]
+pub struct Columns<'a> {
+    pub geometry: &'a [i64],
+    pub relativity: &'a [i64],
+    pub ionosphere: &'a [i64],
+    pub troposphere: &'a [i64],
+    pub clock: &'a [i64],
+}
+
+/// The ten numbers of a line.
+#[derive(Clone, Copy, Debug, Default, PartialEq, Eq)]
+pub struct Numbers {
+    pub refsv: i64,
+    pub srsv: i64,
+    pub refsys: i64,
+    pub srsys: i64,
+    pub mdtr: i64,
+    pub smdt: i64,
+    pub mdio: i64,
+    pub smdi: i64,
+    pub dsg: i64,
+    pub trkl: i64,
+}
+
+impl Numbers {
+    /// 3, 4 and 5: the tests that Track and Line share.
+    pub(crate) fn check_fits(&self) -> Result<(), u32> {
+        if !within(self.refsv, 9_999_999_999) || !within(self.refsys, 9_999_999_999) {
+            return Err(3);
+        }
+        let slopes = within(self.srsv, 99_999) && within(self.srsys, 99_999);
+        if !slopes || !within(self.smdt, 999) || !within(self.smdi, 999) {
+            return Err(4);
+        }
+        if !(0..=9999).contains(&self.mdtr) || !(0..=9999).contains(&self.mdio) {
+            return Err(5);
+        }
+        Ok(())
+    }
+
+    /// 6 on a number that is given.
+    pub(crate) fn check_dsg(&self) -> Result<(), u32> {
+        if !(0..=MOST_DSG).contains(&self.dsg) {
+            return Err(6);
+        }
+        Ok(())
+    }
+}
+
+/// A track's corrected values of each kind, in ps, beside its ten numbers.
+#[derive(Clone, Debug, PartialEq, Eq)]
+pub struct Record {
+    pub a: [i64; BLOCKS],
+    pub b: [i64; BLOCKS],
+    pub c: [i64; BLOCKS],
+    pub d: [i64; BLOCKS],
+    pub numbers: Numbers,
+}
+
+fn all_within(values: &[i64], limit: i64) -> bool {
+    values.iter().all(|&v| within(v, limit))
+}
+
+/// 1 and 2.
+fn admit(measurements: &[i64], delays: &Delays, columns: &Columns) -> Result<(), u32> {
+    let Columns { geometry, relativity, ionosphere, troposphere, clock } = *columns;
+    let lists = [geometry, relativity, ionosphere, troposphere, clock];
+    if measurements.len() != SECONDS || lists.iter().any(|list| list.len() != BLOCKS) {
+        return Err(1);
+    }
+    let singles = [delays.int, delays.cab, delays.refdly, delays.gd];
+    let good = all_within(measurements, MEASUREMENT_LIMIT)
+        && all_within(geometry, GEOMETRY_LIMIT)
+        && all_within(&singles, CORRECTION_LIMIT)
+        && lists[1..].iter().all(|list| all_within(list, CORRECTION_LIMIT));
+    if !good {
+        return Err(2);
+    }
+    Ok(())
+}
+
+/// Track: a record, or the refusal.
+pub fn track(measurements: &[i64], delays: &Delays, columns: &Columns) -> Result<Record, u32> {
+    admit(measurements, delays, columns)?;
+    let mut a = [0; BLOCKS];
+    let mut b = [0; BLOCKS];
+    let mut c = [0; BLOCKS];
+    let mut d = [0; BLOCKS];
+    for j in 0..BLOCKS {
+        let smoothed = smooth(&measurements[BLOCK_SECONDS * j..BLOCK_SECONDS * (j + 1)])?;
+        a[j] = smoothed - (delays.int + delays.cab - delays.refdly) - columns.geometry[j] + columns.relativity[j]
+            - columns.ionosphere[j]
+            - columns.troposphere[j]
+            - delays.gd;
+        b[j] = a[j] + columns.clock[j];
+        c[j] = columns.troposphere[j];
+        d[j] = columns.ionosphere[j];
+    }
+    if [&a, &b, &c, &d].iter().any(|kind| !all_within(*kind, VALUE_LIMIT)) {
+        return Err(10);
+    }
+    let (line_a, line_b, line_c, line_d) = (fit(&a)?, fit(&b)?, fit(&c)?, fit(&d)?);
+    let mut numbers = Numbers {
+        refsv: line_a.midpoint,
+        srsv: line_a.slope,
+        refsys: line_b.midpoint,
+        srsys: line_b.slope,
+        mdtr: line_c.midpoint,
+        smdt: line_c.slope,
+        mdio: line_d.midpoint,
+        smdi: line_d.slope,
+        dsg: 0,
+        trkl: SECONDS as i64,
+    };
+    numbers.check_fits()?;
+    numbers.dsg = scatter(&b)?;
+    Ok(Record { a, b, c, d, numbers })
+}
