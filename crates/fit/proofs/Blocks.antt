@@ -3,18 +3,17 @@
 use mathlib.Core.Path.{_≡_, ap, _∙_}
 use mathlib.Core.Bool.{false}
 use mathlib.Core.List.{List}
-use Prim.Native.Nat.{ℕ, _+_, _*_, _^_, _≤_, _<_}
+use Prim.Native.Nat.{ℕ, _+_, _^_, _≤_}
 use native.Mathlib.Omega.{arith}
-use lib.IntN.{ℤ, pos, negℤ, natAbs, _*ℤ_}
+use lib.IntN.{ℤ, pos, _*ℤ_}
 use lib.ListN.{length, take, drop, length-drop}
 use lib.Seq.{length-take-le, getD-take, getD-drop}
-use Rattle.whole.specs.Sum.{sum}
 use Rattle.whole.specs.Nearest.{nearest}
 use Rattle.whole.specs.Sums.{sum-cong}
 use Rattle.fit.specs.declared.Smoothed.{Smoothed}
 use Rattle.exact.specs.Corrected.{at}
 use Rattle.exact.specs.Weights.{weights}
-use Rattle.fit.specs.Lists.{anyBeyond, listRule}
+use Rattle.fit.specs.Lists.{anyBeyond}
 use Rattle.fit.specs.Answers.{smoothReply, smoothNumbered}
 use Rattle.fit.specs.Smooth.{smoothed, smoothRule}
 use Rattle.fit.proofs.Lists.{list-passes, any-drop, any-take}

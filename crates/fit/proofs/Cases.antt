@@ -12,8 +12,7 @@ use Rattle.limits.specs.Refusal.{_when_, _then_}
 use Rattle.limits.specs.Limits.{outside, dsgRule}
 use Rattle.exact.specs.Places.{place}
 use Rattle.exact.specs.Weights.{weights}
-use Rattle.fit.specs.Lists.{anyOutside, listRule}
-use Rattle.fit.specs.Answers.{Reply, reply}
+use Rattle.fit.specs.Lists.{anyOutside, rangeRule}
 use Rattle.fit.specs.Smooth.{smoothed, smoothRule}
 use Rattle.fit.specs.Fit.{total, moment, midpoint, slope, fitRule}
 use Rattle.fit.specs.Scatter.{residual, squares, edge, climb, dsg, scatterRule}
@@ -55,5 +54,5 @@ cases =
     ∷ []
 
 pub worked : map (λ (c : Case × List ℤ). run (c .0)) cases ≡ map (λ (c : Case × List ℤ). c .1) cases
-unfolding cases sum nearest _when_ _then_ outside dsgRule anyOutside listRule tabulate weights smoothed smoothRule place total moment midpoint slope fitRule residual squares edge climb dsg scatterRule
+unfolding cases sum nearest _when_ _then_ outside dsgRule anyOutside rangeRule tabulate weights smoothed smoothRule place total moment midpoint slope fitRule residual squares edge climb dsg scatterRule
 worked = refl

@@ -14,7 +14,7 @@ use Rattle.limits.specs.Refusal.{_when_, _then_}
 use borrow.Author.Tests.{eqb-true, eq-eqb, not-false}
 use lib.Dec.{eqb}
 use Rattle.exact.specs.Corrected.{at}
-use Rattle.fit.specs.Lists.{miscounted, anyOutside, anyBeyond, listRule}
+use Rattle.fit.specs.Lists.{miscounted, anyOutside, anyBeyond, rangeRule}
 
 -- a loop that has found no number outside before place i has what is left to test
 module _ (low high : ℤ) (l : List ℤ) (i : ℕ) (so-far : anyOutside low high l ≡ anyOutside low high (drop i l)) where
@@ -40,17 +40,17 @@ within-limit limit (z ∷ l) e zero = magnitude-within limit z (or-false (beyond
 within-limit limit (z ∷ l) e (suc i) = within-limit limit l (or-false (beyond limit z) (anyBeyond limit l) e .1) i
 
 -- what it tells that a list is not refused
-pub list-accepted : (n : ℕ) (low high : ℤ) (l : List ℤ) → listRule n low high l ≡ 0
+pub list-accepted : (n : ℕ) (low high : ℤ) (l : List ℤ) → rangeRule n low high l ≡ 0
     → (length l ≡ n) × (anyOutside low high l ≡ false)
-unfolding listRule
+unfolding rangeRule
 list-accepted n low high l e =
     let z = then-zero (1 when miscounted n l) (2 when anyOutside low high l) e in (
       eqb-true (length l) n (not-false (eqb (length l) n) (when-zero 0 (miscounted n l) (z .0))),
       when-zero 1 (anyOutside low high l) (z .1),
     )
 
-pub list-passes : (n : ℕ) (low high : ℤ) (l : List ℤ) → length l ≡ n → anyOutside low high l ≡ false → listRule n low high l ≡ 0
-unfolding listRule _when_ _then_
+pub list-passes : (n : ℕ) (low high : ℤ) (l : List ℤ) → length l ≡ n → anyOutside low high l ≡ false → rangeRule n low high l ≡ 0
+unfolding rangeRule _when_ _then_
 list-passes n low high l e p = rw (eq-eqb (length l) n e, p)
 
 -- a part of a list that passed has passed

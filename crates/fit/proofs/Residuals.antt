@@ -1,19 +1,18 @@
 -- Laws of the residuals and of their sum of squares (specs/Scatter.antt).
 -- Assumes nothing.
-use mathlib.Core.Path.{_≡_, refl, sym, ap, ap₂, _∙_, subst, subst₂}
-use mathlib.Core.List.{List, [], _∷_}
+use mathlib.Core.Path.{_≡_, sym, ap, ap₂, _∙_, subst, subst₂}
+use mathlib.Core.List.{[], _∷_}
 use mathlib.Core.Logic.{⊎-elim}
 use Prim.Native.Nat.{ℕ, zero, suc, _+_, _*_, _≤_, _<_}
 use native.Mathlib.Nat.{eq-or-lt-of-le, le-of-suc-le-suc, not-suc-le-zero}
 use native.Mathlib.Numerals.{add-one}
-use native.Mathlib.Omega.{arith}
 use lib.Dec.{lit<}
 use lib.IntN.{ℤ, pos, natAbs, _+ℤ_, _-ℤ_, _*ℤ_, +ℤ-idl, +ℤ-idr}
 use Rattle.whole.specs.Sum.{sum}
-use Rattle.whole.specs.Square.{squared, size}
+use Rattle.whole.specs.Square.{squared}
 use Rattle.whole.specs.Nearest.{nearest}
 use Rattle.whole.specs.Identity.{identity, quote}
-use Rattle.whole.specs.Order.{_⩽_, le-refl, le-trans, le-of-eq, add-le, square-nonneg, as-pos, pos-le-is}
+use Rattle.whole.specs.Order.{_⩽_, le-refl, add-le, square-nonneg, as-pos, pos-le-is}
 use Rattle.whole.specs.Size.{square-size}
 use Rattle.whole.specs.Sums.{sum-suc, sum-squares-nonneg}
 use Rattle.whole.specs.Rounding.{nearest-scale}

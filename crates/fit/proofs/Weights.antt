@@ -1,8 +1,6 @@
 -- The table of weights (specs/Smooth.antt): each is the value of 167 - 5x² at its second x, and how large a product with one can be.
 -- Assumes nothing.
-use mathlib.Core.Path.{_≡_, refl}
-use mathlib.Core.Bool.{false}
-use mathlib.Core.List.{List}
+use mathlib.Core.Path.{refl}
 use Prim.Native.Nat.{ℕ, _*_, _^_, _≤_, _<_}
 use native.Mathlib.Nat.{le-trans, le-of-eq, mul-le-mul}
 use lib.Dec.{lit<, lit≤}
@@ -14,7 +12,7 @@ use Rattle.whole.specs.Words.{partial}
 use Rattle.limits.specs.Limits.{outside}
 use Rattle.exact.specs.Corrected.{at}
 use Rattle.exact.specs.Weights.{weights}
-use Rattle.fit.specs.Lists.{anyOutside, anyBeyond}
+use Rattle.fit.specs.Lists.{anyOutside}
 use Rattle.fit.specs.Smooth.{smoothed}
 use Rattle.fit.proofs.Lists.{within-limit}
 

@@ -3,7 +3,7 @@
 -- Assumes nothing.
 use Prim.Native.Nat.{ℕ, _*_, _-_, _^_}
 use mathlib.Core.List.{List}
-use lib.IntN.{ℤ, pos, negℤ, _-ℤ_, _*ℤ_}
+use lib.IntN.{ℤ, pos, _*ℤ_}
 use Rattle.exact.specs.Places.{place}
 use Rattle.whole.specs.Sum.{sum}
 use Rattle.whole.specs.Nearest.{nearest}
@@ -27,4 +27,4 @@ slope s n v = nearest (pos 4 *ℤ moment n v) (s * (n * (n * n - 1)))
 
 -- 1: the count is not 52. 2: a value is outside ±2 × 10^12. The values of an accepted reply are the midpoint and the slope.
 unfoldable pub fitRule : List ℤ → Reply (ℤ × ℤ)
-fitRule l = reply (pos 0, pos 0) (listRule 52 (negℤ (pos (2 * 10 ^ 12))) (pos (2 * 10 ^ 12)) l) (midpoint 1 52 (at l), slope 1 52 (at l))
+fitRule l = reply (pos 0, pos 0) (listRule 52 (2 * 10 ^ 12) l) (midpoint 1 52 (at l), slope 1 52 (at l))

@@ -1,5 +1,4 @@
--- Lists of numbers in picoseconds: what stands at a place, and the refusals 1 and 2 that Smooth, Fit and Scatter share (document 01,
--- "Each operation and its refusals, in order").
+-- The refusals 1 and 2 of a list of numbers, which Smooth, Fit and Scatter share (document 01, "Each operation and its refusals, in order").
 -- Assumes nothing.
 use Prim.Native.Nat.{ℕ}
 use mathlib.Core.Bool.{Bool, false, not, _||_}
@@ -24,5 +23,9 @@ abbrev pub anyBeyond : ℕ → List ℤ → Bool
 anyBeyond limit l = anyOutside (negℤ (pos limit)) (pos limit) l
 
 -- 1: the count is not n. 2: a number is outside low to high.
-unfoldable pub listRule : ℕ → ℤ → ℤ → List ℤ → ℕ
-listRule n low high l = 1 when miscounted n l then 2 when anyOutside low high l
+unfoldable pub rangeRule : ℕ → ℤ → ℤ → List ℤ → ℕ
+rangeRule n low high l = 1 when miscounted n l then 2 when anyOutside low high l
+
+-- 2: a number is outside plus or minus limit.
+abbrev pub listRule : ℕ → ℕ → List ℤ → ℕ
+listRule n limit l = rangeRule n (negℤ (pos limit)) (pos limit) l

@@ -1,11 +1,11 @@
 -- Scatter (document 01, "Scatter"): DSG, the root mean square of the residuals of n values from their line, in 0.1 ns. The values are
 -- counted in steps of which a picosecond has s.
 -- Assumes nothing.
-use Prim.Native.Nat.{ℕ, zero, suc, _*_, _-_, _^_, _≤_}
-use mathlib.Core.Bool.{Bool, true, false, cond}
+use Prim.Native.Nat.{ℕ, zero, suc, _*_, _-_, _^_}
+use mathlib.Core.Bool.{true, false, cond}
 use mathlib.Core.List.{List}
-use lib.IntN.{ℤ, pos, negℤ, natAbs, _-ℤ_, _*ℤ_}
-use lib.Signed.{leZ, ltZ, _≤ℤ_}
+use lib.IntN.{ℤ, pos, natAbs, _-ℤ_, _*ℤ_}
+use lib.Signed.{leZ, ltZ}
 use Rattle.whole.specs.Sum.{sum}
 use Rattle.whole.specs.Nearest.{nearest}
 use Rattle.whole.specs.Square.{squared}
@@ -39,7 +39,7 @@ climb e q zero d = d
 climb e q (suc k) d = elim (leZ (e (suc d)) q) [ true ↦ climb e q k (suc d) | false ↦ d ]
 
 -- DSG: 0 if q is under 2500 n, with 52 values 130000; otherwise the greatest d from 1 up whose edge is not above q. As an edge lies above
--- its d, q steps are enough.
+-- its d, q steps are enough: that no d from 1 up with such an edge is greater is the law `greatest` of proofs/Edges.antt.
 unfoldable pub dsg : ℕ → ℕ → ℤ → ℕ
 dsg s n q = cond (ltZ q (pos (2500 * (s * s) * n))) 0 (climb (edge s n) q (natAbs q) 1)
 
@@ -47,4 +47,4 @@ dsg s n q = cond (ltZ q (pos (2500 * (s * s) * n))) 0 (climb (edge s n) q (natAb
 unfoldable pub scatterRule : List ℤ → Reply ℤ
 scatterRule l =
     let sigma = pos (dsg 1 52 (squares 52 (at l))) in
-    reply (pos 0) (listRule 52 (negℤ (pos (2 * 10 ^ 12))) (pos (2 * 10 ^ 12)) l then dsgRule sigma) sigma
+    reply (pos 0) (listRule 52 (2 * 10 ^ 12) l then dsgRule sigma) sigma

@@ -3,7 +3,7 @@
 -- Assumes nothing.
 use Prim.Native.Nat.{ℕ, _^_}
 use mathlib.Core.List.{List}
-use lib.IntN.{ℤ, pos, negℤ, _*ℤ_}
+use lib.IntN.{ℤ, pos, _*ℤ_}
 use Rattle.exact.specs.Weights.{weights}
 use Rattle.whole.specs.Sum.{sum}
 use Rattle.whole.specs.Nearest.{nearest}
@@ -17,4 +17,4 @@ smoothed m = nearest (sum 15 (λ i. at weights i *ℤ m i)) 1105
 
 -- 1: the count is not 15. 2: a measurement is outside ±10^12.
 unfoldable pub smoothRule : List ℤ → Reply ℤ
-smoothRule m = reply (pos 0) (listRule 15 (negℤ (pos (10 ^ 12))) (pos (10 ^ 12)) m) (smoothed (at m))
+smoothRule m = reply (pos 0) (listRule 15 (10 ^ 12) m) (smoothed (at m))

@@ -4,7 +4,7 @@ use super::answers::smoothed_number;
 use super::smooth;
 ghost use mathlib.Core.Path.{_≡_};
 ghost use mathlib.Core.Bool.{false};
-ghost use Prim.Native.Nat.{ℕ, _+_, _*_, _^_, _≤_};
+ghost use Prim.Native.Nat.{ℕ, _+_, _*_, _^_};
 ghost use lib.IntN.{_+ℤ_, _-ℤ_};
 ghost use lib.ListN.{length};
 ghost use Rattle.whole.specs.Table.{tabulate};
@@ -21,7 +21,8 @@ pub struct Blocks {
 
 pub fn smooth_blocks(measurements: &[i64]) -> Blocks
     requires { ⌜ (length (now measurements) ≡ 780) × (anyBeyond (10 ^ 12) (now measurements) ≡ false) ⌝ }
-    ensures { λ r. ⌜ (r .refusal ≡ 0) × (r .values ≡ tabulate (λ j. smoothed (λ i. at (now (measurements .entry)) (15 * j + i))) 52) ⌝ }
+    ensures { λ r. ⌜ (r .refusal ≡ 0)
+        × (r .values ≡ tabulate (λ j. smoothed (λ i. at (now (measurements .entry)) (15 * j + i))) 52) ⌝ }
 {
     let mut values = [0i64; 52];
     let mut j = 0;
@@ -50,7 +51,8 @@ fn corrected(
     gd: i64,
 ) -> i64
     requires { ⌜ Within (3 * 10 ^ 12) smoothed × Within (3 * 10 ^ 10) delay × Within (10 ^ 10) gd ⌝ }
-    requires { ⌜ Within (2 * 10 ^ 11) geometry × Within (10 ^ 10) relativity × Within (10 ^ 10) ionosphere × Within (10 ^ 10) troposphere ⌝ }
+    requires { ⌜ Within (2 * 10 ^ 11) geometry × Within (10 ^ 10) relativity
+        × Within (10 ^ 10) ionosphere × Within (10 ^ 10) troposphere ⌝ }
     ensures { λ r. ⌜ r ≡ smoothed -ℤ delay -ℤ geometry +ℤ relativity -ℤ ionosphere -ℤ troposphere -ℤ gd ⌝ }
 {
     smoothed - delay - geometry + relativity - ionosphere - troposphere - gd
@@ -72,7 +74,8 @@ pub fn a_values(
     requires { ⌜ (length (now relativity) ≡ 52) × (anyBeyond (10 ^ 10) (now relativity) ≡ false) ⌝ }
     requires { ⌜ (length (now ionosphere) ≡ 52) × (anyBeyond (10 ^ 10) (now ionosphere) ≡ false) ⌝ }
     requires { ⌜ (length (now troposphere) ≡ 52) × (anyBeyond (10 ^ 10) (now troposphere) ≡ false) ⌝ }
-    ensures { λ r. ⌜ r ≡ tabulate (λ j. at (now (smoothed .entry)) j -ℤ delay -ℤ at (now (geometry .entry)) j +ℤ at (now (relativity .entry)) j -ℤ at (now (ionosphere .entry)) j -ℤ at (now (troposphere .entry)) j -ℤ gd) 52 ⌝ }
+    ensures { λ r. ⌜ r ≡ tabulate (λ j. at (now (smoothed .entry)) j -ℤ delay -ℤ at (now (geometry .entry)) j
+        +ℤ at (now (relativity .entry)) j -ℤ at (now (ionosphere .entry)) j -ℤ at (now (troposphere .entry)) j -ℤ gd) 52 ⌝ }
 {
     let mut values = [0i64; 52];
     let mut j = 0;

@@ -16,7 +16,9 @@ pub fn columns_miscounted(
     troposphere: &[i64],
     clock: &[i64],
 ) -> bool
-    ensures { λ r. ⌜ r ≡ miscounted 52 (now (geometry .entry)) || miscounted 52 (now (relativity .entry)) || miscounted 52 (now (ionosphere .entry)) || miscounted 52 (now (troposphere .entry)) || miscounted 52 (now (clock .entry)) ⌝ }
+    ensures { λ r. ⌜ r ≡ miscounted 52 (now (geometry .entry)) || miscounted 52 (now (relativity .entry))
+        || miscounted 52 (now (ionosphere .entry)) || miscounted 52 (now (troposphere .entry))
+        || miscounted 52 (now (clock .entry)) ⌝ }
 {
     (geometry.len() != 52)
         | (relativity.len() != 52)
@@ -33,7 +35,9 @@ pub fn columns_beyond(
     troposphere: &[i64],
     clock: &[i64],
 ) -> bool
-    ensures { λ r. ⌜ r ≡ anyBeyond (2 * 10 ^ 11) (now (geometry .entry)) || anyBeyond (10 ^ 10) (now (relativity .entry)) || anyBeyond (10 ^ 10) (now (ionosphere .entry)) || anyBeyond (10 ^ 10) (now (troposphere .entry)) || anyBeyond (10 ^ 10) (now (clock .entry)) ⌝ }
+    ensures { λ r. ⌜ r ≡ anyBeyond (2 * 10 ^ 11) (now (geometry .entry))
+        || anyBeyond (10 ^ 10) (now (relativity .entry)) || anyBeyond (10 ^ 10) (now (ionosphere .entry))
+        || anyBeyond (10 ^ 10) (now (troposphere .entry)) || anyBeyond (10 ^ 10) (now (clock .entry)) ⌝ }
 {
     any_outside(geometry, -200_000_000_000, 200_000_000_000)
         | any_outside(relativity, -10_000_000_000, 10_000_000_000)
@@ -44,7 +48,8 @@ pub fn columns_beyond(
 
 // Whether one of the delays is outside ±10^10.
 pub fn delays_beyond(int: i64, cab: i64, refdly: i64, gd: i64) -> bool
-    ensures { λ r. ⌜ r ≡ beyond (10 ^ 10) int || beyond (10 ^ 10) cab || beyond (10 ^ 10) refdly || beyond (10 ^ 10) gd ⌝ }
+    ensures { λ r. ⌜ r ≡ beyond (10 ^ 10) int || beyond (10 ^ 10) cab || beyond (10 ^ 10) refdly
+        || beyond (10 ^ 10) gd ⌝ }
 {
     outside(-10_000_000_000, 10_000_000_000, int)
         | outside(-10_000_000_000, 10_000_000_000, cab)

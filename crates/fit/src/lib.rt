@@ -29,6 +29,7 @@ use series::dsg;
 use series::list_refusal;
 use series::squares;
 use series::sums;
+use series::values_refusal;
 use series::weighted;
 ghost use mathlib.Core.Path.{_≡_};
 ghost use mathlib.Core.Bool.{false};
@@ -98,7 +99,7 @@ pub fn fit(values: &[i64]) -> Fitted
     ensures answer { λ r. ⌜ fitReply r ≡ fitRule (now (values .entry)) ⌝ }
     ensures variant { λ r. ⌜ fitNumbered r ⌝ }
 {
-    let refusal = list_refusal(values, 52, -2_000_000_000_000, 2_000_000_000_000);
+    let refusal = values_refusal(values);
     if refusal != 0 {
         return Fitted::Refused(refusal);
     }
@@ -114,7 +115,7 @@ pub fn scatter(values: &[i64]) -> Scattered
     ensures answer { λ r. ⌜ scatterReply r ≡ scatterRule (now (values .entry)) ⌝ }
     ensures variant { λ r. ⌜ scatterNumbered r ⌝ }
 {
-    let refusal = list_refusal(values, 52, -2_000_000_000_000, 2_000_000_000_000);
+    let refusal = values_refusal(values);
     if refusal != 0 {
         return Scattered::Refused(refusal);
     }
@@ -139,9 +140,13 @@ fn corrected_track(
     troposphere: &[i64],
     clock: &[i64],
 ) -> Tracked
-    requires { ⌜ wrongSizes (given (now measurements) int cab refdly gd (now geometry) (now relativity) (now ionosphere) (now troposphere) (now clock)) ≡ false ⌝ }
-    requires { ⌜ outOfLimits (given (now measurements) int cab refdly gd (now geometry) (now relativity) (now ionosphere) (now troposphere) (now clock)) ≡ false ⌝ }
-    ensures { λ r. ⌜ r ≡ trackRule (given (now (measurements .entry)) int cab refdly gd (now (geometry .entry)) (now (relativity .entry)) (now (ionosphere .entry)) (now (troposphere .entry)) (now (clock .entry))) ⌝ }
+    requires { ⌜ wrongSizes (given (now measurements) int cab refdly gd
+        (now geometry) (now relativity) (now ionosphere) (now troposphere) (now clock)) ≡ false ⌝ }
+    requires { ⌜ outOfLimits (given (now measurements) int cab refdly gd
+        (now geometry) (now relativity) (now ionosphere) (now troposphere) (now clock)) ≡ false ⌝ }
+    ensures { λ r. ⌜ r ≡ trackRule (given (now (measurements .entry)) int cab refdly gd
+        (now (geometry .entry)) (now (relativity .entry)) (now (ionosphere .entry)) (now (troposphere .entry))
+        (now (clock .entry))) ⌝ }
 {
     let blocks = smooth_blocks(measurements);
     let refusal = blocks.refusal;
@@ -178,8 +183,12 @@ pub fn track(
     troposphere: &[i64],
     clock: &[i64],
 ) -> Tracked
-    ensures answer { λ r. ⌜ r ≡ trackRule (given (now (measurements .entry)) int cab refdly gd (now (geometry .entry)) (now (relativity .entry)) (now (ionosphere .entry)) (now (troposphere .entry)) (now (clock .entry))) ⌝ }
-    ensures accurate { λ r. ⌜ (r .refusal ≡ 0 → AccurateTrack 52 (given (now (measurements .entry)) int cab refdly gd (now (geometry .entry)) (now (relativity .entry)) (now (ionosphere .entry)) (now (troposphere .entry)) (now (clock .entry))) (figures (r .«record»))) ⌝ }
+    ensures answer { λ r. ⌜ r ≡ trackRule (given (now (measurements .entry)) int cab refdly gd
+        (now (geometry .entry)) (now (relativity .entry)) (now (ionosphere .entry)) (now (troposphere .entry))
+        (now (clock .entry))) ⌝ }
+    ensures accurate { λ r. ⌜ (r .refusal ≡ 0 → AccurateTrack 52 (given (now (measurements .entry)) int cab refdly gd
+        (now (geometry .entry)) (now (relativity .entry)) (now (ionosphere .entry)) (now (troposphere .entry))
+        (now (clock .entry))) (figures (r .«record»))) ⌝ }
 {
     let sizes = (measurements.len() != 780)
         | columns_miscounted(geometry, relativity, ionosphere, troposphere, clock);

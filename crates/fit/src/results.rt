@@ -62,7 +62,9 @@ struct LineNumbers {
 
 // Fit, for each of the four kinds of corrected values.
 fn line(values: &[i64]) -> LineNumbers
-    ensures { λ r. ⌜ (r .refusal ≡ fitRule (now (values .entry)) .number) × (r .midpoint ≡ fitRule (now (values .entry)) .values .0) × (r .slope ≡ fitRule (now (values .entry)) .values .1) ⌝ }
+    ensures { λ r. ⌜ (r .refusal ≡ fitRule (now (values .entry)) .number)
+        × (r .midpoint ≡ fitRule (now (values .entry)) .values .0)
+        × (r .slope ≡ fitRule (now (values .entry)) .values .1) ⌝ }
 {
     let answer = fit(values);
     let Fitted::Line { midpoint, slope } = answer else {
@@ -82,7 +84,8 @@ fn line(values: &[i64]) -> LineNumbers
 
 // The number of the first refusal among the four fits and then the limits on their numbers, 3 to 5.
 fn lines_refusal(a: LineNumbers, b: LineNumbers, c: LineNumbers, d: LineNumbers) -> u32
-    ensures { λ r. ⌜ r ≡ a .refusal then b .refusal then c .refusal then d .refusal then limitsRule (a .midpoint) (a .slope) (b .midpoint) (b .slope) (c .midpoint) (c .slope) (d .midpoint) (d .slope) ⌝ }
+    ensures { λ r. ⌜ r ≡ a .refusal then b .refusal then c .refusal then d .refusal
+        then limitsRule (a .midpoint) (a .slope) (b .midpoint) (b .slope) (c .midpoint) (c .slope) (d .midpoint) (d .slope) ⌝ }
 {
     let limit = limits(
         a.midpoint,
@@ -109,7 +112,25 @@ fn accepted(
     d: LineNumbers,
     dsg: i64,
 ) -> Tracked
-    ensures { λ r. ⌜ r ≡ record { refusal = 0; «record» = record { a = values .a; b = values .b; c = values .c; d = values .d; refsv = a .midpoint; srsv = a .slope; refsys = b .midpoint; srsys = b .slope; mdtr = c .midpoint; smdt = c .slope; mdio = d .midpoint; smdi = d .slope; dsg = dsg; trkl = pos 780 } } ⌝ }
+    ensures { λ r. ⌜ r ≡ record {
+      refusal = 0;
+      «record» = record {
+        a = values .a;
+        b = values .b;
+        c = values .c;
+        d = values .d;
+        refsv = a .midpoint;
+        srsv = a .slope;
+        refsys = b .midpoint;
+        srsys = b .slope;
+        mdtr = c .midpoint;
+        smdt = c .slope;
+        mdio = d .midpoint;
+        smdi = d .slope;
+        dsg = dsg;
+        trkl = pos 780;
+      };
+    } ⌝ }
 {
     let a_values = values.a;
     let b_values = values.b;
@@ -138,9 +159,11 @@ fn accepted(
 
 // The ten numbers of corrected values that are inside their limit, or a refusal from 3 to 6.
 pub fn results(values: Corrected) -> Tracked
-    requires { ⌜ (length (values .a) ≡ 52) × (length (values .b) ≡ 52) × (length (values .c) ≡ 52) × (length (values .d) ≡ 52) ⌝ }
+    requires { ⌜ (length (values .a) ≡ 52) × (length (values .b) ≡ 52)
+        × (length (values .c) ≡ 52) × (length (values .d) ≡ 52) ⌝ }
     requires { ⌜ correctedBeyond (recordOf (values .a) (values .b) (values .c) (values .d)) ≡ false ⌝ }
-    ensures { λ r. ⌜ r ≡ tracked (numbersRule (recordOf (values .a) (values .b) (values .c) (values .d))) (recordOf (values .a) (values .b) (values .c) (values .d)) ⌝ }
+    ensures { λ r. ⌜ r ≡ tracked (numbersRule (recordOf (values .a) (values .b) (values .c) (values .d)))
+        (recordOf (values .a) (values .b) (values .c) (values .d)) ⌝ }
 {
     let a = line(&values.a);
     let b = line(&values.b);
@@ -159,8 +182,10 @@ pub fn results(values: Corrected) -> Tracked
 
 // The answer for corrected values: 10 where one is outside ±2 × 10^12, else by their numbers.
 pub fn judged(values: Corrected) -> Tracked
-    requires { ⌜ (length (values .a) ≡ 52) × (length (values .b) ≡ 52) × (length (values .c) ≡ 52) × (length (values .d) ≡ 52) ⌝ }
-    ensures { λ r. ⌜ r ≡ tracked (recordNumber (recordOf (values .a) (values .b) (values .c) (values .d))) (recordOf (values .a) (values .b) (values .c) (values .d)) ⌝ }
+    requires { ⌜ (length (values .a) ≡ 52) × (length (values .b) ≡ 52)
+        × (length (values .c) ≡ 52) × (length (values .d) ≡ 52) ⌝ }
+    ensures { λ r. ⌜ r ≡ tracked (recordNumber (recordOf (values .a) (values .b) (values .c) (values .d)))
+        (recordOf (values .a) (values .b) (values .c) (values .d)) ⌝ }
 {
     let beyond = any_outside(&values.a, -2_000_000_000_000, 2_000_000_000_000)
         | any_outside(&values.b, -2_000_000_000_000, 2_000_000_000_000)

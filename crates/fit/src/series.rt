@@ -15,7 +15,7 @@ ghost use Rattle.whole.specs.Words.{Within};
 ghost use Rattle.exact.specs.Corrected.{at};
 ghost use Rattle.exact.specs.Places.{place};
 ghost use Rattle.exact.specs.Weights.{weights};
-ghost use Rattle.fit.specs.Lists.{anyOutside, anyBeyond, listRule};
+ghost use Rattle.fit.specs.Lists.{anyOutside, anyBeyond, rangeRule, listRule};
 ghost use Rattle.fit.specs.Fit.{total, moment};
 ghost use Rattle.fit.specs.Scatter.{squares, edge, dsg};
 
@@ -57,12 +57,19 @@ pub fn any_outside(values: &[i64], low: i64, high: i64) -> bool
 
 // 1 where the values are not count many, 2 where one is outside low to high, else 0.
 pub fn list_refusal(values: &[i64], count: usize, low: i64, high: i64) -> u32
-    ensures { λ r. ⌜ r ≡ listRule count low high (now (values .entry)) ⌝ }
+    ensures { λ r. ⌜ r ≡ rangeRule count low high (now (values .entry)) ⌝ }
 {
     then(
         when(1, values.len() != count),
         when(2, any_outside(values, low, high)),
     )
+}
+
+// The same for the values of Fit and Scatter: 52 of them, each within ±2 × 10^12.
+pub fn values_refusal(values: &[i64]) -> u32
+    ensures { λ r. ⌜ r ≡ listRule 52 (2 * 10 ^ 12) (now (values .entry)) ⌝ }
+{
+    list_refusal(values, 52, -2_000_000_000_000, 2_000_000_000_000)
 }
 
 // The sum of fifteen measurements, each times its weight.
@@ -95,7 +102,8 @@ pub fn place(j: usize) -> i64
 
 pub fn sums(values: &[i64]) -> Moments
     requires { ⌜ (length (now values) ≡ 52) × (anyBeyond (2 * 10 ^ 12) (now values) ≡ false) ⌝ }
-    ensures { λ r. ⌜ (r .total ≡ total 52 (at (now (values .entry)))) × (r .moment ≡ moment 52 (at (now (values .entry)))) ⌝ }
+    ensures { λ r. ⌜ (r .total ≡ total 52 (at (now (values .entry))))
+        × (r .moment ≡ moment 52 (at (now (values .entry)))) ⌝ }
     ensures { λ r. ⌜ Within (104 * 10 ^ 12) (r .total) × Within (5408 * 10 ^ 12) (r .moment) ⌝ }
 {
     let mut total: i64 = 0;
@@ -112,7 +120,8 @@ pub fn sums(values: &[i64]) -> Moments
 
 // The residual of a value at a place, by the two sums of its list.
 fn residual(value: i64, place: i64, total: i64, moment: i64) -> i64
-    requires { ⌜ Within (2 * 10 ^ 12) value × Within 52 place × Within (104 * 10 ^ 12) total × Within (5408 * 10 ^ 12) moment ⌝ }
+    requires { ⌜ Within (2 * 10 ^ 12) value × Within 52 place
+        × Within (104 * 10 ^ 12) total × Within (5408 * 10 ^ 12) moment ⌝ }
     ensures { λ r. ⌜ r ≡ nearest (pos 46852 *ℤ value -ℤ pos 901 *ℤ total -ℤ place *ℤ moment) 46852 ⌝ }
 {
     nearest(46852 * value - 901 * total - place * moment, 46852)

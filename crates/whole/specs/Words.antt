@@ -103,6 +103,10 @@ plain (product-of v w) = plain v *ℤ plain w
 plain (negation-of w) = negℤ (plain w)
 plain (quotient-of v w) = quotZ (plain v) (plain w)
 
+-- a number that is known to be y, and to within b
+abbrev pub told : {x y : ℤ} {b : ℕ} → x ≡ y → Within b x → Word x
+told {b = b} e w = equal e (known (subst (λ (z : ℤ). natAbs z ≤ b) e (w .within)))
+
 left : (a b : Bool) → T (a && b) → T a
 left a b t = and-yes a b t .0
 

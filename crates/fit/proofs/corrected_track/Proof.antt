@@ -33,17 +33,9 @@ sizes c = sized (g c) (c .pre .0)
 limits : (c : tie.Start) → Limited (g c)
 limits c = limited (g c) (c .pre .1)
 
-abbrev int-word : (c : tie.Start) → Word (c .args .int)
-int-word c = known (limits c .in-int)
-
-abbrev cab-word : (c : tie.Start) → Word (c .args .cab)
-cab-word c = known (limits c .in-cab)
-
-abbrev refdly-word : (c : tie.Start) → Word (c .args .refdly)
-refdly-word c = known (limits c .in-refdly)
-
-abbrev gd-word : (c : tie.Start) → Word (c .args .gd)
-gd-word c = known (limits c .in-gd)
+-- the delays
+abbrev words : (c : tie.Start) → let a = c .args in Word (a .int) × Word (a .cab) × Word (a .refdly) × Word (a .gd)
+words c = let l = limits c in (known (l .in-int), known (l .in-cab), known (l .in-refdly), known (l .in-gd))
 
 -- the smoothed values
 smoothed-is : (c : tie.After-smooth-blocks) → c .smooth-blocks .result .values ≡ tabulate (smoothedAt (g (c .before))) 52
@@ -66,16 +58,13 @@ returns c = absurd (omega (arith, c .before .before .smooth-blocks .ensures .0, 
 add-delay : tie.Need-add-delay
 add-delay c =
     let s = c .before .before .before in
-    let i = int-word s in
-    let k = cab-word s in
+    let w = words s in
     fits (search bounds depth 9) tt
 
 sub-delay : tie.Need-sub-delay
 sub-delay c =
     let s = c .before .before .before in
-    let i = int-word s in
-    let k = cab-word s in
-    let r = refdly-word s in
+    let w = words s in
     fits (search bounds depth 12) tt
 
 slice-aggregate-a-values : tie.Need-slice-aggregate-a-values
@@ -84,10 +73,7 @@ slice-aggregate-a-values c = search needs
 a-values-requires : tie.Need-a-values-requires
 a-values-requires c κs =
     let s = c .before .before .before .before in
-    let i = int-word s in
-    let k = cab-word s in
-    let r = refdly-word s in
-    let d = gd-word s in
+    let w = words s in
     let e = smoothed-is (c .before .before .before) in
     let n = sizes s in
     let l = limits s in (
@@ -110,13 +96,11 @@ delay-is : (c : tie.Start)
     toZ w64 (ofZ w64 (toZ w64 (ofZ w64 (toZ w64 (ofZ w64 (a .int)) +ℤ toZ w64 (ofZ w64 (a .cab)))) -ℤ toZ w64 (ofZ w64 (a .refdly))))
     ≡ a .int +ℤ a .cab -ℤ a .refdly
 delay-is c =
-    let i = int-word c in
-    let k = cab-word c in
-    let r = refdly-word c in
+    let w = words c in
     plain-is (search bounds depth 12) tt
 
 gd-is : (c : tie.Start) → toZ w64 (ofZ w64 (c .args .gd)) ≡ c .args .gd
-gd-is c = let d = gd-word c in plain-is (search bounds depth 9) tt
+gd-is c = let w = words c in plain-is (search bounds depth 9) tt
 
 a-is : (c : tie.After-a-values) → c .a-values .result ≡ tabulate (valueA (g (c .before .before .before .before .before))) 52
 a-is c =
@@ -128,10 +112,7 @@ unfolding valueA toA
 a-within c j =
     let l = limits c in
     let y : Word (smoothedAt (g c) j) = known (smoothed-within c j) in
-    let i = int-word c in
-    let k = cab-word c in
-    let r = refdly-word c in
-    let d = gd-word c in
+    let w = words c in
     let geo : Word (at (c .args .geometry .now) j) = known (within-limit (2 * 10 ^ 11) _ (l .in-geometry) j) in
     let rel : Word (at (c .args .relativity .now) j) = known (within-limit (10 ^ 10) _ (l .in-relativity) j) in
     let ion : Word (at (c .args .ionosphere .now) j) = known (within-limit (10 ^ 10) _ (l .in-ionosphere) j) in
@@ -150,10 +131,10 @@ b-values-requires c κs =
     )
 
 copied-requires : tie.Need-copied-requires
-copied-requires c κs = sizes (c .before .before .before .before .before .before .before) .size-troposphere
+copied-requires c κs = let n = sizes (c .before .before .before .before .before .before .before) in search
 
 copied-requires-2 : tie.Need-copied-requires-2
-copied-requires-2 c κs = sizes (c .before .before .before .before .before .before .before .before) .size-ionosphere
+copied-requires-2 c κs = let n = sizes (c .before .before .before .before .before .before .before .before) in search
 
 judged-requires : tie.Need-judged-requires
 judged-requires c κs = search needs

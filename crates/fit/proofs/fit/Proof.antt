@@ -5,11 +5,11 @@ use mathlib.Core.Path.{_≡_, sym, ap, _∙_}
 use Prim.Native.Nat.{_*_, _^_, _<_}
 use native.Mathlib.Omega.{arith}
 use lib.Dec.{lit<}
-use lib.IntN.{ℤ, pos, negsuc}
+use lib.IntN.{ℤ}
 use mir.Syntax.{w64}
 use mir.Val.{toZ, ofZ}
 use Rattle.whole.specs.Nearest.{nearest}
-use Rattle.whole.specs.Words.{Word, known, equal, back-of, bound, plain-is, bounds}
+use Rattle.whole.specs.Words.{Word, told, back-of, bound, plain-is, bounds}
 use Rattle.exact.specs.Corrected.{at}
 use Rattle.fit.specs.Lists.{listRule}
 use Rattle.fit.specs.Fit.{midpoint, slope, fitRule}
@@ -19,29 +19,29 @@ use Rattle.fit.proofs.Replies.{reply-accepted, reply-refused}
 use Rattle.fit.proofs.fit.Statement.{statement}
 use Rattle.fit.proofs.fit.Tie as tie
 
-list-refusal-requires : tie.Need-list-refusal-requires
-list-refusal-requires c κs = search needs
+values-refusal-requires : tie.Need-values-refusal-requires
+values-refusal-requires c κs = search needs
 
 returns : tie.Need-returns
 unfolding fitRule
 returns c =
-    let r = c .before .list-refusal in
+    let r = c .before .values-refusal in
     let h : 0 < r .result = omega arith in
     (rw (r .ensures) (sym (reply-refused _ _ (rw (r .ensures) at h))), h)
 
 -- the list is not refused
-accepted : (c : tie.Else1) → listRule 52 (negsuc 1999999999999) (pos 2000000000000) (c .before .before .args .values .now) ≡ 0
-accepted c = sym (c .before .list-refusal .ensures) ∙ c .if1 .left
+accepted : (c : tie.Else1) → listRule 52 (2 * 10 ^ 12) (c .before .before .args .values .now) ≡ 0
+accepted c = sym (c .before .values-refusal .ensures) ∙ c .if1 .left
 
 sums-requires : tie.Need-sums-requires
 sums-requires c κs = list-accepted _ _ _ _ (accepted c)
 
 -- the two sums that sums hands back
 abbrev total-word : (c : tie.After-sums) → Word (c .sums .result .total)
-total-word c = equal (c .sums .ensures .0 .0) (known (rw (c .sums .ensures .0 .0) at (c .sums .ensures .1 .0 .within)))
+total-word c = told (c .sums .ensures .0 .0) (c .sums .ensures .1 .0)
 
 abbrev moment-word : (c : tie.After-sums) → Word (c .sums .result .moment)
-moment-word c = equal (c .sums .ensures .0 .1) (known (rw (c .sums .ensures .0 .1) at (c .sums .ensures .1 .1 .within)))
+moment-word c = told (c .sums .ensures .0 .1) (c .sums .ensures .1 .1)
 
 nearest-requires : tie.Need-nearest-requires
 nearest-requires c κs = let s = total-word (c .before) in (bound (search bounds depth 9) tt, lit< tt)
@@ -72,7 +72,7 @@ pub fit-spec : {M : Type 1} → statement M
 fit-spec =
     tie.close
     (tie.spec
-    list-refusal-requires
+    values-refusal-requires
     returns
     sums-requires
     nearest-requires

@@ -1,16 +1,13 @@
 -- `fit::scatter` meets its contract.
 -- Assumes nothing.
 use borrow.Author.Needs.{needs}
-use mathlib.Core.Path.{_≡_, sym, ap, _∙_, subst}
-use Prim.Native.Nat.{ℕ, _*_, _^_, _≤_, _<_}
+use mathlib.Core.Path.{_≡_, sym, ap, _∙_}
+use Prim.Native.Nat.{_*_, _^_, ℕ, _≤_, _<_}
 use native.Mathlib.Omega.{arith}
 use lib.Dec.{lit<}
-use lib.IntN.{ℤ, pos, negsuc, natAbs}
-use mir.Syntax.{w64}
-use mir.Val.{toZ, ofZ}
-use Rattle.whole.specs.Order.{_⩽_, _⋖_, pos-le, pos-lt}
-use Rattle.whole.specs.Words.{Word, known, equal, count-read, fits, count, plain-is, bounds}
-use Rattle.limits.specs.Refusal.{_then_}
+use lib.IntN.{ℤ, pos, natAbs}
+use Rattle.whole.specs.Order.{_⩽_, pos-le, pos-lt}
+use Rattle.whole.specs.Words.{Word, told, count-read, fits, count, plain-is, bounds}
 use Rattle.limits.specs.Limits.{dsgRule}
 use Rattle.exact.specs.Corrected.{at}
 use Rattle.fit.specs.Answers.{reply}
@@ -24,30 +21,30 @@ use Rattle.fit.proofs.Replies.{reply-accepted, reply-refused, then-refu
 use Rattle.fit.proofs.scatter.Statement.{statement}
 use Rattle.fit.proofs.scatter.Tie as tie
 
-list-refusal-requires : tie.Need-list-refusal-requires
-list-refusal-requires c κs = search needs
+values-refusal-requires : tie.Need-values-refusal-requires
+values-refusal-requires c κs = search needs
 
 returns : tie.Need-returns
 unfolding scatterRule
 returns c =
-    let r = c .before .list-refusal in
+    let r = c .before .values-refusal in
     let h : 0 < r .result = omega arith in
     let first = then-refused (r .result) (dsgRule (pos (dsg 1 52 (squares 52 (at (c .before .before .args .values .now)))))) h in
     (sym (rw (← (r .ensures)) (rw first (reply-refused _ _ h))), h)
 
 -- the list is not refused
-accepted : (c : tie.Else1) → listRule 52 (negsuc 1999999999999) (pos 2000000000000) (c .before .before .args .values .now) ≡ 0
-accepted c = sym (c .before .list-refusal .ensures) ∙ c .if1 .left
+accepted : (c : tie.Else1) → listRule 52 (2 * 10 ^ 12) (c .before .before .args .values .now) ≡ 0
+accepted c = sym (c .before .values-refusal .ensures) ∙ c .if1 .left
 
 sums-requires : tie.Need-sums-requires
 sums-requires c κs = list-accepted _ _ _ _ (accepted c)
 
 -- the two sums that sums hands back
 abbrev total-word : (c : tie.After-sums) → Word (c .sums .result .total)
-total-word c = equal (c .sums .ensures .0 .0) (known (rw (c .sums .ensures .0 .0) at (c .sums .ensures .1 .0 .within)))
+total-word c = told (c .sums .ensures .0 .0) (c .sums .ensures .1 .0)
 
 abbrev moment-word : (c : tie.After-sums) → Word (c .sums .result .moment)
-moment-word c = equal (c .sums .ensures .0 .1) (known (rw (c .sums .ensures .0 .1) at (c .sums .ensures .1 .1 .within)))
+moment-word c = told (c .sums .ensures .0 .1) (c .sums .ensures .1 .1)
 
 squares-requires : tie.Need-squares-requires
 squares-requires c κs =
@@ -103,7 +100,7 @@ pub scatter-spec : {M : Type 1} → statement M
 scatter-spec =
     tie.close
     (tie.spec
-    list-refusal-requires
+    values-refusal-requires
     returns
     sums-requires
     squares-requires

@@ -2,18 +2,14 @@
 -- Assumes nothing.
 use borrow.Author.Needs.{needs}
 use mathlib.Core.Path.{_≡_, sym, ap, _∙_}
-use Prim.Native.Nat.{_*_, _^_, _<_}
+use Prim.Native.Nat.{_^_, _<_}
 use native.Mathlib.Omega.{arith}
 use native.Mathlib.Nat.{le-refl}
 use lib.Dec.{lit<}
-use lib.IntN.{ℤ, pos, negsuc, _*ℤ_}
-use mir.Syntax.{w64}
-use mir.Val.{toZ, ofZ}
-use Rattle.whole.specs.Sum.{sum}
+use lib.IntN.{ℤ}
 use Rattle.whole.specs.Nearest.{nearest}
 use Rattle.whole.specs.Words.{Word, known, equal, back-of, bound, plain-is, bounds}
 use Rattle.exact.specs.Corrected.{at}
-use Rattle.exact.specs.Weights.{weights}
 use Rattle.fit.specs.Lists.{listRule}
 use Rattle.fit.specs.Smooth.{smoothed, smoothRule}
 use Rattle.fit.proofs.Lists.{list-accepted, within-limit}
@@ -33,7 +29,7 @@ returns c =
     (rw (r .ensures) (sym (reply-refused _ _ (rw (r .ensures) at h))), h)
 
 -- the list is not refused
-accepted : (c : tie.Else1) → listRule 15 (negsuc 999999999999) (pos 1000000000000) (c .before .before .args .measurements .now) ≡ 0
+accepted : (c : tie.Else1) → listRule 15 (10 ^ 12) (c .before .before .args .measurements .now) ≡ 0
 accepted c = sym (c .before .list-refusal .ensures) ∙ c .if1 .left
 
 -- the sum that weighted hands back

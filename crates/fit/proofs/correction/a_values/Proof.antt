@@ -9,7 +9,7 @@ use native.Mathlib.Omega.{arith}
 use lib.IntN.{ℤ, _+ℤ_, _-ℤ_}
 use lib.ListN.{length, take, length-set}
 use mir.Syntax.{w64}
-use mir.Val.{toZ, ofZ}
+use mir.Val.{toZ}
 use mir.Facts.{toZ-ofZ}
 use Rattle.whole.specs.Table.{tabulate}
 use Rattle.whole.specs.Words.{Word, known, back-of, bound, plain-is, bounds}
@@ -30,27 +30,22 @@ Inv-loop smoothed delay geometry relativity ionosphere troposphere gd values₀ 
 abbrev μ-loop : tie.MeasureT-loop
 μ-loop smoothed delay geometry relativity ionosphere troposphere gd values₀ j₀ values j = 52 - j
 
--- what is known of the numbers
-abbrev smoothed-word : (c : tie.Start Inv-loop μ-loop) (j : ℕ) → Word (at (c .args .smoothed .now) j)
-smoothed-word c j = known (c .pre .0 .1 j .within)
-
-abbrev delay-word : (c : tie.Start Inv-loop μ-loop) → Word (c .args .delay)
-delay-word c = known (c .pre .1 .0 .0 .within)
-
-abbrev gd-word : (c : tie.Start Inv-loop μ-loop) → Word (c .args .gd)
-gd-word c = known (c .pre .1 .0 .1 .within)
-
-abbrev geometry-word : (c : tie.Start Inv-loop μ-loop) (j : ℕ) → Word (at (c .args .geometry .now) j)
-geometry-word c j = known (within-limit (2 * 10 ^ 11) (c .args .geometry .now) (c .pre .1 .1 .0 .1) j)
-
-abbrev relativity-word : (c : tie.Start Inv-loop μ-loop) (j : ℕ) → Word (at (c .args .relativity .now) j)
-relativity-word c j = known (within-limit (10 ^ 10) (c .args .relativity .now) (c .pre .1 .1 .1 .0 .1) j)
-
-abbrev ionosphere-word : (c : tie.Start Inv-loop μ-loop) (j : ℕ) → Word (at (c .args .ionosphere .now) j)
-ionosphere-word c j = known (within-limit (10 ^ 10) (c .args .ionosphere .now) (c .pre .1 .1 .1 .1 .0 .1) j)
-
-abbrev troposphere-word : (c : tie.Start Inv-loop μ-loop) (j : ℕ) → Word (at (c .args .troposphere .now) j)
-troposphere-word c j = known (within-limit (10 ^ 10) (c .args .troposphere .now) (c .pre .1 .1 .1 .1 .1 .1) j)
+-- what is known of the numbers at block j
+abbrev words : (c : tie.Start Inv-loop μ-loop) (j : ℕ)
+    → let a = c .args in
+    Word (at (a .smoothed .now) j) × Word (a .delay) × Word (a .gd) × Word (at (a .geometry .now) j) × Word (at (a .relativity .now) j)
+    × Word (at (a .ionosphere .now) j) × Word (at (a .troposphere .now) j)
+words c j =
+    let a = c .args in
+    let p = c .pre in (
+      known (p .0 .1 j .within),
+      known (p .1 .0 .0 .within),
+      known (p .1 .0 .1 .within),
+      known (within-limit (2 * 10 ^ 11) (a .geometry .now) (p .1 .1 .0 .1) j),
+      known (within-limit (10 ^ 10) (a .relativity .now) (p .1 .1 .1 .0 .1) j),
+      known (within-limit (10 ^ 10) (a .ionosphere .now) (p .1 .1 .1 .1 .0 .1) j),
+      known (within-limit (10 ^ 10) (a .troposphere .now) (p .1 .1 .1 .1 .1 .1) j),
+    )
 
 loop-holds : tie.Need-loop-holds Inv-loop μ-loop
 loop-holds c = (search needs, refl, fill-none _)
@@ -88,13 +83,7 @@ shared-slice-copy-out-corrected-5 c = omega (arith, c .before .before .before .b
 corrected-requires : tie.Need-corrected-requires Inv-loop μ-loop
 corrected-requires c κs =
     let n = c .before .before .before .before .before .before in
-    let s = smoothed-word (n .before) (n .loop .j) in
-    let w = delay-word (n .before) in
-    let d = gd-word (n .before) in
-    let g = geometry-word (n .before) (n .loop .j) in
-    let r = relativity-word (n .before) (n .loop .j) in
-    let i = ionosphere-word (n .before) (n .loop .j) in
-    let t = troposphere-word (n .before) (n .loop .j) in (
+    let w = words (n .before) (n .loop .j) in (
       (bound (search bounds depth 9) tt, bound (search bounds depth 9) tt, bound (search bounds depth 9) tt),
       (bound (search bounds depth 9) tt, bound (search bounds depth 9) tt, bound (search bounds depth 9) tt, bound (search bounds depth 9) tt),
     )
@@ -114,13 +103,7 @@ loop-less c = search needs
 loop-again : tie.Need-loop-again Inv-loop μ-loop
 loop-again c =
     let n = c .before .before .before .before .before .before .before in
-    let s = smoothed-word (n .before) (n .loop .j) in
-    let w = delay-word (n .before) in
-    let d = gd-word (n .before) in
-    let g = geometry-word (n .before) (n .loop .j) in
-    let r = relativity-word (n .before) (n .loop .j) in
-    let i = ionosphere-word (n .before) (n .loop .j) in
-    let t = troposphere-word (n .before) (n .loop .j) in (
+    let w = words (n .before) (n .loop .j) in (
       search needs,
       rw length-set (n .loop .inv .1),
       fill-more _ (n .loop .values) (n .loop .j) (omega arith) (n .loop .inv .2)

@@ -1,20 +1,21 @@
 -- `fit::correction::smooth_blocks` meets its contract: after j turns the first j values are smoothed; Smooth never refuses a block.
 -- Assumes nothing.
 use borrow.Author.Needs.{needs}
-use mathlib.Core.Path.{_≡_, refl, sym, ap, _∙_}
+use mathlib.Core.Path.{_≡_, refl, _∙_, subst}
 use mathlib.Core.List.{List}
 use Prim.Native.Nat.{ℕ, _+_, _*_, _-_, _≤_}
 use native.Mathlib.Nat.{le-antisymm}
 use native.Mathlib.Omega.{arith}
 use lib.IntN.{ℤ}
-use lib.ListN.{length, take, length-set}
+use lib.ListN.{length, take, drop, length-set}
 use mir.Syntax.{w64}
 use mir.Val.{toZ, ofZ}
 use Rattle.whole.specs.Table.{tabulate}
 use Rattle.whole.specs.Words.{back-of}
 use Rattle.fit.specs.declared.Smoothed.{Smoothed}
 use Rattle.exact.specs.Corrected.{at}
-use Rattle.fit.specs.Smooth.{smoothed}
+use Rattle.fit.specs.Answers.{smoothReply}
+use Rattle.fit.specs.Smooth.{smoothed, smoothRule}
 use Rattle.fit.proofs.Arrays.{fill-none, fill-more, fill-all}
 use Rattle.fit.proofs.Blocks.{part-value}
 use Rattle.fit.proofs.Replies.{smooth-cases}
@@ -40,7 +41,7 @@ answered c =
     let n = c .before .before .before in
     let e : 15 * n .loop .j + 15 - 15 * n .loop .j ≡ 15 = omega arith in
     part-value (n .before .args .measurements .now) (15 * n .loop .j) (omega arith) (n .before .pre .1) (c .smooth .result)
-    (rw e at (c .smooth .ensures .0)) (c .smooth .ensures .1)
+    (subst (λ (k : ℕ). smoothReply (c .smooth .result) ≡ smoothRule (take k (drop (15 * n .loop .j) (n .before .args .measurements .now)))) e (c .smooth .ensures .0)) (c .smooth .ensures .1)
 
 loop-holds : tie.Need-loop-holds Inv-loop μ-loop
 loop-holds c = (search needs, c .pre .0, refl, fill-none _)

@@ -1,13 +1,13 @@
 -- `fit::series::dsg` meets its contract: low's edge is reached, high's is not, and they come together.
 -- Assumes nothing.
-use mathlib.Core.Path.{_≡_, refl, subst}
-use Prim.Native.Nat.{ℕ, suc, _+_, _-_, _/_, _≤_, _<_}
+use mathlib.Core.Path.{_≡_, subst}
+use Prim.Native.Nat.{ℕ, suc, _-_, _≤_, _<_}
 use native.Mathlib.Omega.{arith}
 use lib.Dec.{lit<}
 use lib.IntN.{ℤ, pos}
 use Rattle.whole.specs.Order.{_⩽_, _⋖_, pos-le, pos-lt}
 use Rattle.fit.specs.Scatter.{edge}
-use Rattle.fit.proofs.Edges.{Greatest, dsg-greatest, greatest-only}
+use Rattle.fit.proofs.Edges.{dsg-greatest, greatest-only}
 use Rattle.fit.proofs.series.dsg.Statement.{statement}
 use Rattle.fit.proofs.series.dsg.Tie as tie
 
@@ -39,7 +39,7 @@ loop-again c =
     let n = c .before .before .before in (
       omega arith,
       n .loop .inv .1,
-      λ h. subst (λ (z : ℤ). z ⩽ pos (n .before .args .q)) (c .before .edge .ensures) (pos-le (c .if1 .taken)),
+      λ h. subst (λ (z : ℤ). z ⩽ pos (n .before .args .q)) (c .before .edge .ensures) (pos-le (omega arith)),
       n .loop .inv .3,
     )
 
@@ -52,7 +52,7 @@ loop-again-2 c =
       omega arith,
       omega arith,
       n .loop .inv .2,
-      subst (λ (z : ℤ). pos (n .before .args .q) ⋖ z) (c .before .edge .ensures) (pos-lt (c .if1 .left)),
+      subst (λ (z : ℤ). pos (n .before .args .q) ⋖ z) (c .before .edge .ensures) (pos-lt (omega arith)),
     )
 
 returns : tie.Need-returns Inv-loop μ-loop

@@ -1,12 +1,12 @@
 -- `fit::series::edge` meets its contract: up to 10000 the square stays below 10^12.
 -- Assumes nothing.
 use borrow.Author.Needs.{needs}
-use mathlib.Core.Path.{_≡_, sym, ap, _∙_}
+use mathlib.Core.Path.{sym, ap, _∙_}
 use Prim.Native.Nat.{ℕ, _*_, _-_, _≤_}
 use native.Mathlib.Nat.{mul-le-mul}
 use native.Mathlib.Omega.{arith}
 use lib.IntN.{pos}
-use Rattle.fit.proofs.Edges.{edgeOf, edge-natural}
+use Rattle.fit.proofs.Edges.{edge-natural}
 use Rattle.fit.proofs.series.edge.Statement.{statement}
 use Rattle.fit.proofs.series.edge.Tie as tie
 

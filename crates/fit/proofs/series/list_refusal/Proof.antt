@@ -2,7 +2,7 @@
 -- Assumes nothing.
 use borrow.Author.Needs.{needs}
 use mir.Facts.{toZ-ofZ}
-use Rattle.fit.specs.Lists.{listRule}
+use Rattle.fit.specs.Lists.{rangeRule}
 use Rattle.fit.proofs.series.list_refusal.Statement.{statement}
 use Rattle.fit.proofs.series.list_refusal.Tie as tie
 
@@ -19,7 +19,7 @@ then-requires : tie.Need-then-requires
 then-requires c κs = search needs
 
 returns : tie.Need-returns
-unfolding listRule
+unfolding rangeRule
 returns c =
     let s = c .before .before .before .before in
     cc (toZ-ofZ (s .fits .low), toZ-ofZ (s .fits .high))

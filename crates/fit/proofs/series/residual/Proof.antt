@@ -8,52 +8,31 @@ use Rattle.whole.specs.Words.{Word, known, back-of, fits, bound, plain-is, boun
 use Rattle.fit.proofs.series.residual.Statement.{statement}
 use Rattle.fit.proofs.series.residual.Tie as tie
 
-abbrev value-word : (c : tie.Start) → Word (c .args .value)
-value-word c = known (c .pre .0 .within)
-
-abbrev place-word : (c : tie.Start) → Word (c .args .place)
-place-word c = known (c .pre .1 .within)
-
-abbrev total-word : (c : tie.Start) → Word (c .args .total)
-total-word c = known (c .pre .2 .within)
-
-abbrev moment-word : (c : tie.Start) → Word (c .args .moment)
-moment-word c = known (c .pre .3 .within)
+-- what is known of the numbers
+abbrev words : (c : tie.Start) → let a = c .args in Word (a .value) × Word (a .place) × Word (a .total) × Word (a .moment)
+words c = (known (c .pre .0 .within), known (c .pre .1 .within), known (c .pre .2 .within), known (c .pre .3 .within))
 
 mul-nearest : tie.Need-mul-nearest
-mul-nearest c = let v = value-word c in fits (search bounds depth 9) tt
+mul-nearest c = let w = words c in fits (search bounds depth 12) tt
 
 mul-nearest-2 : tie.Need-mul-nearest-2
-mul-nearest-2 c = let s = total-word c in fits (search bounds depth 9) tt
+mul-nearest-2 c = let w = words c in fits (search bounds depth 12) tt
 
 sub-nearest : tie.Need-sub-nearest
-sub-nearest c = let v = value-word c in let s = total-word c in fits (search bounds depth 9) tt
+sub-nearest c = let w = words c in fits (search bounds depth 12) tt
 
 mul-nearest-3 : tie.Need-mul-nearest-3
-mul-nearest-3 c = let p = place-word c in let t = moment-word c in fits (search bounds depth 9) tt
+mul-nearest-3 c = let w = words c in fits (search bounds depth 12) tt
 
 sub-nearest-2 : tie.Need-sub-nearest-2
-sub-nearest-2 c =
-    let v = value-word c in
-    let p = place-word c in
-    let s = total-word c in
-    let t = moment-word c in
-    fits (search bounds depth 12) tt
+sub-nearest-2 c = let w = words c in fits (search bounds depth 12) tt
 
 nearest-requires : tie.Need-nearest-requires
-nearest-requires c κs =
-    let v = value-word c in
-    let p = place-word c in
-    let s = total-word c in
-    let t = moment-word c in
-    (bound (search bounds depth 12) tt, lit< tt)
+nearest-requires c κs = let w = words c in (bound (search bounds depth 12) tt, lit< tt)
 
 returns : tie.Need-returns
 returns c =
-    let v = value-word (c .before) in
-    let p = place-word (c .before) in
-    let s = total-word (c .before) in
-    let t = moment-word (c .before) in
+    let w = words (c .before) in
     back-of (c .nearest .ok) ∙ c .nearest .ensures ∙ ap (λ (z : ℤ). nearest z 46852) (plain-is (search bounds depth 12) tt)
 
 pub residual-spec : {M : Type 1} → statement M
