@@ -1,4 +1,4 @@
-// Lists of values: the limit test, the weighted sum of a block, the sums of a fit, and the squared residuals.
+// Lists of values: the limit test, the weighted sum of a block, the sums of a fit, the squared residuals, and DSG.
 use super::number::magnitude;
 use super::number::nearest;
 use limits::outside;
@@ -100,6 +100,7 @@ pub fn place(j: usize) -> i64
     2 * (j as i64) - 51
 }
 
+// S and T of 52 values.
 pub fn sums(values: &[i64]) -> Moments
     requires { ⌜ (length (now values) ≡ 52) × (anyBeyond (2 * 10 ^ 12) (now values) ≡ false) ⌝ }
     ensures { λ r. ⌜ (r .total ≡ total 52 (at (now (values .entry))))
