@@ -26,7 +26,7 @@ use Rattle.fit.specs.Lists.{anyBeyond}
 use Rattle.fit.specs.Answers.{reply}
 use Rattle.fit.specs.Scatter.{squares, edge, climb, dsg, scatterRule}
 use Rattle.fit.proofs.Lists.{list-passes}
-use Rattle.fit.proofs.Replies.{then-passed}
+use Rattle.limits.proofs.Laws.{then-passed}
 
 -- ---- tests
 

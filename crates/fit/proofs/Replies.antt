@@ -3,8 +3,6 @@
 use mathlib.Core.Path.{_≡_, refl, ap}
 use Prim.Native.Nat.{ℕ, zero, suc, _<_}
 use native.Mathlib.Nat.{not-suc-le-zero}
-use lib.Dec.{eqb·suc-zero}
-use Rattle.limits.specs.Refusal.{_then_}
 use native.Mathlib.Omega.{arith}
 use lib.IntN.{ℤ}
 use Rattle.fit.specs.declared.Smoothed.{Smoothed}
@@ -32,21 +30,6 @@ reply-values zeros values (suc n) e = absurd (never (ap (λ (t : Reply _). t .nu
   where
     never : 0 ≡ suc n → ⊥
     never e = omega arith
-
--- a refusal stands before what comes next
-pub then-refused : (first next : ℕ) → 0 < first → first then next ≡ first
-unfolding _then_
-then-refused zero next h = absurd (not-suc-le-zero h)
-then-refused (suc first) next h = rw (eqb·suc-zero first)
-
-pub then-passed : (first next : ℕ) → first ≡ 0 → first then next ≡ next
-unfolding _then_
-then-passed first next e = rw e
-
-pub then-assoc : (a b c : ℕ) → (a then b) then c ≡ a then b then c
-unfolding _then_
-then-assoc zero b c = refl
-then-assoc (suc a) b c = simp (eqb·suc-zero)
 
 -- ---- the case of an answer, by its reply
 

@@ -23,7 +23,7 @@ use Rattle.fit.specs.Lists.{miscounted, anyBeyond}
 use Rattle.fit.specs.Answers.{Reply}
 use Rattle.fit.specs.Fit.{midpoint, slope, fitRule}
 use Rattle.fit.proofs.Fitting.{fit-accepted}
-use Rattle.fit.proofs.Replies.{then-refused, then-assoc}
+use Rattle.limits.proofs.Laws.{then-refused, then-assoc}
 use Rattle.fit.specs.Track.{smoothedAt, valueA, valueB, valueC, valueD, recordOf, results, wrongSizes, outOfLimits, correctedBeyond, recordNumber, trackNumber, zeros, tracked, trackRule}
 
 pub tracked-refused : (number : ℕ) (t : TrackRecord) → 0 < number → tracked number t ≡ record { refusal = number; «record» = zeros }

@@ -1,19 +1,8 @@
-// Signed numbers: the magnitude, and the nearest whole number to a fraction.
+// The nearest whole number to a fraction.
 ghost use mathlib.Core.Path.{_≡_};
 ghost use Prim.Native.Nat.{_^_, _<_};
-ghost use lib.IntN.{natAbs};
 ghost use Rattle.whole.specs.Nearest.{nearest};
 ghost use Rattle.whole.specs.Words.{Within};
-
-// How far v lies from 0. That of the least i64 does not fit an i64, so the last step is made in u64.
-pub fn magnitude(v: i64) -> u64
-    ensures { λ r. ⌜ r ≡ natAbs v ⌝ }
-{
-    if v < 0 {
-        return (-1 - v) as u64 + 1;
-    }
-    v as u64
-}
 
 // The nearest whole number to n / d, a tie going up: the floor of (2n + d) / 2d, where the language's quotient rounds
 // toward 0.

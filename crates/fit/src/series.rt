@@ -1,6 +1,6 @@
 // Lists of values: the limit test, the weighted sum of a block, the sums of a fit, the squared residuals, and DSG.
-use super::number::magnitude;
 use super::number::nearest;
+use fields::magnitude;
 use limits::outside;
 use limits::then;
 use limits::when;

@@ -26,6 +26,11 @@ pub then-passed : (first next : ℕ) → first ≡ 0 → first then next ≡ nex
 unfolding _then_
 then-passed first next e = rw e
 
+pub then-assoc : (a b c : ℕ) → (a then b) then c ≡ a then b then c
+unfolding _then_
+then-assoc zero b c = refl
+then-assoc (suc a) b c = simp (eqb·suc-zero)
+
 pub when-zero : (number : ℕ) (condition : Bool) → suc number when condition ≡ 0 → condition ≡ false
 unfolding _when_
 when-zero number true e = absurd (suc-ne-zero number e)

@@ -71,10 +71,10 @@ unfolding answer
 refused-answer b number e h = rw (← e, ne-eqb number 0 h)
 
 -- the text of the block's line
-abbrev text : List ℕ → List ℕ
+abbrev pub text : List ℕ → List ℕ
 text b = lineText (blockLabels b) (numbersIn (results (blockGiven b)))
 
-accepted-answer : (b : List ℕ) → blockAnswer b lineLength ≡ 0 → answer b ≡ text b
+pub accepted-answer : (b : List ℕ) → blockAnswer b lineLength ≡ 0 → answer b ≡ text b
 unfolding answer
 accepted-answer b e = rw (eq-eqb (blockAnswer b lineLength) 0 e)
 

@@ -172,15 +172,6 @@ divisor z w t h = subst (λ (x : ℤ). 0 < ofZ w64 x) (sym (plain-is w t)) h
 one-less : (a : ℕ) → negsuc 0 -ℤ negsuc a ≡ pos a
 one-less a = -ℤ-one (pos (suc a))
 
--- -1 - v for v below 0, which fits where v does, though -v may not
-pub turned : (v : ℤ) → ltZ v (pos 0) ≡ true → (negsuc 0 -ℤ v ≡ pos (mag v)) × (mag v + 1 ≡ natAbs v)
-turned (pos a) t = absurd (not-suc-le-zero (ltb-true a 0 t))
-turned (negsuc a) t = (one-less a, add-one a)
-
-pub from-zero : (v : ℤ) → ltZ v (pos 0) ≡ false → T (nonNeg v)
-from-zero (pos a) t = tt
-from-zero (negsuc a) t = absurd (true≢false t)
-
 minus-one-less : (k : ℕ) → negsuc 0 -ℤ pos k ≡ negsuc k
 minus-one-less zero = refl
 minus-one-less (suc k) = ap (λ (j : ℕ). negsuc (suc j)) (zero-add k)

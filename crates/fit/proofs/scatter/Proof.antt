@@ -17,7 +17,8 @@ use Rattle.fit.specs.Scatter.{squares, edge, dsg, scatterRule}
 use Rattle.fit.proofs.Lists.{list-accepted}
 use Rattle.fit.proofs.Residuals.{squares-pos}
 use Rattle.fit.proofs.Edges.{dsg-greatest, greatest, dsg-below, sigma-refused, sigma-accepted}
-use Rattle.fit.proofs.Replies.{reply-accepted, reply-refused, then-refused, then-passed}
+use Rattle.limits.proofs.Laws.{then-refused, then-passed}
+use Rattle.fit.proofs.Replies.{reply-accepted, reply-refused}
 use Rattle.fit.proofs.scatter.Statement.{statement}
 use Rattle.fit.proofs.scatter.Tie as tie
 

@@ -12,7 +12,8 @@ use Rattle.fit.specs.declared.TrackRecord.{TrackRecord}
 use Rattle.fit.specs.Answers.{Reply, reply, scatterReply, scatterNumbered}
 use Rattle.fit.specs.Track.{recordOf, numbersRule, tracked}
 use Rattle.fit.proofs.Edges.{scatter-passed}
-use Rattle.fit.proofs.Replies.{reply-number, reply-values, then-refused, then-passed}
+use Rattle.limits.proofs.Laws.{then-refused, then-passed}
+use Rattle.fit.proofs.Replies.{reply-number, reply-values}
 use Rattle.fit.proofs.Tracks.{tracked-refused, tracked-accepted, Inside, inside, LineOf, line-of}
 use borrow.Author.Needs.{needs}
 use Rattle.fit.proofs.results.results.Statement.{statement}
