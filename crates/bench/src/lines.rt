@@ -29,7 +29,7 @@ fn report_written(case: &[u8], number: u32, lent: &[u8], should: &[u8], right: b
 }
 
 // Reports what Line gave, a number and a lent line, beside what it should give.
-pub fn report_line(case: &[u8], number: u32, lent: &[u8], answer: u32, should: &[u8]) -> bool {
+pub fn report_line(case: &[u8], number: u32, lent: &[u8], answer: u8, should: &[u8]) -> bool {
     let same = check::same(lent, should);
     if answer == 0 {
         let right = (number == 0) & same;
@@ -47,6 +47,6 @@ pub fn report_line(case: &[u8], number: u32, lent: &[u8], answer: u32, should: &
         Operation::Line,
         case,
         Reply::refused(number),
-        Reply::refused(answer),
+        Reply::refused(answer as u32),
     )
 }

@@ -50,12 +50,15 @@ impl Row {
         next
     }
 
-    pub fn print(self) {
-        let row = self.text(b"\n");
-        let bytes = row.bytes;
-        let at = row.at;
+    fn write(self) {
+        let bytes = self.bytes;
+        let at = self.at;
         if at <= WIDTH {
-            io::write_all(STDOUT_FILENO, &bytes[..at]);
+            io::write_all(STDOUT_FILENO, &bytes[0..at]);
         }
+    }
+
+    pub fn print(self) {
+        self.text(b"\n").write()
     }
 }

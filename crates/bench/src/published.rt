@@ -1,6 +1,8 @@
 // The lines that the format documents print, read from standard input: tests/published/expected.py writes them there.
 // A record of 240 bytes has the case in 24 characters, the labels as bytes 4 to 25 of a hire block, the ten numbers in
 // their fixed order, Line's answer in one byte, and what 113 lent bytes then hold.
+ghost use mathlib.Core.Path.{_≡_};
+ghost use lib.ListN.{length};
 use crate::counts::Tally;
 use crate::lines::FILL;
 use crate::lines::report_line;
@@ -52,16 +54,17 @@ fn numbers(record: &[u8; 240]) -> Numbers {
     }
 }
 
+// The parts of a record beside what Line gave.
+fn report_record(record: &[u8], number: u32, lent: &[u8]) -> bool
+    requires { ⌜ length (now «record») ≡ 240 ⌝ }
+{
+    report_line(&record[0..24], number, lent, record[126], &record[127..])
+}
+
 fn try_line(record: &[u8; 240]) -> bool {
     let mut lent = [FILL; 113];
     let number = line::line(labels(record), numbers(record), &mut lent);
-    report_line(
-        &record[..24],
-        number,
-        &lent,
-        record[126] as u32,
-        &record[127..],
-    )
+    report_record(record, number, &lent)
 }
 
 pub fn published_cases(tally: Tally) -> Tally {

@@ -10,6 +10,7 @@ use crate::replies::scattered;
 use crate::replies::smoothed;
 use line::Labels;
 use line::Numbers;
+use std::num::wrapping_add_u32;
 
 fn try_smooth(case: &[u8], measurements: &[i64], should: Reply) -> bool {
     report(
@@ -138,12 +139,12 @@ fn sample_numbers() -> Numbers {
 }
 
 // How many bytes of a part of a lent line are as they were lent.
-fn kept(part: &[u8]) -> usize {
-    let mut n: usize = 0;
+fn kept(part: &[u8]) -> u32 {
+    let mut n: u32 = 0;
     let mut i = 0;
     while i < part.len() {
         if part[i] == FILL {
-            n += 1;
+            n = wrapping_add_u32(n, 1);
         }
         i += 1;
     }
@@ -181,6 +182,6 @@ pub fn long_line_cases(tally: Tally) -> Tally {
     let should =
         b"G05 FF 50722 000200 0780 450 1800 +0000000010 +00000 +0000000010 +00000 0000 007 0000 +000 0000 +000 00 00 L1C 26";
     tally
-        .with(report_line(b"lent 114 bytes", number, &lent[..113], 0, should))
+        .with(report_line(b"lent 114 bytes", number, &lent[0..113], 0, should))
         .with(report_kept(b"lent 114 bytes, the last", &lent[113..], 1))
 }
