@@ -2,7 +2,8 @@
 import struct
 
 FILL = b'.'
-SAMPLE = 'G05 FF 50722 000200 0780 450 1800 +0000000010 +00000 +0000000010 +00000 0000 007 0000 +000 0000 +000 00 00 L1C 26'
+SAMPLE = ('G05 FF 50722 000200 0780 450 1800 +0000000010 +00000 +0000000010 +00000 0000 007 0000 +000 0000 +000 '
+          '00 00 L1C 26')
 # Document 01, "What the technician tries", without what is marked P, and some refusals of "Each operation and its refusals,
 # in order". The paper leaves out the value of fifteen equal measurements, the slope of 52 equal values, and the midpoint of
 # 344 in the last place (344 / 5200).
@@ -42,10 +43,11 @@ def second(time):
 def record(case, line, answer):
     """A case of Line for the program: its name, its labels and numbers by the columns of its line, the answer, and what 113
     lent bytes then hold."""
-    word = line.split(' ')
-    sat, cl, mjd, time, trkl, elv, azth, refsv, srsv, refsys, srsys, dsg, ioe, mdtr, smdt, mdio, smdi, fr, hc, frc, _ = word
-    labels = struct.pack('<BBBBB3sIIHHH', ord(sat[0]), int(sat[1:]), int(cl, 16), int(fr), int(hc), frc.encode(), int(mjd),
-                         second(time), int(elv), int(azth), int(ioe))
+    (sat, cl, mjd, time, trkl, elv, azth, refsv, srsv, refsys, srsys, dsg, ioe, mdtr, smdt, mdio, smdi, fr, hc, frc,
+     _) = line.split(' ')
+    labels = struct.pack('<BBBBB3sIIHHH', ord(sat[0]), int(sat[1:]), int(cl, 16), int(fr), int(hc), frc.encode(),
+                         int(mjd), second(time), int(elv), int(azth), int(ioe))
+    # the ten numbers in their fixed order
     numbers = [int(n) for n in (refsv, srsv, refsys, srsys, mdtr, smdt, mdio, smdi, dsg, trkl)]
     after = line.encode() if answer == 0 else FILL * 113
     packed = case.ljust(24).encode() + labels + struct.pack('<10qB', *numbers, answer) + after

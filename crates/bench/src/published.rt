@@ -18,7 +18,7 @@ use line::Numbers;
 
 const RECORD: usize = 240;
 
-// More records than are read.
+// A bound, so that the reading ends. No input has as many.
 const MOST_RECORDS: u32 = 1000;
 
 fn labels(record: &[u8; 240]) -> Labels {

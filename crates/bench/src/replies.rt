@@ -114,13 +114,17 @@ pub fn close(row: Row, right: bool) {
     }
 }
 
+// What a case gave, and what it should be.
+pub fn compared(operation: Operation, case: &[u8], gave: Reply, should: Reply) -> Row {
+    let row = said(opened(operation, case), operation, gave);
+    said(row.column(SHOULD).text(b"should be "), operation, should)
+}
+
 // Reports a case and answers whether it went right.
 pub fn report(operation: Operation, case: &[u8], gave: Reply, should: Reply) -> bool {
     let right = (gave.number == should.number)
         & (gave.first == should.first)
         & (gave.second == should.second);
-    let row = said(opened(operation, case), operation, gave);
-    let both = said(row.column(SHOULD).text(b"should be "), operation, should);
-    close(both, right);
+    close(compared(operation, case, gave, should), right);
     right
 }
