@@ -2,14 +2,20 @@
 """What Line should answer to the published lines, and their columns in our form, worked out from published.txt.
 
     python3 tests/published/expected.py            print it
-    python3 tests/published/expected.py --check    compare it with expected.txt, and test the checksums printed in 003
+    python3 tests/published/expected.py --bench    write what the program bench reads and should print (crates/bench)
+    python3 tests/published/expected.py --check    compare it with expected.txt and with what stands in crates/bench, and
+                                                   test the checksums printed in 003
 
 A second way beside the plain Rust implementation, which is compared with expected.txt too (tests/reference).
 """
 import pathlib
 import sys
 
+sys.dont_write_bytecode = True
+import bench  # noqa: E402
+
 HERE = pathlib.Path(__file__).resolve().parent
+BENCH = HERE.parent.parent / 'crates' / 'bench'
 NAMES = 'SAT CL MJD STTIME TRKL ELV AZTH REFSV SRSV REFSYS SRSYS DSG IOE MDTR SMDT MDIO SMDI FR HC FRC CK'.split()
 # how a field stands in our line
 OURS = dict(CL='{:02X}', MJD='{:05d}', STTIME='{:06d}', TRKL='{:04d}', ELV='{:03d}', AZTH='{:04d}', REFSV='{:+011d}',
@@ -80,16 +86,34 @@ def answer(fields):
     return next((refusal for refusal, fails in tests if fails), 0)
 
 
-def expected():
-    records = []
+def forms():
+    """Name, fields as published, or None where the date is lost and they can't be judged, and fields with what is put in."""
     for name, fields, put in read():
         published = completed(fields, put)
-        # what lost its date can't be judged as published
-        known = fields['MJD'] != '-'
-        first = '%d  %s' % (answer(published), text(published)) if known else '-'
-        given = {**published, **put}
-        records.append('%s\n  published  %s\n  put in     %d  %s\n' % (name, first, answer(given), text(given)))
+        yield name, published if fields['MJD'] != '-' else None, {**published, **put}
+
+
+def expected():
+    def row(fields):
+        return '%d  %s' % (answer(fields), text(fields)) if fields else '-'
+
+    records = ['%s\n  published  %s\n  put in     %s\n' % (name, row(published), row(given))
+               for name, published, given in forms()]
     return HEADER + '\n' + ''.join(records)
+
+
+def lines():
+    """The cases of Line for the program bench: name, line and answer."""
+    for name, published, given in forms():
+        for kind, fields in ('published', published), ('put in', given):
+            if fields:
+                yield '%s %s' % (name, kind), text(fields), answer(fields)
+
+
+def bench_files():
+    """What stands in crates/bench beside the code."""
+    cases = list(lines())
+    return {BENCH / 'stdin': bench.stdin(cases), BENCH / 'stdout': bench.stdout(cases).encode()}
 
 
 def misfits():
@@ -101,16 +125,25 @@ def misfits():
                 yield name
 
 
-def main():
-    if sys.argv[1:] != ['--check']:
-        print(expected(), end='')
-        return 0
+def check():
     bad = list(misfits())
     same = expected() == (HERE / 'expected.txt').read_text()
-    count = sum(1 for _ in read())
-    print('published: %d lines, expected.txt %s, checksums of 003 %s' % (
-        count, 'agrees' if same else 'DIFFERS', 'do NOT fit: %s' % bad if bad else 'fit'))
-    return 0 if same and not bad else 1
+    differ = [path.name for path, content in bench_files().items() if path.read_bytes() != content]
+    print('published: %d lines, expected.txt %s, bench %s, checksums of 003 %s' % (
+        sum(1 for _ in read()), 'agrees' if same else 'DIFFERS', 'DIFFERS: %s' % differ if differ else 'agrees',
+        'do NOT fit: %s' % bad if bad else 'fit'))
+    return 0 if same and not differ and not bad else 1
+
+
+def main():
+    if sys.argv[1:] == ['--check']:
+        return check()
+    if sys.argv[1:] == ['--bench']:
+        for path, content in bench_files().items():
+            path.write_bytes(content)
+        return 0
+    print(expected(), end='')
+    return 0
 
 
 if __name__ == '__main__':
