@@ -1,6 +1,7 @@
 """The picture of docs/LAST-DIGIT.md, as SVG: measurements, values, line, residuals, and where the next digit begins.
 
-Drawn by `tools/lastdigit --svg FILE` from the figures that tool works out.
+Drawn by `tools/lastdigit --svg FILE` from the figures that tool works out. It is laid out for the worked track, whose
+REFSYS and DSG lie next to a tie.
 """
 from fractions import Fraction
 
