@@ -3,8 +3,8 @@
  *
  * Each function answers 0 when it accepts and the number of its refusal otherwise. A slice is a pointer and a length;
  * NULL with length 0 is an empty slice. A function that accepts writes the first 113 bytes of the lent line, with no
- * byte of zero after them; one that refuses writes nothing. Nothing is kept between calls, so that threads may call at
- * once on lines of their own.
+ * byte of zero after them; one that refuses writes nothing. The two slices of a call must not overlap. Nothing is kept
+ * between calls, so that threads may call at once on lines of their own.
  */
 #ifndef TRACKLINE_H
 #define TRACKLINE_H
