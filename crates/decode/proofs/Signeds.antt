@@ -46,21 +46,29 @@ pub all-left : (bytes : List ℕ) (at stride n : ℕ) → signedsAt bytes at str
 all-left bytes at stride n = clamped bytes at stride n ∙ ap (signedsAt bytes (min at (length bytes)) stride) (omega arith)
 
 -- one number more is stored
-pub signeds-turn : (bytes : List ℕ) (whole out : List ℤ) (next stride n i : ℕ) → i < length out → length out ≡ n
+pub signeds-step : (bytes : List ℕ) (whole out : List ℤ) (next stride n i : ℕ) → i < length out → length out ≡ n
     → whole ≡ take i out ++ signedsAt bytes next stride (n - i)
-    → whole ≡ take (i + 1) (set out i (signedAt bytes next)) ++ signedsAt bytes (min (next + stride) (length bytes)) stride (n - (i + 1))
+    → whole ≡ take (i + 1) (set out i (signedAt bytes next)) ++ signedsAt bytes (next + stride) stride (n - (i + 1))
 unfolding signedsAt
-signeds-turn bytes whole out next stride n i h l e =
+signeds-step bytes whole out next stride n i h l e =
     e
     ∙ ap (λ (k : ℕ). take i out ++ signedsAt bytes next stride k) (one-left h l)
     ∙ sym (append-assoc (take i out) (signedAt bytes next ∷ []) (signedsAt bytes (next + stride) stride (n - (i + 1))))
-    ∙ ap₂ _++_ (sym (stored h)) (clamped bytes (next + stride) stride (n - (i + 1)))
+    ∙ ap (λ (x : List ℤ). x ++ signedsAt bytes (next + stride) stride (n - (i + 1))) (sym (stored h))
   where
     stored : i < length out → take (i + 1) (set out i (signedAt bytes next)) ≡ take i out ++ signedAt bytes next ∷ []
     stored h = rw add-one (take-suc-set out i (signedAt bytes next) h)
 
     one-left : i < length out → length out ≡ n → n - i ≡ suc (n - (i + 1))
     one-left h l = omega arith
+
+-- and the next place may be taken for the end, where it lies past it
+pub signeds-turn : (bytes : List ℕ) (whole out : List ℤ) (next stride n i : ℕ) → i < length out → length out ≡ n
+    → whole ≡ take i out ++ signedsAt bytes next stride (n - i)
+    → whole ≡ take (i + 1) (set out i (signedAt bytes next)) ++ signedsAt bytes (min (next + stride) (length bytes)) stride (n - (i + 1))
+signeds-turn bytes whole out next stride n i h l e =
+    signeds-step bytes whole out next stride n i h l e
+    ∙ ap (λ (x : List ℤ). take (i + 1) (set out i (signedAt bytes next)) ++ x) (clamped bytes (next + stride) stride (n - (i + 1)))
 
 -- all are stored
 pub signeds-done : (bytes : List ℕ) (whole out : List ℤ) (next stride n i : ℕ) → n ≤ i → length out ≡ n

@@ -2,7 +2,10 @@
 ghost use mathlib.Core.Path.{_≡_};
 ghost use Prim.Native.Nat.{_+_, _≤_, min};
 ghost use lib.ListN.{length, take, drop};
-ghost use Rattle.decode.specs.Number.{little};
+ghost use mathlib.Core.Bool.{true};
+ghost use Rattle.decode.specs.Number.{little, signedsAt};
+ghost use Rattle.decode.specs.Row.{RowLies};
+use super::twos_complement;
 
 // The place a stride behind another, or the end where that would be past it.
 pub fn clamped(from: usize, stride: usize, end: usize) -> usize
@@ -35,4 +38,38 @@ pub fn unsigned64(bytes: &[u8], at: usize) -> u64
     ensures { λ r. ⌜ r ≡ little (take 8 (drop at (now (bytes .entry)))) ⌝ }
 {
     unsigned32(bytes, at) as u64 + 4294967296 * unsigned32(bytes, at + 4) as u64
+}
+
+// Whether so many signed numbers, the first at an offset and each a stride behind the one before, all lie within so many bytes. A row
+// of enormous strides or counts is left to the careful way.
+pub fn row_lies(bytes: usize, at: usize, stride: usize, count: usize) -> bool
+    ensures { λ r. ⌜ (r ≡ true → RowLies bytes at stride count) ⌝ }
+{
+    if count == 0 {
+        return true;
+    }
+    if 65536 < stride {
+        return false;
+    }
+    if 65536 < count {
+        return false;
+    }
+    if bytes < at {
+        return false;
+    }
+    let room = bytes - at;
+    if room < 8 {
+        return false;
+    }
+    stride * (count - 1) <= room - 8
+}
+
+// Fills out with the signed numbers of such a row.
+pub fn fill(bytes: &[u8], at: usize, stride: usize, out: &mut [i64])
+    requires { ⌜ RowLies (length (now bytes)) at stride (length (now out)) ⌝ }
+    ensures { λ _. ⌜ now (out .exit) ≡ signedsAt (now (bytes .entry)) at stride (length (now (out .entry))) ⌝ }
+{
+    for i in 0..out.len() {
+        out[i] = twos_complement(unsigned64(bytes, at + stride * i));
+    }
 }

@@ -66,6 +66,16 @@ pub fn signed64(bytes: &[u8], at: usize) -> i64
 pub fn fill(bytes: &[u8], at: usize, stride: usize, out: &mut [i64])
     ensures { λ _. ⌜ now (out .exit) ≡ signedsAt (now (bytes .entry)) at stride (length (now (out .entry))) ⌝ }
 {
+    if inside::row_lies(bytes.len(), at, stride, out.len()) {
+        return inside::fill(bytes, at, stride, out);
+    }
+    fill_past(bytes, at, stride, out)
+}
+
+// The same for a row of which not all may lie within the bytes: a place past the end is taken for the end.
+fn fill_past(bytes: &[u8], at: usize, stride: usize, out: &mut [i64])
+    ensures { λ _. ⌜ now (out .exit) ≡ signedsAt (now (bytes .entry)) at stride (length (now (out .entry))) ⌝ }
+{
     let mut next = inside::clamped(0, at, bytes.len());
     for i in 0..out.len() {
         out[i] = signed64(bytes, next);

@@ -77,10 +77,11 @@ pub fn weighted(measurements: &[i64]) -> i64
     requires { ⌜ (length (now measurements) ≡ 15) × (anyBeyond (10 ^ 12) (now measurements) ≡ false) ⌝ }
     ensures { λ r. ⌜ r ≡ sum 15 (λ i. at weights i *ℤ at (now (measurements .entry)) i) ⌝ }
 {
+    let weights = WEIGHTS;
     let mut sum: i64 = 0;
     let mut i = 0;
     while i < 15 {
-        sum += WEIGHTS[i] * measurements[i];
+        sum += weights[i] * measurements[i];
         i += 1;
     }
     sum

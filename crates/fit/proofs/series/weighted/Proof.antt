@@ -19,21 +19,18 @@ use Rattle.fit.proofs.Lists.{within-limit}
 use Rattle.fit.proofs.Weights.{weight-bound, weighted-bound}
 use Rattle.fit.proofs.series.weighted.Statement.{statement}
 use Rattle.fit.proofs.series.weighted.Tie as tie
-use Rattle.fit.proofs.series.weighted.Reads as reads
-use Rattle.fit.proofs.series.weighted.Lts as lts
 
 -- the sum of the first i products
 abbrev part : List ℤ → ℕ → ℤ
 part m i = sum i (λ k. at weights k *ℤ at m k)
 
 abbrev Inv-loop : tie.InvT-loop
-Inv-loop measurements sum₀ i₀ sum i =
+Inv-loop measurements table sum₀ i₀ sum i =
     (i ≤ 15) × (length measurements ≡ 15) × (toZ w64 sum ≡ part measurements i)
 
 abbrev μ-loop : tie.MeasureT-loop
-μ-loop measurements sum₀ i₀ sum i = 15 - i
+μ-loop measurements table sum₀ i₀ sum i = 15 - i
 
--- src/series.rt:49:5
 -- what is known of a weight, of a measurement and of the sum so far
 abbrev weight-word : (i : ℕ) → Word (at weights i)
 weight-word i = known (weight-bound i)
@@ -51,23 +48,18 @@ loop-holds : tie.Need-loop-holds Inv-loop μ-loop
 unfolding sum
 loop-holds c = (search needs, c .pre .0, refl)
 
--- src/series.rt:50:16
 mul-sum : tie.Need-mul-sum Inv-loop μ-loop
 mul-sum c = search needs
 
--- src/series.rt:50:16
 array-copy-out-sum : tie.Need-array-copy-out-sum Inv-loop μ-loop
 array-copy-out-sum c = search needs
 
--- src/series.rt:50:29
 mul-sum-2 : tie.Need-mul-sum-2 Inv-loop μ-loop
 mul-sum-2 c = search needs
 
--- src/series.rt:50:29
 shared-slice-copy-out-sum : tie.Need-shared-slice-copy-out-sum Inv-loop μ-loop
 shared-slice-copy-out-sum c = search needs
 
--- src/series.rt:50:16
 mul-sum-3 : tie.Need-mul-sum-3 Inv-loop μ-loop
 unfolding weights
 mul-sum-3 c =
@@ -75,7 +67,6 @@ mul-sum-3 c =
     let m = measurement-word (c .before .before .before .before) (c .before .before .before .loop .i) in
     fits (search bounds depth 12) tt
 
--- src/series.rt:50:9
 add-sum : tie.Need-add-sum Inv-loop μ-loop
 unfolding weights
 add-sum c =
@@ -84,15 +75,12 @@ add-sum c =
     let s = sum-word (c .before .before .before) in
     fits (search bounds depth 12) tt
 
--- src/series.rt:51:9
 add-i : tie.Need-add-i Inv-loop μ-loop
 add-i c = search needs
 
--- src/series.rt:49:5
 loop-less : tie.Need-loop-less Inv-loop μ-loop
 loop-less c = search needs
 
--- src/series.rt:49:5
 loop-again : tie.Need-loop-again Inv-loop μ-loop
 unfolding weights
 loop-again c =
@@ -101,7 +89,6 @@ loop-again c =
     let s = sum-word (c .before .before .before) in
     (search needs, c .before .before .before .loop .inv .1, plain-is (search bounds depth 12) tt ∙ rw (add-one, sum-suc))
 
--- src/series.rt:43:1
 returns : tie.Need-returns Inv-loop μ-loop
 returns c =
     let e : c .before .loop .i ≡ 15 = le-antisymm (c .before .loop .inv .0) (c .loop-test .left) in
