@@ -17,9 +17,9 @@ use Rattle.exact.specs.Parabola.{LeastParabola, ExactSmoothed}
 use Rattle.exact.specs.Line.{LeastLine, lineMisfit}
 use Rattle.exact.specs.Corrected.{Given, at, block, toA, toB}
 use Rattle.exact.specs.Accurate.{AccurateLine, AccurateScatter, Figures, AccurateTrack}
-use Rattle.exact.specs.Weights.{weights}
+use Rattle.exact.specs.Weights.{weights, place}
 use Rattle.exact.specs.Smoothing.{weights-exact}
-use Rattle.exact.specs.Places.{place, span}
+use Rattle.exact.specs.Places.{span}
 use Rattle.exact.specs.Fitting.{span-pos}
 use Rattle.exact.specs.Bounds.{Near, Rounded, midpoint-bound, slope-bound}
 use Rattle.exact.specs.Scattering.{spread, scatter-above, scatter-below}

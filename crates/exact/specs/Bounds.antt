@@ -15,7 +15,8 @@ use Rattle.whole.specs.Order.{_⩽_, _⋖_, le-refl, le-trans, le-of-eq, le-of-
 use Rattle.whole.specs.Size.{size-mul, size-nonneg, size-combined, square-size, size-scaled}
 use Rattle.whole.specs.Sums.{sum-eq, sums-le, sums, sum-cong, sum-le, sum-constant, sum-squares-nonneg, size-sum, size-sum-le}
 use Rattle.exact.specs.Line.{LeastLine}
-use Rattle.exact.specs.Places.{place, span, sum-size-place}
+use Rattle.exact.specs.Weights.{place}
+use Rattle.exact.specs.Places.{span, sum-size-place}
 use Rattle.exact.specs.Fitting.{midpoint-exact, slope-exact}
 
 -- twice the difference of v and Y / e, times e

@@ -15,7 +15,8 @@ use Rattle.whole.specs.Order.{_⩽_, _⋖_, mul-pos, cancel-eq, le-antisymm, po
 use Rattle.whole.specs.Sums.{sum-eq, sums, sum-cong}
 use Rattle.exact.specs.Line.{twiceSeconds, lineResidual, lineMisfit, LeastLine}
 use Rattle.exact.specs.LeastSquares.{misfit, Kind, Orthogonal, orthogonal, least}
-use Rattle.exact.specs.Places.{place, seconds-place, span, sum-place, sum-place²}
+use Rattle.exact.specs.Weights.{place}
+use Rattle.exact.specs.Places.{seconds-place, span, sum-place, sum-place²}
 
 -- ---- lines are a kind of curve
 

@@ -1,5 +1,4 @@
--- The places 2j - (n - 1) of n values, with 52 values 2j - 51: the weights of T in document 01, "Fitting". Value j lies 15 / 2 times its place,
--- in seconds, from the mean date. The places add up to 0, their squares to n (n² - 1) / 3, and their sizes to at most n² / 2.
+-- The places 2j - (n - 1) of n values (module Weights). Value j lies 15 / 2 times its place, in seconds, from the mean date. The places add up to 0, their squares to n (n² - 1) / 3, and their sizes to at most n² / 2.
 -- Assumes nothing.
 use mathlib.Core.Path.{_≡_, refl, sym, ap, ap₂, _∙_, subst, subst₂}
 use mathlib.Core.List.{List, [], _∷_}
@@ -14,9 +13,7 @@ use Rattle.whole.specs.Order.{_⩽_, _⋖_, le-refl, le-shift}
 use Rattle.whole.specs.Size.{size-neg}
 use Rattle.whole.specs.Sums.{sum-cong, sum-first}
 use Rattle.exact.specs.Line.{twiceMeanDate, twiceSeconds}
-
-unfoldable pub place : ℕ → ℕ → ℤ
-place n j = pos (2 * j) -ℤ pos (n - 1)
+use Rattle.exact.specs.Weights.{place}
 
 -- the mean date of 52 values is second 389.5
 pub mean-date-52 : twiceMeanDate 52 ≡ pos 779

@@ -16,7 +16,8 @@ use Rattle.whole.specs.Order.{_⩽_, _⋖_, lt-le-trans, le-trans, le-of-eq, le
 use Rattle.whole.specs.Size.{size-nonneg, square-size}
 use Rattle.whole.specs.Sums.{sum-eq, sums-le, sums, sum-squares-nonneg}
 use Rattle.exact.specs.Line.{lineResidual, lineMisfit, LeastLine}
-use Rattle.exact.specs.Places.{place, span, sum-place, sum-place²}
+use Rattle.exact.specs.Weights.{place}
+use Rattle.exact.specs.Places.{span, sum-place, sum-place²}
 use Rattle.exact.specs.Fitting.{line, residual-is, midpoint-exact, slope-exact, span-pos}
 use Rattle.exact.specs.Bounds.{gap, Near, Rounded}
 

@@ -18,8 +18,8 @@ use Rattle.whole.specs.Tables.{tabulate-getD}
 use Rattle.exact.specs.Corrected.{Given, at, block, toA, toB}
 use Rattle.exact.specs.Accurate.{AccurateTrack}
 use Rattle.exact.specs.Accuracy.{Fitted, Scattered, Computed, accurate-track}
-use Rattle.exact.specs.Weights.{weights}
-use Rattle.exact.specs.Places.{place, span}
+use Rattle.exact.specs.Weights.{weights, place}
+use Rattle.exact.specs.Places.{span}
 use Rattle.exact.specs.Bounds.{Rounded}
 use Rattle.exact.specs.Scattering.{spread}
 use Rattle.fit.specs.Smooth.{smoothed}

@@ -10,8 +10,7 @@ use Rattle.whole.specs.Nearest.{nearest}
 use Rattle.whole.specs.Table.{tabulate}
 use Rattle.limits.specs.Refusal.{_when_, _then_}
 use Rattle.limits.specs.Limits.{outside, dsgRule}
-use Rattle.exact.specs.Places.{place}
-use Rattle.exact.specs.Weights.{weights}
+use Rattle.exact.specs.Weights.{weights, place}
 use Rattle.fit.specs.Lists.{anyOutside, rangeRule}
 use Rattle.fit.specs.Smooth.{smoothed, smoothRule}
 use Rattle.fit.specs.Fit.{total, moment, midpoint, slope, fitRule}

@@ -17,7 +17,7 @@ use Rattle.whole.specs.Size.{natAbs-mul, size-le}
 use Rattle.whole.specs.Rounding.{nearest-scale}
 use Rattle.whole.specs.Words.{partial}
 use Rattle.exact.specs.Corrected.{at}
-use Rattle.exact.specs.Places.{place}
+use Rattle.exact.specs.Weights.{place}
 use Rattle.fit.specs.Lists.{anyBeyond}
 use Rattle.fit.specs.Fit.{total, moment, midpoint, slope, fitRule}
 use Rattle.fit.proofs.Lists.{within-limit, list-passes}

@@ -16,7 +16,7 @@ use Rattle.whole.specs.Order.{_⩽_, le-refl, add-le, square-nonneg, as-pos, po
 use Rattle.whole.specs.Size.{square-size}
 use Rattle.whole.specs.Sums.{sum-suc, sum-squares-nonneg}
 use Rattle.whole.specs.Rounding.{nearest-scale}
-use Rattle.exact.specs.Places.{place}
+use Rattle.exact.specs.Weights.{place}
 use Rattle.fit.specs.Fit.{total, moment}
 use Rattle.fit.specs.Scatter.{residual, squares}
 

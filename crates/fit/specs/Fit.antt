@@ -4,7 +4,7 @@
 use Prim.Native.Nat.{ℕ, _*_, _-_, _^_}
 use mathlib.Core.List.{List}
 use lib.IntN.{ℤ, pos, _*ℤ_}
-use Rattle.exact.specs.Places.{place}
+use Rattle.exact.specs.Weights.{place}
 use Rattle.whole.specs.Sum.{sum}
 use Rattle.whole.specs.Nearest.{nearest}
 use Rattle.exact.specs.Corrected.{at}

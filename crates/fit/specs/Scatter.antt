@@ -12,7 +12,7 @@ use Rattle.whole.specs.Square.{squared}
 use Rattle.limits.specs.Refusal.{_then_}
 use Rattle.limits.specs.Limits.{dsgRule}
 use Rattle.exact.specs.Corrected.{at}
-use Rattle.exact.specs.Places.{place}
+use Rattle.exact.specs.Weights.{place}
 use Rattle.fit.specs.Lists.{listRule}
 use Rattle.fit.specs.Answers.{Reply, reply}
 use Rattle.fit.specs.Fit.{total, moment}

@@ -13,8 +13,7 @@ use Rattle.limits.specs.Refusal.{_when_, _then_}
 use Rattle.limits.specs.Limits.{outside, limitsRule, dsgRule}
 use Rattle.decode.specs.Number.{little, unsignedAt, twosComplement, signedAt, signedsAt}
 use Rattle.exact.specs.Corrected.{Given, block, toA, toB}
-use Rattle.exact.specs.Places.{place}
-use Rattle.exact.specs.Weights.{weights}
+use Rattle.exact.specs.Weights.{weights, place}
 use Rattle.fit.specs.Lists.{anyOutside}
 use Rattle.fit.specs.Smooth.{smoothed}
 use Rattle.fit.specs.Fit.{total, moment, midpoint, slope}

@@ -12,8 +12,6 @@ use Rattle.whole.specs.Nearest.{nearest}
 use Rattle.whole.specs.Words.{Word, known, count-read, fits, plain-is, bounds, divisor, floor-below, floor-from-zero}
 use Rattle.fit.proofs.number.nearest.Statement.{statement}
 use Rattle.fit.proofs.number.nearest.Tie as tie
-use Rattle.fit.proofs.number.nearest.Reads as reads
-use Rattle.fit.proofs.number.nearest.Lts as lts
 
 abbrev n-word : (c : tie.Start) → Word (c .args .n)
 n-word c = known (c .pre .0 .within)

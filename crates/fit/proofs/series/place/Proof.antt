@@ -5,7 +5,7 @@ use native.Mathlib.Nat.{le-of-lt}
 use mir.Syntax.{w64}
 use mir.Val.{toZ}
 use Rattle.whole.specs.Words.{Word, count-read, fits, plain-is, bounds}
-use Rattle.exact.specs.Places.{place}
+use Rattle.exact.specs.Weights.{place}
 use Rattle.fit.proofs.series.place.Statement.{statement}
 use Rattle.fit.proofs.series.place.Tie as tie
 

@@ -13,7 +13,7 @@ use Rattle.whole.specs.Sum.{sum}
 use Rattle.whole.specs.Sums.{sum-suc}
 use Rattle.whole.specs.Words.{Word, known, equal, partial, back-of, fits, bound, plain-is, bounds}
 use Rattle.exact.specs.Corrected.{at}
-use Rattle.exact.specs.Places.{place}
+use Rattle.exact.specs.Weights.{place}
 use Rattle.fit.specs.Fit.{total, moment}
 use Rattle.fit.proofs.Lists.{within-limit}
 use Rattle.fit.proofs.Fitting.{place-bound, product-bound}
