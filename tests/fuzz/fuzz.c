@@ -1,0 +1,394 @@
+/*
+ * Fuzz target of the C boundary: each input makes a call of one of the three functions, and the archive's answer and
+ * every byte of the lent line must be those of the plain Rust implementation.
+ *
+ * The archive is compiled without AddressSanitizer. So what it is lent lies against a page that nobody may touch, in
+ * front or behind, and the block in memory that can't be written: a byte read or written outside is a fault at once.
+ */
+#define _GNU_SOURCE
+#include <inttypes.h>
+#include <stdio.h>
+#include <stdlib.h>
+#include <string.h>
+#include <sys/mman.h>
+#include <unistd.h>
+
+#include "trackline.h"
+
+enum { SECONDS = 780, BLOCKS = 52, LONGEST_BLOCK = 16384, LONGEST_LINE = 4096, EDITS = 64 };
+enum { INT_AT = 26, MEASUREMENTS_AT = 58, COLUMNS_AT = 6298 };
+
+/* What trackline_line is given; the numbers in their fixed order. */
+struct given {
+    uint8_t constellation, satellite, cl, fr, hc, frc[3];
+    uint32_t mjd, start;
+    uint16_t elv, azth, ioe;
+    int64_t numbers[10];
+};
+
+uint32_t reference_block(const uint8_t *block, size_t block_len, uint8_t *line, size_t line_len);
+uint32_t reference_line(const struct given *given, uint8_t *line, size_t line_len);
+uint32_t reference_start(uint32_t mjd, uint32_t second);
+int LLVMFuzzerInitialize(int *argc, char ***argv);
+int LLVMFuzzerTestOneInput(const uint8_t *data, size_t size);
+
+/* ---- the fuzzer's bytes, taken from the left; 0 behind their end ---- */
+
+struct bytes {
+    const uint8_t *at;
+    size_t left;
+};
+
+static uint64_t take(struct bytes *b, size_t count)
+{
+    uint64_t value = 0;
+    for (size_t i = 0; i < count && b->left > 0; i++, b->at++, b->left--) {
+        value |= (uint64_t)*b->at << (8 * i);
+    }
+    return value;
+}
+
+static size_t below(struct bytes *b, size_t count)
+{
+    return take(b, 2) % count;
+}
+
+/* A number: small, any, or near a limit of the paper. */
+static int64_t number(struct bytes *b)
+{
+    static const int64_t edges[] = {0, 15, 50, 345, 780, 999, 9999, 99999, 999949, 9999999999, 10000000000,
+                                    200000000000, 999900000000, 1000000000000, INT64_MAX};
+    size_t kind = take(b, 1);
+    switch (kind & 3) {
+    case 0: return (int16_t)take(b, 2);
+    case 1: return (int32_t)take(b, 4);
+    case 2: return (int64_t)take(b, 8);
+    default: break;
+    }
+    uint64_t edge = (uint64_t)edges[(kind >> 3) % (sizeof edges / sizeof *edges)];
+    uint64_t off = (uint64_t)(int64_t)(int8_t)take(b, 1);
+    return (int64_t)(((kind & 4) ? -edge : edge) + off);
+}
+
+/* ---- memory with a page in front and one behind that nobody may touch ---- */
+
+struct guarded {
+    uint8_t *lent; /* what the archive sees */
+    uint8_t *own;  /* the same bytes, to be written here */
+    size_t size;
+};
+
+static struct guarded block_memory, line_memory;
+
+static void *must(void *mapped)
+{
+    if (mapped == MAP_FAILED) {
+        perror("mmap");
+        exit(1);
+    }
+    return mapped;
+}
+
+static struct guarded guard(size_t size, int protection)
+{
+    size_t page = (size_t)sysconf(_SC_PAGESIZE);
+    int file = memfd_create("guarded", 0);
+    if (file < 0 || ftruncate(file, (off_t)size) != 0) {
+        perror("memfd_create");
+        exit(1);
+    }
+    uint8_t *outer = must(mmap(NULL, size + 2 * page, PROT_NONE, MAP_PRIVATE | MAP_ANONYMOUS, -1, 0));
+    uint8_t *lent = must(mmap(outer + page, size, protection, MAP_SHARED | MAP_FIXED, file, 0));
+    uint8_t *own = must(mmap(NULL, size, PROT_READ | PROT_WRITE, MAP_SHARED, file, 0));
+    return (struct guarded){lent, own, size};
+}
+
+/* Where so many bytes lie: against the page in front, or against the one behind. */
+static size_t offset(const struct guarded *g, size_t length, int front)
+{
+    return front ? 0 : g->size - length;
+}
+
+/* ---- what was reached ---- */
+
+enum function { BLOCK, LINE, START, FUNCTIONS };
+static const char *const NAMES[FUNCTIONS] = {"trackline_block", "trackline_line", "trackline_start"};
+static uint64_t reached[FUNCTIONS][12];
+
+static void report(void)
+{
+    for (int f = 0; f < FUNCTIONS; f++) {
+        printf("%s:", NAMES[f]);
+        for (int answer = 0; answer < 12; answer++) {
+            if (reached[f][answer] > 0) {
+                printf(" %d:%" PRIu64, answer, reached[f][answer]);
+            }
+        }
+        printf("\n");
+    }
+}
+
+static void judge(enum function f, uint32_t got, uint32_t wanted)
+{
+    if (wanted < 12) {
+        reached[f][wanted]++;
+    }
+    if (got != wanted) {
+        printf("DIFFERENT: %s answered %" PRIu32 ", should be %" PRIu32 "\n", NAMES[f], got, wanted);
+        abort();
+    }
+}
+
+/* ---- the lent line ---- */
+
+struct lines {
+    uint8_t *got, *wanted;
+    size_t length;
+};
+
+/* A lent line of some length, with the same bytes for both. */
+static struct lines lend(struct bytes *b)
+{
+    static const size_t lengths[] = {113, 113, 113, 114, 112, 0, LONGEST_LINE};
+    size_t kind = take(b, 1);
+    size_t which = kind % 8;
+    size_t length = which < 7 ? lengths[which] : take(b, 1);
+    uint8_t fill = (uint8_t)take(b, 1);
+    struct lines l = {line_memory.lent + offset(&line_memory, length, (kind & 8) != 0), malloc(length ? length : 1), length};
+    for (size_t i = 0; i < length; i++) {
+        l.got[i] = l.wanted[i] = (uint8_t)(fill + 7 * i);
+    }
+    if (length == 0 && (kind & 16)) {
+        l.got = NULL;
+    }
+    return l;
+}
+
+static void settle(struct lines l)
+{
+    if (l.length > 0 && memcmp(l.got, l.wanted, l.length) != 0) {
+        printf("DIFFERENT lines:\n  %.*s\n  %.*s\n", (int)l.length, (const char *)l.got, (int)l.length,
+               (const char *)l.wanted);
+        abort();
+    }
+    free(l.wanted);
+}
+
+/* ---- blocks ---- */
+
+static void put(uint8_t *to, uint64_t value, int count)
+{
+    for (int i = 0; i < count; i++) {
+        to[i] = (uint8_t)(value >> (8 * i));
+    }
+}
+
+static uint64_t get(const uint8_t *from, int count)
+{
+    uint64_t value = 0;
+    for (int i = 0; i < count; i++) {
+        value |= (uint64_t)from[i] << (8 * i);
+    }
+    return value;
+}
+
+static uint8_t *measurement(uint8_t *block, size_t i)
+{
+    return block + MEASUREMENTS_AT + 8 * i;
+}
+
+static uint8_t *correction(uint8_t *block, size_t column, size_t j)
+{
+    return block + COLUMNS_AT + 40 * j + 8 * column;
+}
+
+static uint32_t a_start(uint32_t mjd, size_t track)
+{
+    int64_t minute = 2 + 16 * (int64_t)(track % 89) - 4 * ((int64_t)mjd - 50722);
+    return (uint32_t)(60 * (((minute % 1440) + 1440) % 1440));
+}
+
+/* The paper's sample, which is accepted. */
+static void sample(uint8_t *block)
+{
+    static const uint8_t labels[26] = {0x0C, 0x03, 52, 0, 'G', 5, 255, 0, 0, 'L', '1', 'C', 0x22, 0xC6, 0, 0,
+                                       120, 0, 0, 0, 0xC2, 0x01, 0x08, 0x07, 7, 0};
+    memset(block, 0, LONGEST_BLOCK);
+    memcpy(block, labels, sizeof labels);
+    for (size_t i = 0; i < SECONDS; i++) {
+        put(measurement(block, i), 1000, 8);
+    }
+}
+
+/* A line through the measurements, with noise of its own. */
+static void measure(uint8_t *block, struct bytes *b)
+{
+    uint64_t level = (uint64_t)number(b), slope = (uint64_t)number(b), noise = take(b, 4);
+    for (size_t i = 0; i < SECONDS; i++) {
+        uint64_t mixed = (i + 1) * UINT64_C(0x9E3779B97F4A7C15) >> 33;
+        put(measurement(block, i), level + slope * i + (noise ? mixed % noise : 0), 8);
+    }
+}
+
+/* A line through a column, or a wave a, -a, -a, a added to it, which changes neither its sum nor its slope. */
+static void correct(uint8_t *block, struct bytes *b, int wave)
+{
+    size_t column = below(b, 5);
+    uint64_t level = (uint64_t)number(b), step = wave ? 0 : (uint64_t)number(b);
+    for (size_t j = 0; j < BLOCKS; j++) {
+        uint8_t *at = correction(block, column, j);
+        uint64_t wave_value = (j % 4 == 0 || j % 4 == 3) ? level : 0 - level;
+        put(at, wave ? get(at, 8) + wave_value : level + step * (2 * j - 51), 8);
+    }
+}
+
+/* Labels that fit together. */
+static void label(uint8_t *block, struct bytes *b)
+{
+    static const uint8_t code[] = "ABCDEFGHIJKLMNOPQRSTUVWXYZ0123456789";
+    uint32_t mjd = 50722 + (uint32_t)(take(b, 3) % 49278);
+    block[4] = (uint8_t)"GRECJ"[below(b, 5)];
+    block[5] = (uint8_t)(1 + below(b, 99));
+    block[6] = (uint8_t)take(b, 1);
+    block[7] = block[4] == 'R' ? (uint8_t)(1 + below(b, 24)) : 0;
+    block[8] = (uint8_t)below(b, 100);
+    for (size_t i = 0; i < 3; i++) {
+        block[9 + i] = code[below(b, 36)];
+    }
+    put(block + 12, mjd, 4);
+    put(block + 16, a_start(mjd, below(b, 89)), 4);
+    put(block + 20, below(b, 901), 2);
+    put(block + 22, below(b, 3600), 2);
+    put(block + 24, 1 + below(b, 23), 2);
+}
+
+/* One change to a block; gives its length. */
+static size_t edit(uint8_t *block, size_t length, struct bytes *b)
+{
+    size_t at;
+    switch (take(b, 1) % 12) {
+    case 0: at = below(b, 64); block[at < 26 ? at : 4 + at % 22] = (uint8_t)take(b, 1); break;
+    case 1: put(block + 16, a_start((uint32_t)get(block + 12, 4), below(b, 89)), 4); break;
+    case 2: put(block + 12, (uint32_t)number(b), 4); break;
+    case 3: put(block + 16, (uint32_t)number(b), 4); break;
+    case 4: at = 20 + 2 * below(b, 3); put(block + at, take(b, 2), 2); break;
+    case 5: at = below(b, 4); put(block + INT_AT + 8 * at, (uint64_t)number(b), 8); break;
+    case 6: at = below(b, SECONDS); put(measurement(block, at), (uint64_t)number(b), 8); break;
+    case 7: measure(block, b); break;
+    case 8: at = below(b, 5 * BLOCKS); put(block + COLUMNS_AT + 8 * at, (uint64_t)number(b), 8); break;
+    case 9: correct(block, b, 0); break;
+    case 10: correct(block, b, 1); break;
+    default:
+        if (take(b, 1) % 8 > 0) {
+            label(block, b);
+        } else {
+            length = (size_t)((int64_t)length + (int8_t)take(b, 1)) % (LONGEST_BLOCK + 1);
+        }
+    }
+    return length;
+}
+
+static void call_block(const uint8_t *bytes, size_t length, struct bytes *b)
+{
+    size_t kind = take(b, 1);
+    struct lines l = lend(b);
+    size_t at = offset(&block_memory, length, (kind & 1) != 0);
+    memmove(block_memory.own + at, bytes, length);
+    const uint8_t *lent = length == 0 && (kind & 2) ? NULL : block_memory.lent + at;
+    uint32_t wanted = reference_block(bytes, length, l.length ? l.wanted : NULL, l.length);
+    judge(BLOCK, trackline_block(lent, length, l.got, l.length), wanted);
+    settle(l);
+}
+
+static void edited_block(struct bytes *b)
+{
+    static uint8_t block[LONGEST_BLOCK];
+    /* what is lent comes first, so that edits at the end do not move it */
+    struct bytes lent = {b->at, b->left < 4 ? b->left : 4};
+    take(b, 4);
+    size_t length = TRACKLINE_BLOCK_BYTES;
+    sample(block);
+    for (int i = 0; i < EDITS && b->left > 0; i++) {
+        length = edit(block, length, b);
+    }
+    call_block(block, length, &lent);
+}
+
+static void raw_block(struct bytes *b)
+{
+    struct bytes lent = {b->at, b->left < 4 ? b->left : 4};
+    take(b, 4);
+    call_block(b->at, b->left < LONGEST_BLOCK ? b->left : LONGEST_BLOCK, &lent);
+}
+
+/* ---- lines and starts ---- */
+
+static uint32_t call_line(const struct given *g, uint8_t *line, size_t length)
+{
+    const int64_t *n = g->numbers;
+    return trackline_line(g->constellation, g->satellite, g->cl, g->fr, g->hc, g->frc[0], g->frc[1], g->frc[2],
+                          g->mjd, g->start, g->elv, g->azth, g->ioe,
+                          n[0], n[1], n[2], n[3], n[4], n[5], n[6], n[7], n[8], n[9], line, length);
+}
+
+static void line(struct bytes *b)
+{
+    struct lines l = lend(b);
+    uint8_t labels[26] = {0};
+    label(labels, b);
+    struct given g = {.constellation = labels[4], .satellite = labels[5], .cl = labels[6], .fr = labels[7],
+                      .hc = labels[8], .mjd = (uint32_t)get(labels + 12, 4), .start = (uint32_t)get(labels + 16, 4),
+                      .elv = (uint16_t)get(labels + 20, 2), .azth = (uint16_t)get(labels + 22, 2),
+                      .ioe = (uint16_t)get(labels + 24, 2), .numbers = {[9] = 780}};
+    memcpy(g.frc, labels + 9, 3);
+    for (int i = 0; i < EDITS && b->left > 0; i++) {
+        switch (take(b, 1) % 16) {
+        case 0: g.constellation = (uint8_t)take(b, 1); break;
+        case 1: g.satellite = (uint8_t)take(b, 1); break;
+        case 2: g.fr = (uint8_t)take(b, 1); break;
+        case 3: g.hc = (uint8_t)take(b, 1); break;
+        case 4: g.frc[below(b, 3)] = (uint8_t)take(b, 1); break;
+        case 5: g.mjd = (uint32_t)number(b); break;
+        case 6: g.start = (uint32_t)number(b); break;
+        case 7: g.elv = (uint16_t)take(b, 2); break;
+        case 8: g.azth = (uint16_t)take(b, 2); break;
+        case 9: g.ioe = (uint16_t)take(b, 2); break;
+        default: g.numbers[below(b, 10)] = number(b);
+        }
+    }
+    uint32_t wanted = reference_line(&g, l.length ? l.wanted : NULL, l.length);
+    judge(LINE, call_line(&g, l.got, l.length), wanted);
+    settle(l);
+}
+
+static void start(struct bytes *b)
+{
+    uint32_t mjd = (uint32_t)take(b, 4);
+    size_t kind = take(b, 1);
+    mjd = kind & 1 ? 50720 + mjd % 49285 : mjd;
+    uint32_t second = kind & 2 ? a_start(mjd, below(b, 90)) + (uint32_t)(int8_t)take(b, 1) : (uint32_t)take(b, 4);
+    judge(START, trackline_start(mjd, second), reference_start(mjd, second));
+}
+
+int LLVMFuzzerInitialize(int *argc, char ***argv)
+{
+    (void)argc;
+    (void)argv;
+    block_memory = guard(LONGEST_BLOCK, PROT_READ);
+    line_memory = guard(LONGEST_LINE, PROT_READ | PROT_WRITE);
+    atexit(report);
+    return 0;
+}
+
+int LLVMFuzzerTestOneInput(const uint8_t *data, size_t size)
+{
+    struct bytes b = {data, size};
+    switch (take(&b, 1) % 8) {
+    case 0: raw_block(&b); break;
+    case 1: start(&b); break;
+    case 2:
+    case 3: line(&b); break;
+    default: edited_block(&b);
+    }
+    return 0;
+}

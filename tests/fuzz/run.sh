@@ -1,0 +1,41 @@
+#!/usr/bin/env bash
+# A fuzz run over the C boundary, bounded in time: run.sh SECONDS. Needs clang with libFuzzer and AddressSanitizer.
+# What it finds and learns stays in target/fuzz.
+set -eu
+cd "$(dirname "$0")/../.."
+seconds=${1:-120}
+archive=${LINE_ARCHIVE:-$PWD/target/staticlib/libline.a}
+clang=${CLANG:-clang}
+command -v "$clang" >/dev/null || {
+    echo "make fuzz: needs clang with libFuzzer (Debian: apt-get install clang)" >&2
+    exit 1
+}
+out=$PWD/target/fuzz
+mkdir -p "$out/corpus" "$out/seeds"
+
+# the plain Rust implementation is instrumented, so that the fuzzer is led by its branches and comparisons
+export CARGO_TARGET_DIR=$out/cargo
+RUSTFLAGS='-Cpasses=sancov-module -Cllvm-args=-sanitizer-coverage-level=4
+    -Cllvm-args=-sanitizer-coverage-inline-8bit-counters -Cllvm-args=-sanitizer-coverage-pc-table
+    -Cllvm-args=-sanitizer-coverage-trace-compares' \
+    cargo --offline build --quiet --release --manifest-path tests/fuzz/Cargo.toml
+"$clang" -std=c11 -g -O1 -Wall -Wextra -Werror -fsanitize=fuzzer,address,undefined -fno-sanitize-recover=undefined \
+    -Iinclude tests/fuzz/fuzz.c "$archive" "$CARGO_TARGET_DIR/release/libreference_c.a" \
+    -lpthread -ldl -lm -o "$out/fuzz"
+
+# seeds: the sample as raw bytes, and nothing for each of the other kinds
+{ printf '\0\0\0\0\0' && cat examples/sample.blk; } >"$out/seeds/raw"
+for kind in 1 2 4; do
+    # shellcheck disable=SC2059
+    printf "\\$kind" >"$out/seeds/kind$kind"
+done
+
+status=0
+"$out/fuzz" -max_total_time="$seconds" -max_len=16000 -timeout=10 -print_final_stats=1 -artifact_prefix="$out/" \
+    "$out/corpus" "$out/seeds" >"$out/log" 2>&1 || status=$?
+grep -E '^(trackline_|stat::(number|average|peak)|DIFFERENT|SUMMARY|  )|ERROR|DONE' "$out/log" || tail -20 "$out/log"
+[ "$status" -eq 0 ] || {
+    echo "fuzz: FAILED, see target/fuzz/log; the input is the crash-* or leak-* file beside it" >&2
+    exit "$status"
+}
+echo "fuzz: no difference and no fault"

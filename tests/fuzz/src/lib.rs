@@ -1,0 +1,57 @@
+//! The plain Rust implementation's three operations, as C functions.
+
+use reference::{Labels, Numbers};
+
+unsafe fn bytes<'a>(at: *const u8, len: usize) -> &'a [u8] {
+    if at.is_null() {
+        return &[];
+    }
+    std::slice::from_raw_parts(at, len)
+}
+
+unsafe fn lent<'a>(at: *mut u8, len: usize) -> &'a mut [u8] {
+    if at.is_null() {
+        return &mut [];
+    }
+    std::slice::from_raw_parts_mut(at, len)
+}
+
+/// What trackline_line is given, field by field as `struct given` of fuzz.c.
+#[repr(C)]
+pub struct Given {
+    constellation: u8,
+    satellite: u8,
+    cl: u8,
+    fr: u8,
+    hc: u8,
+    frc: [u8; 3],
+    mjd: u32,
+    start: u32,
+    elv: u16,
+    azth: u16,
+    ioe: u16,
+    numbers: [i64; 10],
+}
+
+/// # Safety
+/// Each pointer has its length behind it, or is NULL with length 0.
+#[no_mangle]
+pub unsafe extern "C" fn reference_block(block: *const u8, block_len: usize, line: *mut u8, line_len: usize) -> u32 {
+    reference::block(bytes(block, block_len), lent(line, line_len))
+}
+
+/// # Safety
+/// As reference_block.
+#[no_mangle]
+pub unsafe extern "C" fn reference_line(given: &Given, line: *mut u8, line_len: usize) -> u32 {
+    let &Given { constellation, satellite, cl, fr, hc, frc, mjd, start, elv, azth, ioe, numbers } = given;
+    let labels = Labels { constellation, satellite, cl, fr, hc, frc, mjd, start, elv, azth, ioe };
+    let [refsv, srsv, refsys, srsys, mdtr, smdt, mdio, smdi, dsg, trkl] = numbers;
+    let numbers = Numbers { refsv, srsv, refsys, srsys, mdtr, smdt, mdio, smdi, dsg, trkl };
+    reference::line(&labels, &numbers, lent(line, line_len))
+}
+
+#[no_mangle]
+pub extern "C" fn reference_start(mjd: u32, second: u32) -> u32 {
+    reference::start(mjd, second)
+}

@@ -1,0 +1,60 @@
+#!/usr/bin/env bash
+# Installs into a temporary folder and uses what was installed as a receiver's programmer and a technician do.
+set -eu
+cd "$(dirname "$0")/.."
+scratch=$(mktemp -d)
+trap 'rm -rf "$scratch"' EXIT
+prefix=$scratch/prefix
+expected=$PWD/crates/trackline/stdout
+make=${MAKE:-make}
+cc=${CC:-cc}
+
+fail() {
+    echo "install: FAILED: $1" >&2
+    exit 1
+}
+
+"$make" --no-print-directory install PREFIX="$prefix" DESTDIR= >"$scratch/log" 2>&1 || {
+    cat "$scratch/log" >&2
+    fail 'make install'
+}
+
+# the program and the tool
+"$prefix/bin/hireblock" pack examples/sample.txt | "$prefix/bin/trackline" | cmp - "$expected"
+"$prefix/bin/hireblock" show examples/sample.blk >"$scratch/sample.txt"
+
+# the libraries: first the shared one, then the archive
+export PKG_CONFIG_PATH=$prefix/lib/pkgconfig
+read -ra cflags <<<"$(pkg-config --cflags trackline)"
+read -ra libs <<<"$(pkg-config --libs trackline)"
+strict=(-std=c11 -O2 -Wall -Wextra -Werror -pedantic)
+"$cc" "${strict[@]}" "${cflags[@]}" examples/receiver.c "${libs[@]}" -o "$scratch/shared"
+LD_LIBRARY_PATH=$prefix/lib "$scratch/shared" | cmp - "$expected"
+LD_LIBRARY_PATH=$prefix/lib ldd "$scratch/shared" | grep -qF "libtrackline.so.1 => $prefix/lib/libtrackline.so.1" ||
+    fail 'the example does not use the shared library'
+"$cc" "${strict[@]}" "${cflags[@]}" examples/receiver.c -Wl,-Bstatic "${libs[@]}" -Wl,-Bdynamic -o "$scratch/static"
+"$scratch/static" | cmp - "$expected"
+! ldd "$scratch/static" | grep -q trackline || fail 'the example does not use the archive'
+pkg-config --exact-version "$(sed -n 's/^VERSION := //p' Makefile)" trackline || fail 'the version in trackline.pc'
+
+# what the shared library exports and needs
+exports=$(nm -D --defined-only "$prefix/lib/libtrackline.so" | awk '{print $3}' | sort | xargs)
+[ "$exports" = 'trackline_block trackline_line trackline_start' ] || fail "the shared library exports: $exports"
+needs=$(ldd "$prefix/lib/libtrackline.so" | awk '{print $1}' | grep -vE '^(linux-vdso|libc|/lib.*/ld-linux|statically)' || true)
+[ -z "$needs" ] || fail "the shared library needs: $needs"
+
+# the manual pages
+if command -v man >/dev/null; then
+    for page in man1/trackline.1 man3/trackline.3; do
+        MANWIDTH=80 man --warnings -l "$prefix/share/man/$page" >"$scratch/page" 2>"$scratch/warnings"
+        [ ! -s "$scratch/warnings" ] || fail "$page: $(cat "$scratch/warnings")"
+        grep -q trackline "$scratch/page" || fail "$page is empty"
+    done
+fi
+
+# a package is staged under DESTDIR and speaks of its own prefix
+"$make" --no-print-directory install PREFIX=/usr DESTDIR="$scratch/stage" >"$scratch/log" 2>&1
+(cd "$prefix" && find . -type f -o -type l) | sort >"$scratch/installed"
+(cd "$scratch/stage/usr" && find . -type f -o -type l) | sort | diff "$scratch/installed" - || fail 'DESTDIR'
+grep -qx 'prefix=/usr' "$scratch/stage/usr/lib/pkgconfig/trackline.pc" || fail 'the prefix in trackline.pc'
+echo "install: $(wc -l <"$scratch/installed") files, and all of them work"
