@@ -2,6 +2,7 @@
 # make test     every test, and last the proofs (rt ci): the last line is 'N passed, 0 failed'
 # make install  the program, the libraries, the header, the manual pages: make install PREFIX=/usr/local DESTDIR=
 # make speed    the proved library beside the plain Rust implementation, on the same blocks
+# make bench    the technician's cases and the published lines: what each gave and what it should be
 # make fuzz     a bounded fuzz run over the C boundary, with clang: make fuzz SECONDS=120
 VERSION := 1.0.0
 BLOCK ?= examples/sample.blk
@@ -19,9 +20,9 @@ export LINE_ARCHIVE := $(CURDIR)/$(ARCHIVE)
 CARGO := cargo --offline
 INSTALLED := $(DESTDIR)$(abspath $(PREFIX))
 # What the archive is made of: every crate but the programs.
-SOURCES := crates.txt $(shell find crates -name must-fail -prune -o -path crates/trackline -prune -o -type f -print)
+SOURCES := crates.txt $(shell find crates -name must-fail -prune -o -path crates/trackline -prune -o -path crates/bench -prune -o -type f -print)
 
-.PHONY: run test beside proofs archive shared program install speed fuzz
+.PHONY: run test beside proofs archive shared program bench install speed fuzz
 # rt ci clears target/, where everything else is built.
 .NOTPARALLEL:
 
@@ -42,7 +43,7 @@ test: beside proofs
 proofs:
 	rt ci
 
-beside: archive
+beside: archive program
 	rt fmt --check
 	python3 tests/hireblock/test_hireblock.py
 	python3 tests/published/expected.py --check
@@ -53,7 +54,18 @@ beside: archive
 	$(CC) $(CFLAGS) $(STRICT) -Iinclude examples/receiver.c $(ARCHIVE) -o target/receiver
 	target/receiver | cmp - crates/trackline/stdout
 	tools/hireblock pack examples/sample.txt | cmp - examples/sample.blk
+	tools/worked | cmp - examples/worked.txt
+	tools/hireblock pack examples/worked.txt | cmp - examples/worked.blk
+	tools/lastdigit --check docs/LAST-DIGIT.md
+	tools/lastdigit --program target/bin/trackline
+	tools/lastdigit --svg target/last-digit.svg && cmp target/last-digit.svg docs/last-digit.svg
+	tools/definitions --check docs/TRUST.md
 	tests/install.sh
+
+bench:
+	@mkdir -p target
+	@rt check bench > target/bench.log 2>&1 || { cat target/bench.log >&2; exit 1; }
+	@target/bin/bench < crates/bench/stdin
 
 archive: $(ARCHIVE)
 
