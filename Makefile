@@ -34,7 +34,7 @@ run:
 
 program:
 	@mkdir -p target
-	@echo "proving and building trackline; from nothing this takes some minutes (target/trackline.log)"
+	@echo "proving and building trackline; from nothing this takes a minute or two (target/trackline.log)"
 	@rt check trackline > target/trackline.log 2>&1 || { cat target/trackline.log >&2; exit 1; }
 
 # What the proofs do not cover comes first, so that the proofs' own line is the last.
