@@ -9,7 +9,7 @@
 -- Assumes nothing.
 pub mod Examples
 use mathlib.Core.Path.{_≡_, refl, sym, ap, ap₂, _∙_, subst}
-use mathlib.Core.Bool.{Bool, true, false, _&&_, true≢false}
+use mathlib.Core.Bool.{Bool, true, false, _&&_}
 use Prim.Native.Nat.{ℕ, zero, suc, _+_, _*_, _/_, _^_, _≤_, _<_}
 use native.Mathlib.Nat.{le-refl, le-trans, le-of-eq, le-of-lt, le-step, lt-of-le-of-lt, lt-of-lt-of-le, add-le-add, mul-le-mul, mul-le-mul-right, div-le-self, zero-add, not-suc-le-zero}
 use native.Mathlib.Numerals.{add-one}
@@ -176,11 +176,12 @@ minus-one-less : (k : ℕ) → negsuc 0 -ℤ pos k ≡ negsuc k
 minus-one-less zero = refl
 minus-one-less (suc k) = ap (λ (j : ℕ). negsuc (suc j)) (zero-add k)
 
+-- for v below 0, -1 - v is its distance from -1
+pub turned : (v : ℤ) → ltZ v (pos 0) ≡ true → negsuc 0 -ℤ v ≡ pos (mag v)
+turned (pos a) t = absurd (not-suc-le-zero (ltb-true a 0 t))
+turned (negsuc a) t = one-less a
+
 -- the floor of x / m: for x below 0 it is -1 - (-1 - x) / m
 pub floor-below : (x : ℤ) (m : ℕ) → ltZ x (pos 0) ≡ true → negsuc 0 -ℤ quotZ (negsuc 0 -ℤ x) (pos m) ≡ shrZ x m
 floor-below (pos a) m t = absurd (not-suc-le-zero (ltb-true a 0 t))
 floor-below (negsuc a) m t = ap (λ (z : ℤ). negsuc 0 -ℤ quotZ z (pos m)) (one-less a) ∙ minus-one-less (a / m)
-
-pub floor-from-zero : (x : ℤ) (m : ℕ) → ltZ x (pos 0) ≡ false → quotZ x (pos m) ≡ shrZ x m
-floor-from-zero (pos a) m t = refl
-floor-from-zero (negsuc a) m t = absurd (true≢false t)

@@ -1,15 +1,18 @@
--- `fit::number::nearest` meets its contract: every step fits, and the quotient toward 0 is turned into the floor on either side of 0.
+-- `fit::number::nearest` meets its contract: every step fits, and the quotient of the folded number is turned into the floor on
+-- either side of 0.
 -- Assumes nothing.
 use borrow.Author.Needs.{needs}
-use mathlib.Core.Path.{_≡_, _∙_}
+use mathlib.Core.Bool.{true, false, true≢false}
+use mathlib.Core.Path.{_≡_, refl, sym, ap, _∙_}
 use native.Mathlib.Nat.{le-of-lt}
 use native.Mathlib.Omega.{arith}
-use Prim.Native.Nat.{_*_, _^_}
-use lib.IntN.{ℤ, pos, _+ℤ_, _*ℤ_}
+use Prim.Native.Nat.{ℕ, _+_, _*_, _^_, _≤_}
+use lib.IntN.{ℤ, pos, negsuc, natAbs, _+ℤ_, _-ℤ_, _*ℤ_}
+use lib.Signed.{mag, ltZ, quotZ, shrZ}
 use mir.Syntax.{w64}
 use mir.Val.{toZ, ofZ}
 use Rattle.whole.specs.Nearest.{nearest}
-use Rattle.whole.specs.Words.{Word, known, count-read, fits, plain-is, bounds, divisor, floor-below, floor-from-zero}
+use Rattle.whole.specs.Words.{Word, known, count, count-read, equal, fits, bound, plain-is, bounds, divisor, turned, floor-below}
 use Rattle.fit.proofs.number.nearest.Statement.{statement}
 use Rattle.fit.proofs.number.nearest.Tie as tie
 
@@ -43,50 +46,58 @@ cast-m c = search needs
 mul-m : tie.Need-mul-m
 mul-m c = let d = d-word c in fits (search bounds depth 9) tt
 
-sub-result : tie.Need-sub-result
-sub-result c = let n = n-word (c .before) in let d = d-word (c .before) in fits (search bounds depth 12) tt
+folded-requires : tie.Need-folded-requires
+folded-requires c κs = search needs
 
-div-result : tie.Need-div-result
-div-result c =
-    let n = n-word (c .before) in
+mag-le : (z : ℤ) {b : ℕ} → natAbs z ≤ b → mag z ≤ b
+mag-le (pos a) h = h
+mag-le (negsuc a) h = omega arith
+
+-- what is known of the folded number
+abbrev folded-word : (c : tie.After-folded) → Word (c .folded .result)
+folded-word c =
+    let s = c .before in
+    let n = n-word s in
+    let d : Word (pos (s .args .d)) = count {b = 2 ^ 32} (le-of-lt (s .fits .d .fits)) in
+    equal (c .folded .ensures ∙ ap (λ (z : ℤ). pos (mag z)) (x-is s))
+    (count {b = 2 ^ 62 + 2 ^ 32} (mag-le (doubled s) (bound {z = doubled s} {b = 2 ^ 62 + 2 ^ 32} (search bounds depth 9) tt .within)))
+
+floor-of-folded-below : (x : ℤ) (m : ℕ) → ltZ x (pos 0) ≡ true → negsuc 0 -ℤ quotZ (pos (mag x)) (pos m) ≡ shrZ x m
+floor-of-folded-below x m t = ap (λ (z : ℤ). negsuc 0 -ℤ quotZ z (pos m)) (sym (turned x t)) ∙ floor-below x m t
+
+floor-of-folded : (x : ℤ) (m : ℕ) → ltZ x (pos 0) ≡ false → quotZ (pos (mag x)) (pos m) ≡ shrZ x m
+floor-of-folded (pos a) m t = refl
+floor-of-folded (negsuc a) m t = absurd (true≢false t)
+
+div-q : tie.Need-div-q
+div-q c =
     let d = d-word (c .before) in
+    let y = folded-word c in
     (divisor (pos 2 *ℤ toZ w64 (c .before .args .d)) (search bounds depth 9) tt (omega arith), fits (search bounds depth 15) tt)
 
-sub-result-2 : tie.Need-sub-result-2
-sub-result-2 c = let n = n-word (c .before) in let d = d-word (c .before) in fits (search bounds depth 20) tt
+sub-result : tie.Need-sub-result
+sub-result c =
+    let d = d-word (c .before .before) in
+    let y = folded-word (c .before) in
+    fits (search bounds depth 15) tt
 
 returns : tie.Need-returns
 unfolding nearest
 returns c =
-    let n = n-word (c .before) in
-    let d = d-word (c .before) in
-    plain-is (search bounds depth 20) tt ∙ floor-below (doubled (c .before)) (2 * c .before .args .d) (rw (x-is (c .before)) at (c .if1 .taken))
-
-div-result-2 : tie.Need-div-result-2
-div-result-2 c =
-    let n = n-word (c .before) in
-    let d = d-word (c .before) in
-    (divisor (pos 2 *ℤ toZ w64 (c .before .args .d)) (search bounds depth 9) tt (omega arith), fits (search bounds depth 15) tt)
+    let s = c .before .before in
+    let d = d-word s in
+    let y = folded-word (c .before) in
+    plain-is (search bounds depth 20) tt ∙ floor-of-folded-below (doubled s) (2 * s .args .d) (rw (x-is s) at (c .if1 .taken))
 
 returns-2 : tie.Need-returns-2
 unfolding nearest
 returns-2 c =
-    let n = n-word (c .before) in
-    let d = d-word (c .before) in
-    plain-is (search bounds depth 20) tt ∙ floor-from-zero (doubled (c .before)) (2 * c .before .args .d) (rw (x-is (c .before)) at (c .if1 .left))
+    let s = c .before .before in
+    let d = d-word s in
+    let y = folded-word (c .before) in
+    plain-is (search bounds depth 20) tt ∙ floor-of-folded (doubled s) (2 * s .args .d) (rw (x-is s) at (c .if1 .left))
 
 pub nearest-spec : {M : Type 1} → statement M
 nearest-spec =
     tie.close
-    (tie.spec
-    mul-x
-    cast-x
-    add-x
-    cast-m
-    mul-m
-    sub-result
-    div-result
-    sub-result-2
-    returns
-    div-result-2
-    returns-2)
+    (tie.spec mul-x cast-x add-x cast-m mul-m folded-requires div-q sub-result returns returns-2)
