@@ -22,12 +22,12 @@ use Rattle.exact.specs.Weights.{weights, place}
 use Rattle.exact.specs.Places.{span}
 use Rattle.exact.specs.Bounds.{Rounded}
 use Rattle.exact.specs.Scattering.{spread}
-use Rattle.fit.specs.Smooth.{smoothed}
-use Rattle.fit.specs.Fit.{total, moment, midpoint, slope}
-use Rattle.fit.specs.Scatter.{residual, squares, edge, dsg}
+use Rattle.series.specs.Smooth.{smoothed}
+use Rattle.series.specs.Fit.{total, moment, midpoint, slope}
+use Rattle.series.specs.Scatter.{residual, squares, edge, dsg}
 use Rattle.fit.specs.Track.{smoothedAt, valueA, valueB, valueC, valueD, recordOf, results, figures, tracked, trackNumber, trackRule}
 use Rattle.fit.specs.declared.Tracked.{Tracked}
-use Rattle.fit.proofs.Edges.{Greatest, dsg-greatest}
+use Rattle.series.proofs.Edges.{Greatest, dsg-greatest}
 
 -- midpoint and slope are rounded to the nearest
 fitted : (v : ℕ → ℤ) → Fitted 52 v (midpoint 1 52 v) (slope 1 52 v)

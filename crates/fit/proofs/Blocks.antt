@@ -1,4 +1,4 @@
--- Laws of smoothing a part of the measurements (specs/Smooth.antt).
+-- Laws of smoothing a part of the measurements (specs/Smooth.antt of series).
 -- Assumes nothing.
 use mathlib.Core.Path.{_≡_, ap, _∙_}
 use mathlib.Core.Bool.{false}
@@ -10,14 +10,14 @@ use lib.ListN.{length, take, drop, length-drop}
 use lib.Seq.{length-take-le, getD-take, getD-drop}
 use Rattle.whole.specs.Nearest.{nearest}
 use Rattle.whole.specs.Sums.{sum-cong}
-use Rattle.fit.specs.declared.Smoothed.{Smoothed}
+use Rattle.series.specs.declared.Smoothed.{Smoothed}
 use Rattle.exact.specs.Corrected.{at}
 use Rattle.exact.specs.Weights.{weights}
-use Rattle.fit.specs.Lists.{anyBeyond}
-use Rattle.fit.specs.Answers.{smoothReply, smoothNumbered}
-use Rattle.fit.specs.Smooth.{smoothed, smoothRule}
-use Rattle.fit.proofs.Lists.{list-passes, any-drop, any-take}
-use Rattle.fit.proofs.Replies.{reply-accepted, smooth-case}
+use Rattle.limits.specs.Lists.{anyBeyond}
+use Rattle.series.specs.Answers.{smoothReply, smoothNumbered}
+use Rattle.series.specs.Smooth.{smoothed, smoothRule}
+use Rattle.limits.proofs.Lists.{list-passes, any-drop, any-take}
+use Rattle.series.proofs.Replies.{reply-accepted, smooth-case}
 
 module _ (m : List ℤ) (from : ℕ) (fits : from + 15 ≤ length m) where
   part-length : length (take 15 (drop from m)) ≡ 15

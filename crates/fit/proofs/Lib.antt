@@ -1,10 +1,3 @@
-pub mod Cases
-pub mod Lists
-pub mod Weights
-pub mod Replies
-pub mod Fitting
-pub mod Residuals
-pub mod Edges
 pub mod Arrays
 pub mod Blocks
 pub mod Tracks

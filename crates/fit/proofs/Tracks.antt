@@ -19,10 +19,10 @@ use Rattle.limits.proofs.Laws.{or-false, magnitude-within, then-zero, when-zero
 use Rattle.fit.specs.declared.TrackRecord.{TrackRecord}
 use Rattle.fit.specs.declared.results.LineNumbers.{LineNumbers}
 use Rattle.exact.specs.Corrected.{Given, at, toA, toB}
-use Rattle.fit.specs.Lists.{miscounted, anyBeyond}
-use Rattle.fit.specs.Answers.{Reply}
-use Rattle.fit.specs.Fit.{midpoint, slope, fitRule}
-use Rattle.fit.proofs.Fitting.{fit-accepted}
+use Rattle.limits.specs.Lists.{miscounted, anyBeyond}
+use Rattle.series.specs.Answers.{Reply}
+use Rattle.series.specs.Fit.{midpoint, slope, fitRule}
+use Rattle.series.proofs.Fitting.{fit-accepted}
 use Rattle.limits.proofs.Laws.{then-refused, then-assoc}
 use Rattle.fit.specs.Track.{smoothedAt, valueA, valueB, valueC, valueD, recordOf, results, wrongSizes, outOfLimits, correctedBeyond, recordNumber, trackNumber, zeros, tracked, trackRule}
 

@@ -1,6 +1,1 @@
-pub mod Lists
-pub mod Answers
-pub mod Smooth
-pub mod Fit
-pub mod Scatter
 pub mod Track

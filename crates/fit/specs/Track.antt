@@ -12,10 +12,10 @@ use Rattle.fit.specs.declared.Tracked.{Tracked}
 use Rattle.whole.specs.Table.{tabulate}
 use Rattle.exact.specs.Accurate.{Figures}
 use Rattle.exact.specs.Corrected.{at, Given, block, toA, toB}
-use Rattle.fit.specs.Lists.{miscounted, anyBeyond}
-use Rattle.fit.specs.Smooth.{smoothed}
-use Rattle.fit.specs.Fit.{midpoint, slope}
-use Rattle.fit.specs.Scatter.{squares, dsg}
+use Rattle.limits.specs.Lists.{miscounted, anyBeyond}
+use Rattle.series.specs.Smooth.{smoothed}
+use Rattle.series.specs.Fit.{midpoint, slope}
+use Rattle.series.specs.Scatter.{squares, dsg}
 
 -- The smoothed value of block j.
 unfoldable pub smoothedAt : Given → ℕ → ℤ

@@ -3,7 +3,7 @@ use super::Fitted;
 use super::Scattered;
 use super::Smoothed;
 ghost use mathlib.Core.Path.{_≡_};
-ghost use Rattle.fit.specs.Answers.{smoothReply, fitReply, scatterReply};
+ghost use Rattle.series.specs.Answers.{smoothReply, fitReply, scatterReply};
 
 pub fn smoothed_number(answer: Smoothed) -> u32
     ensures { λ r. ⌜ r ≡ smoothReply answer .number ⌝ }

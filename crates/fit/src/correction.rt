@@ -10,8 +10,8 @@ ghost use lib.ListN.{length};
 ghost use Rattle.whole.specs.Table.{tabulate};
 ghost use Rattle.whole.specs.Words.{Within};
 ghost use Rattle.exact.specs.Corrected.{at};
-ghost use Rattle.fit.specs.Lists.{anyBeyond};
-ghost use Rattle.fit.specs.Smooth.{smoothed};
+ghost use Rattle.limits.specs.Lists.{anyBeyond};
+ghost use Rattle.series.specs.Smooth.{smoothed};
 
 // The smoothed values of 52 blocks, or the number of a refusal.
 pub struct Blocks {

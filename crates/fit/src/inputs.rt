@@ -1,12 +1,12 @@
 // The columns and the delays that a track is given: whether the columns have their size, and whether every number is
 // inside its limits.
-use super::series::any_outside;
+use limits::any_outside;
 use limits::outside;
 ghost use mathlib.Core.Path.{_≡_};
 ghost use mathlib.Core.Bool.{_||_};
 ghost use Prim.Native.Nat.{_*_, _^_};
 ghost use Rattle.limits.specs.Limits.{beyond};
-ghost use Rattle.fit.specs.Lists.{miscounted, anyBeyond};
+ghost use Rattle.limits.specs.Lists.{miscounted, anyBeyond};
 
 // Whether a column is not 52.
 pub fn columns_miscounted(

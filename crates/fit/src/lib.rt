@@ -1,4 +1,5 @@
-// From one-second measurements to the ten numbers of a track: Smooth, Fit, Scatter and Track of document 01.
+// From one-second measurements to the ten numbers of a track: Track of document 01, and beside it Smooth, Fit and Scatter,
+// of which it is made and which are those of crate series.
 // Each operation takes lists of any length and numbers of any size and never traps: what it can't use it refuses with
 // the number of the first refusal, in the order of document 01, "Each operation and its refusals, in order".
 // All quantities are whole picoseconds unless a unit is given.
@@ -6,9 +7,7 @@
 mod answers;
 mod correction;
 mod inputs;
-mod number;
 mod results;
-mod series;
 
 use correction::a_values;
 use correction::b_values;
@@ -17,46 +16,22 @@ use correction::smooth_blocks;
 use inputs::columns_beyond;
 use inputs::columns_miscounted;
 use inputs::delays_beyond;
+use limits::any_outside;
 use limits::then;
 use limits::when;
-use number::nearest;
 use results::Corrected;
 use results::judged;
 use results::refused;
-use series::CAP;
-use series::any_outside;
-use series::dsg;
-use series::list_refusal;
-use series::squares;
-use series::sums;
-use series::values_refusal;
-use series::weighted;
+pub use series::Fitted;
+pub use series::Scattered;
+pub use series::Smoothed;
+pub use series::fit;
+pub use series::scatter;
+pub use series::smooth;
 ghost use mathlib.Core.Path.{_≡_};
 ghost use mathlib.Core.Bool.{false};
-ghost use Rattle.fit.specs.Answers.{smoothReply, smoothNumbered, fitReply, fitNumbered, scatterReply, scatterNumbered};
-ghost use Rattle.fit.specs.Smooth.{smoothRule};
-ghost use Rattle.fit.specs.Fit.{fitRule};
-ghost use Rattle.fit.specs.Scatter.{scatterRule};
 ghost use Rattle.exact.specs.Accurate.{AccurateTrack};
 ghost use Rattle.fit.specs.Track.{given, figures, wrongSizes, outOfLimits, trackRule};
-
-// What Smooth answers: the smoothed value, or the number of the refusal.
-pub enum Smoothed {
-    Value(i64),
-    Refused(u32),
-}
-
-// What Fit answers: the midpoint in 0.1 ns with the slope in 0.1 ps/s, or the number of the refusal.
-pub enum Fitted {
-    Line { midpoint: i64, slope: i64 },
-    Refused(u32),
-}
-
-// What Scatter answers: DSG in 0.1 ns, or the number of the refusal.
-pub enum Scattered {
-    Sigma(i64),
-    Refused(u32),
-}
 
 // A track's corrected values of each kind at its 52 blocks, A, B, C and D of document 01, and its ten numbers.
 pub struct TrackRecord {
@@ -80,51 +55,6 @@ pub struct TrackRecord {
 pub struct Tracked {
     pub refusal: u32,
     pub record: TrackRecord,
-}
-
-// The value at the middle of fifteen measurements of the parabola with the least sum of squared residuals.
-pub fn smooth(measurements: &[i64]) -> Smoothed
-    ensures answer { λ r. ⌜ smoothReply r ≡ smoothRule (now (measurements .entry)) ⌝ }
-    ensures variant { λ r. ⌜ smoothNumbered r ⌝ }
-{
-    let refusal = list_refusal(measurements, 15, -1_000_000_000_000, 1_000_000_000_000);
-    if refusal != 0 {
-        return Smoothed::Refused(refusal);
-    }
-    Smoothed::Value(nearest(weighted(measurements), 1105))
-}
-
-// The line through 52 values with the least sum of squared residuals: its value at the midpoint, and its slope.
-pub fn fit(values: &[i64]) -> Fitted
-    ensures answer { λ r. ⌜ fitReply r ≡ fitRule (now (values .entry)) ⌝ }
-    ensures variant { λ r. ⌜ fitNumbered r ⌝ }
-{
-    let refusal = values_refusal(values);
-    if refusal != 0 {
-        return Fitted::Refused(refusal);
-    }
-    let s = sums(values);
-    Fitted::Line {
-        midpoint: nearest(s.total, 5200),
-        slope: nearest(s.moment, 35139),
-    }
-}
-
-// DSG: the root mean square of the residuals of 52 values from their line.
-pub fn scatter(values: &[i64]) -> Scattered
-    ensures answer { λ r. ⌜ scatterReply r ≡ scatterRule (now (values .entry)) ⌝ }
-    ensures variant { λ r. ⌜ scatterNumbered r ⌝ }
-{
-    let refusal = values_refusal(values);
-    if refusal != 0 {
-        return Scattered::Refused(refusal);
-    }
-    let s = sums(values);
-    let q = squares(values, s.total, s.moment);
-    if CAP <= q {
-        return Scattered::Refused(6);
-    }
-    Scattered::Sigma(dsg(q) as i64)
 }
 
 // A track whose lists have their sizes and whose numbers are inside their limits.

@@ -7,7 +7,7 @@ use super::answers::fitted_number;
 use super::answers::scattered_number;
 use super::fit;
 use super::scatter;
-use super::series::any_outside;
+use limits::any_outside;
 use limits::limits;
 use limits::then;
 ghost use mathlib.Core.Path.{_≡_};
@@ -16,7 +16,7 @@ ghost use lib.IntN.{pos};
 ghost use lib.ListN.{length};
 ghost use Rattle.limits.specs.Refusal.{_then_};
 ghost use Rattle.limits.specs.Limits.{limitsRule};
-ghost use Rattle.fit.specs.Fit.{fitRule};
+ghost use Rattle.series.specs.Fit.{fitRule};
 ghost use Rattle.fit.specs.Track.{recordOf, correctedBeyond, numbersRule, recordNumber, zeros, tracked};
 
 // A refusal: its number, and 0 throughout.

@@ -1,8 +1,10 @@
-// The limits on the ten numbers of a track, written once for Track and for Line, and the order of refusals.
+// The limits on the ten numbers of a track, written once for Track and for Line, the limit test on a list of values, and the
+// order of refusals.
 // An answer is a refusal number of document 01, or 0.
 ghost use mathlib.Core.Path.{_≡_};
 ghost use Rattle.limits.specs.Refusal.{_when_, _then_};
 ghost use Rattle.limits.specs.Limits.{outside, limitsRule, dsgRule};
+ghost use Rattle.limits.specs.Lists.{anyOutside};
 
 // The number where the condition holds.
 pub fn when(number: u32, condition: bool) -> u32
@@ -23,6 +25,20 @@ pub fn outside(low: i64, high: i64, z: i64) -> bool
     ensures { λ r. ⌜ r ≡ outside low high z ⌝ }
 {
     (z < low) | (high < z)
+}
+
+// Whether some value is outside low to high.
+pub fn any_outside(values: &[i64], low: i64, high: i64) -> bool
+    ensures { λ r. ⌜ r ≡ anyOutside low high (now (values .entry)) ⌝ }
+{
+    let mut i = 0;
+    while i < values.len() {
+        if outside(low, high, values[i]) {
+            return true;
+        }
+        i += 1;
+    }
+    false
 }
 
 // 3, 4 or 5 where one of the eight fitted numbers is outside its limits.

@@ -12,12 +12,13 @@ use Rattle.limits.specs.Refusal.{_when_, _then_}
 use Rattle.limits.specs.Limits.{outside, limitsRule, dsgRule}
 use Rattle.limits.proofs.Laws.{then-zero, when-zero, or-false}
 use Rattle.schedule.specs.Schedule.{startRule}
-use Rattle.line.specs.declared.Labels.{Labels}
-use Rattle.line.specs.declared.Numbers.{Numbers}
-use Rattle.line.specs.Labels.{labelsFit, trackLength}
+use Rattle.labels.specs.declared.Labels.{Labels}
+use Rattle.labels.specs.declared.Numbers.{Numbers}
+use Rattle.labels.specs.Labels.{labelsFit, trackLength}
+use Rattle.labels.specs.Content.{contentRule}
 use Rattle.line.specs.Line.{lineAnswer, lineAfter}
-use Rattle.line.specs.Text.{lineLength, lineText}
-use Rattle.line.proofs.Widths.{line-width}
+use Rattle.columns.specs.Text.{lineLength, lineText}
+use Rattle.columns.proofs.Widths.{line-width}
 
 pub record Accepted (l : Labels) (n : Numbers) (bytes : ℕ) : Type 0 where
   pub labels : labelsFit l ≡ true
@@ -28,20 +29,20 @@ pub record Accepted (l : Labels) (n : Numbers) (bytes : ℕ) : Type 0 where
   pub room : lineLength ≤ bytes
 
 pub accepted : (l : Labels) (n : Numbers) (bytes : ℕ) → lineAnswer l n bytes ≡ 0 → Accepted l n bytes
-unfolding lineAnswer
+unfolding contentRule lineAnswer
 accepted l n bytes e =
-    let label = then-zero _ _ e in
+    let content = then-zero _ _ e in
+    let label = then-zero _ _ (content .0) in
     let start = then-zero _ _ (label .1) in
     let limits = then-zero _ _ (start .1) in
-    let dsg = then-zero _ _ (limits .1) in
     let either = or-false (not (labelsFit l)) (outside (pos trackLength) (pos trackLength) (n .trkl)) (when-zero 6 _ (label .0)) in
     record {
       labels = not-false (labelsFit l) (either .0);
       trkl = either .1;
       start = start .0;
       limits = limits .0;
-      dsg = dsg .0;
-      room = ltb-false bytes lineLength (when-zero 8 _ (dsg .1));
+      dsg = limits .1;
+      room = ltb-false bytes lineLength (when-zero 8 _ (content .1));
     }
 
 -- ---- the lent line afterwards

@@ -16,9 +16,10 @@ use Rattle.exact.specs.Accurate.{Figures, AccurateTrack}
 use Rattle.fit.specs.declared.TrackRecord.{TrackRecord}
 use Rattle.fit.specs.declared.Tracked.{Tracked}
 use Rattle.fit.specs.Track.{figures, results, tracked, trackNumber, trackRule}
-use Rattle.line.specs.Text.{lineLength}
+use Rattle.columns.specs.Text.{lineLength}
 use Rattle.line.specs.Line.{lineAnswer, lineAfter}
-use Rattle.line.specs.Block.{blockLength, blockLabels, blockGiven, numbersIn, blockAnswer, blockAfter, figuresIn, readFigures}
+use Rattle.hire.specs.Hire.{blockLength, blockLabels, blockGiven}
+use Rattle.line.specs.Block.{numbersIn, blockAnswer, blockAfter, figuresIn, readFigures}
 use Rattle.line.proofs.Accepted.{accepted, after-is}
 use Rattle.line.proofs.ReadBack.{numbers-back}
 

@@ -16,13 +16,13 @@ use Rattle.schedule.proofs.Minutes as schedule
 use Rattle.fields.specs.Text.{decimal, signed, hexadecimal, checksum}
 use Rattle.fields.specs.Read.{readDecimal, readSigned, readHexadecimal}
 use Rattle.fields.proofs.Laws.{read-decimal, read-signed, read-hexadecimal, length-decimal}
-use Rattle.line.specs.declared.Labels.{Labels}
-use Rattle.line.specs.declared.Numbers.{Numbers}
-use Rattle.line.specs.Labels.{constellationFits, codeFits, labelsFit, trackLength}
+use Rattle.labels.specs.declared.Labels.{Labels}
+use Rattle.labels.specs.declared.Numbers.{Numbers}
+use Rattle.labels.specs.Labels.{constellationFits, codeFits, labelsFit, trackLength}
 use Rattle.line.specs.Line.{lineAnswer, lineAfter}
-use Rattle.line.specs.Text.{lineLength, clock, trackColumns, clockColumns, delayColumns, columns, spaced, lineText}
-use Rattle.line.specs.Columns.{byteIn, field, readNumbers, readLabels}
-use Rattle.line.proofs.Widths.{widths, offset, columns-sized, column-at, length-clock}
+use Rattle.columns.specs.Text.{lineLength, clock, trackColumns, clockColumns, delayColumns, columns, spaced, lineText}
+use Rattle.columns.specs.Columns.{byteIn, field, readNumbers, readLabels}
+use Rattle.columns.proofs.Widths.{widths, offset, columns-sized, column-at, length-clock}
 use Rattle.line.proofs.Accepted.{Accepted, accepted, after-is}
 
 -- a piece that ends within the first elements of a list is a piece of the list

@@ -11,11 +11,12 @@ use Rattle.limits.specs.Refusal.{_when_, _then_}
 use Rattle.limits.specs.Limits.{outside, limitsRule, dsgRule}
 use Rattle.schedule.specs.Schedule.{broughtIn, startMinute, some, isStart, startRule}
 use Rattle.fields.specs.Text.{decimal, sign, signed, hexDigit, hexadecimal, total, checksum}
-use Rattle.line.specs.declared.Labels.{Labels}
-use Rattle.line.specs.declared.Numbers.{Numbers}
-use Rattle.line.specs.Labels.{constellationFits, codeFits, labelsFit}
+use Rattle.labels.specs.declared.Labels.{Labels}
+use Rattle.labels.specs.declared.Numbers.{Numbers}
+use Rattle.labels.specs.Labels.{constellationFits, codeFits, labelsFit}
+use Rattle.labels.specs.Content.{contentRule}
 use Rattle.line.specs.Line.{lineAnswer}
-use Rattle.line.specs.Text.{clock, trackColumns, clockColumns, delayColumns, columns, spaced, lineText}
+use Rattle.columns.specs.Text.{clock, trackColumns, clockColumns, delayColumns, columns, spaced, lineText}
 
 -- the bytes of a text of plain characters
 unfoldable pub bytesOf : String → List ℕ
@@ -60,5 +61,5 @@ unfolding bytesOf lineText columns trackColumns clockColumns delayColumns spaced
 sample = refl
 
 pub sample-accepted : lineAnswer labels numbers 113 ≡ 0
-unfolding lineAnswer _when_ _then_ labelsFit constellationFits codeFits startRule isStart some startMinute broughtIn limitsRule dsgRule outside
+unfolding lineAnswer contentRule _when_ _then_ labelsFit constellationFits codeFits startRule isStart some startMinute broughtIn limitsRule dsgRule outside
 sample-accepted = refl

@@ -6,57 +6,50 @@ ghost use mathlib.Core.Path.{_≡_};
 ghost use lib.ListN.{length};
 ghost use Rattle.exact.specs.Accurate.{AccurateTrack};
 ghost use Rattle.line.specs.Line.{lineAnswer, lineAfter};
-ghost use Rattle.line.specs.Block.{blockGiven, blockAnswer, blockAfter, readFigures};
+ghost use Rattle.hire.specs.Hire.{blockGiven};
+ghost use Rattle.line.specs.Block.{numbersIn, blockAnswer, blockAfter, readFigures};
 use decode::unsigned16;
+use fit::TrackRecord;
+pub use labels::Labels;
+pub use labels::Numbers;
+use limits::then;
+use limits::when;
 
-mod columns;
 pub mod exports;
-mod hire;
-mod ranges;
 
-// The labels of a track, in the order of the hire block.
-pub struct Labels {
-    pub constellation: u8,
-    pub satellite: u8,
-    pub cl: u8,
-    pub fr: u8,
-    pub hc: u8,
-    pub frc1: u8,
-    pub frc2: u8,
-    pub frc3: u8,
-    pub mjd: u32,
-    pub start: u32,
-    pub elv: u16,
-    pub azth: u16,
-    pub ioe: u16,
-}
-
-// The ten numbers of a track, in their fixed order.
-pub struct Numbers {
-    pub refsv: i64,
-    pub srsv: i64,
-    pub refsys: i64,
-    pub srsys: i64,
-    pub mdtr: i64,
-    pub smdt: i64,
-    pub mdio: i64,
-    pub smdi: i64,
-    pub dsg: i64,
-    pub trkl: i64,
-}
+const LINE_LENGTH: usize = 113;
 
 // Line of document 01. It answers 0 with the line in the first 113 bytes of the lent one, or the number of the first refusal.
 pub fn line(labels: Labels, numbers: Numbers, lent: &mut [u8]) -> u32
     ensures answer { λ r. ⌜ r ≡ lineAnswer labels numbers (length (now (lent .entry))) ⌝ }
     ensures written { λ _. ⌜ now (lent .exit) ≡ lineAfter labels numbers (now (lent .entry)) ⌝ }
 {
-    let answer = ranges::answer(labels, numbers, lent.len());
+    let room = when(9, lent.len() < LINE_LENGTH);
+    let answer = then(labels::refusal(labels, numbers), room);
     if answer != 0 {
         return answer;
     }
     let text = columns::text(labels, numbers);
     bytes::copy(&text, lent);
     0
+}
+
+// The ten numbers of a track's record.
+fn numbers(t: TrackRecord) -> Numbers
+    ensures { λ r. ⌜ r ≡ numbersIn t ⌝ }
+{
+    Numbers {
+        refsv: t.refsv,
+        srsv: t.srsv,
+        refsys: t.refsys,
+        srsys: t.srsys,
+        mdtr: t.mdtr,
+        smdt: t.smdt,
+        mdio: t.mdio,
+        smdi: t.smdi,
+        dsg: t.dsg,
+        trkl: t.trkl,
+    }
 }
 
 // The line of a hire block: what it is refused for, else its line in the lent one.
@@ -77,5 +70,5 @@ pub fn block(block: &[u8], lent: &mut [u8]) -> u32
         return refusal;
     }
     let record = tracked.record;
-    line(hire::labels(block), hire::numbers(record), lent)
+    line(hire::labels(block), numbers(record), lent)
 }

@@ -3,7 +3,7 @@
 use mathlib.Core.Path.{_≡_, refl, sym, ap, ap₂, _∙_}
 use mathlib.Core.Bool.{false}
 use mathlib.Core.List.{List, [], _∷_, _++_}
-use Prim.Native.Nat.{ℕ, zero, suc}
+use Prim.Native.Nat.{ℕ, _+_}
 use lib.IntN.{pos}
 use lib.ListN.{length, replicate}
 use Rattle.whole.specs.Sum.{sum}
@@ -11,20 +11,23 @@ use Rattle.whole.specs.Nearest.{nearest}
 use Rattle.whole.specs.Table.{tabulate}
 use Rattle.limits.specs.Refusal.{_when_, _then_}
 use Rattle.limits.specs.Limits.{outside, limitsRule, dsgRule}
+use Rattle.decode.proofs.Rows.{repeat, signeds-behind, signeds-repeat, signeds-zeros}
 use Rattle.decode.specs.Number.{little, unsignedAt, twosComplement, signedAt, signedsAt}
 use Rattle.exact.specs.Corrected.{Given, block, toA, toB}
 use Rattle.exact.specs.Weights.{weights, place}
-use Rattle.fit.specs.Lists.{anyOutside}
-use Rattle.fit.specs.Smooth.{smoothed}
-use Rattle.fit.specs.Fit.{total, moment, midpoint, slope}
-use Rattle.fit.specs.Scatter.{residual, squares, edge, climb, dsg}
+use Rattle.limits.specs.Lists.{anyOutside}
+use Rattle.series.specs.Smooth.{smoothed}
+use Rattle.series.specs.Fit.{total, moment, midpoint, slope}
+use Rattle.series.specs.Scatter.{residual, squares, edge, climb, dsg}
+use Rattle.fit.specs.declared.TrackRecord.{TrackRecord}
 use Rattle.fit.specs.Track.{smoothedAt, valueA, valueB, valueC, valueD, recordOf, results, given, wrongSizes, outOfLimits, correctedBeyond, numbersRule, recordNumber, trackNumber}
-use Rattle.line.specs.Text.{lineLength, lineText}
+use Rattle.columns.specs.Text.{lineLength, lineText}
 use Rattle.line.specs.Line.{lineAnswer}
-use Rattle.line.specs.Block.{blockLabels, blockGiven, numbersIn, blockAnswer}
+use Rattle.hire.specs.Hire.{blockLabels, blockGiven}
+use Rattle.line.specs.Block.{numbersIn, blockAnswer}
 use Rattle.line.proofs.Sample.{bytesOf, labels, numbers, sample, sample-accepted}
-use Rattle.line.specs.declared.Labels.{Labels}
-use Rattle.line.specs.declared.Numbers.{Numbers}
+use Rattle.labels.specs.declared.Labels.{Labels}
+use Rattle.labels.specs.declared.Numbers.{Numbers}
 use Rattle.line.proofs.Blocks.{missized, line-answers}
 use Rattle.trackline.specs.Printed.{printed}
 use Rattle.trackline.proofs.Texts.{accepted-answer}
@@ -35,33 +38,91 @@ sampleTrack =
     given (replicate 780 (pos 1000)) (pos 0) (pos 0) (pos 0) (pos 0) (replicate 52 (pos 0)) (replicate 52 (pos 0)) (replicate 52 (pos 0))
     (replicate 52 (pos 0)) (replicate 52 (pos 0))
 
-sample-numbers : numbersIn (results sampleTrack) ≡ numbers
-unfolding sum nearest tabulate block toA toB place weights smoothed total moment midpoint slope residual squares edge climb dsg smoothedAt valueA valueB valueC valueD recordOf results
+-- its corrected values: the measurements alike, and no air
+abbrev pub sampleRecord : TrackRecord
+sampleRecord = recordOf (replicate 52 (pos 1000)) (replicate 52 (pos 1000)) (replicate 52 (pos 0)) (replicate 52 (pos 0))
+
+sample-a : tabulate (valueA sampleTrack) 52 ≡ replicate 52 (pos 1000)
+unfolding sum nearest tabulate block toA weights smoothed smoothedAt valueA
+sample-a = refl
+
+sample-b : tabulate (valueB sampleTrack) 52 ≡ replicate 52 (pos 1000)
+unfolding sum nearest tabulate block toA toB weights smoothed smoothedAt valueB
+sample-b = refl
+
+sample-c : tabulate (valueC sampleTrack) 52 ≡ replicate 52 (pos 0)
+unfolding tabulate valueC
+sample-c = refl
+
+sample-d : tabulate (valueD sampleTrack) 52 ≡ replicate 52 (pos 0)
+unfolding tabulate valueD
+sample-d = refl
+
+sample-results : results sampleTrack ≡ sampleRecord
+unfolding results
+sample-results = rw (sample-a, sample-b, sample-c, sample-d)
+
+sample-numbers : numbersIn sampleRecord ≡ numbers
+unfolding sum nearest place total moment midpoint slope residual squares edge climb dsg recordOf
 sample-numbers = refl
 
+-- and Track accepts it
+sample-inside : (wrongSizes sampleTrack ≡ false) × (outOfLimits sampleTrack ≡ false)
+unfolding outside anyOutside wrongSizes outOfLimits
+sample-inside = (refl, refl)
+
+sample-record-accepted : recordNumber sampleRecord ≡ 0
+unfolding sum nearest place total moment midpoint slope residual squares edge climb dsg recordOf outside _when_ _then_ limitsRule dsgRule anyOutside correctedBeyond numbersRule recordNumber
+sample-record-accepted = refl
+
 sample-accepted-track : trackNumber sampleTrack ≡ 0
-unfolding sum nearest tabulate block toA toB place weights smoothed total moment midpoint slope residual squares edge climb dsg smoothedAt valueA valueB valueC valueD recordOf results outside _when_ _then_ limitsRule dsgRule anyOutside wrongSizes outOfLimits correctedBeyond numbersRule recordNumber trackNumber
-sample-accepted-track = refl
+unfolding _when_ _then_ trackNumber
+sample-accepted-track = rw (sample-inside .0, sample-inside .1, sample-results) sample-record-accepted
 
--- so many times the same bytes
-unfoldable pub repeat : ℕ → List ℕ → List ℕ
-repeat zero bytes = []
-repeat (suc n) bytes = bytes ++ repeat n bytes
+-- the bytes of the block: sizes, labels and delays, then measurements, then corrections
+abbrev front : List ℕ
+front =
+    12 ∷ 3 ∷ 52 ∷ 0 ∷ 71 ∷ 5 ∷ 255 ∷ 0 ∷ 0 ∷ 76 ∷ 49 ∷ 67 ∷ 34 ∷ 198 ∷ 0 ∷ 0 ∷ 120 ∷ 0 ∷ 0 ∷ 0 ∷ 194 ∷ 1 ∷ 8 ∷ 7 ∷ 7 ∷ 0 ∷ replicate 32 0
 
--- the bytes of the block: sizes, labels, delays, measurements, corrections
+abbrev thousand : List ℕ
+thousand = 232 ∷ 3 ∷ 0 ∷ 0 ∷ 0 ∷ 0 ∷ 0 ∷ 0 ∷ []
+
 unfoldable pub sampleBlock : List ℕ
-sampleBlock =
-    (12 ∷ 3 ∷ 52 ∷ 0 ∷ [])
-    ++ ((71 ∷ 5 ∷ 255 ∷ 0 ∷ 0 ∷ 76 ∷ 49 ∷ 67 ∷ 34 ∷ 198 ∷ 0 ∷ 0 ∷ 120 ∷ 0 ∷ 0 ∷ 0 ∷ 194 ∷ 1 ∷ 8 ∷ 7 ∷ 7 ∷ 0 ∷ [])
-    ++ (replicate 32 0 ++ (repeat 780 (232 ∷ 3 ∷ 0 ∷ 0 ∷ 0 ∷ 0 ∷ 0 ∷ 0 ∷ []) ++ replicate 2080 0)))
+sampleBlock = front ++ (repeat 780 thousand ++ replicate 2080 0)
 
 sample-labels : blockLabels sampleBlock ≡ labels
 unfolding repeat sampleBlock blockLabels unsignedAt little
 sample-labels = refl
 
+sample-delays : (signedAt sampleBlock 26 ≡ pos 0) × (signedAt sampleBlock 34 ≡ pos 0) × (signedAt sampleBlock 42 ≡ pos 0)
+    × (signedAt sampleBlock 50 ≡ pos 0)
+unfolding repeat sampleBlock unsignedAt little twosComplement signedAt
+sample-delays = (refl, refl, refl, refl)
+
+sample-measurements : signedsAt sampleBlock 58 8 780 ≡ replicate 780 (pos 1000)
+unfolding little twosComplement sampleBlock
+sample-measurements =
+    signeds-behind front (repeat 780 thousand ++ replicate 2080 0) 0 8 780 ∙ signeds-repeat 780 thousand (replicate 2080 0) refl
+
+measurements-length : length (repeat 780 thousand) ≡ 6240
+unfolding repeat
+measurements-length = refl
+
+sample-column : (at : ℕ) → signedsAt sampleBlock (58 + (6240 + at)) 40 52 ≡ replicate 52 (pos 0)
+unfolding sampleBlock
+sample-column at =
+    signeds-behind front (repeat 780 thousand ++ replicate 2080 0) (6240 + at) 40 52
+    ∙ ap (λ (n : ℕ). signedsAt (repeat 780 thousand ++ replicate 2080 0) (n + at) 40 52) (sym measurements-length)
+    ∙ signeds-behind (repeat 780 thousand) (replicate 2080 0) at 40 52
+    ∙ signeds-zeros 2080 at 40 52
+
 sample-given : blockGiven sampleBlock ≡ sampleTrack
-unfolding repeat sampleBlock blockGiven unsignedAt little twosComplement signedAt signedsAt
-sample-given = refl
+unfolding blockGiven
+sample-given =
+    rw (sample-measurements, sample-delays .0, sample-delays .1, sample-delays .2, sample-delays .3, sample-column 0, sample-column 8, sample-column 16, sample-column 24, sample-column 32)
+
+sample-numbers-given : numbersIn (results (blockGiven sampleBlock)) ≡ numbers
+sample-numbers-given = ap (λ (g : Given). numbersIn (results g)) sample-given ∙ ap (λ (t : TrackRecord). numbersIn t) sample-results ∙ sample-numbers
 
 -- Block accepts it, with room for a line
 sample-sizes : missized sampleBlock ≡ false
@@ -75,7 +136,7 @@ sample-length = refl
 sample-answer : blockAnswer sampleBlock lineLength ≡ 0
 sample-answer =
     sym (line-answers sampleBlock lineLength sample-length sample-sizes (ap trackNumber sample-given ∙ sample-accepted-track))
-    ∙ ap₂ (λ (l : Labels) (n : Numbers). lineAnswer l n lineLength) sample-labels (ap (λ (g : Given). numbersIn (results g)) sample-given ∙ sample-numbers)
+    ∙ ap₂ (λ (l : Labels) (n : Numbers). lineAnswer l n lineLength) sample-labels sample-numbers-given
     ∙ sample-accepted
 
 -- and the line is printed whole
@@ -85,5 +146,5 @@ unfolding printed
 sample-printed =
     ap (λ (x : List ℕ). x ++ (13 ∷ 10 ∷ []))
     (accepted-answer sampleBlock sample-answer
-    ∙ ap₂ (λ (l : Labels) (n : Numbers). lineText l n) sample-labels (ap (λ (g : Given). numbersIn (results g)) sample-given ∙ sample-numbers)
+    ∙ ap₂ (λ (l : Labels) (n : Numbers). lineText l n) sample-labels sample-numbers-given
     ∙ sample)

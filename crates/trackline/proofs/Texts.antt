@@ -11,9 +11,10 @@ use lib.Seq.{take-length, take-at}
 use lib.Dec.{lit≤}
 use borrow.Author.Tests.{lt-ltb, le-ltb, eq-eqb, ne-eqb}
 use Rattle.fields.specs.Text.{decimal}
-use Rattle.line.specs.Text.{lineLength, lineText}
-use Rattle.line.specs.Block.{blockLabels, blockGiven, numbersIn, blockAnswer, blockAfter}
-use Rattle.line.proofs.Widths.{line-width}
+use Rattle.columns.specs.Text.{lineLength, lineText}
+use Rattle.hire.specs.Hire.{blockLabels, blockGiven}
+use Rattle.line.specs.Block.{numbersIn, blockAnswer, blockAfter}
+use Rattle.columns.proofs.Widths.{line-width}
 use Rattle.fit.specs.Track.{results}
 use Rattle.trackline.specs.Printed.{refusal, answer, printed, Text, Pushed}
 

@@ -9,8 +9,9 @@ use lib.ListN.{length, take}
 use lib.Dec.{ltb, eqb}
 use Rattle.fields.specs.Text.{decimal}
 use Rattle.fit.specs.Track.{results}
-use Rattle.line.specs.Text.{lineLength, lineText}
-use Rattle.line.specs.Block.{blockLabels, blockGiven, numbersIn, blockAnswer}
+use Rattle.columns.specs.Text.{lineLength, lineText}
+use Rattle.hire.specs.Hire.{blockLabels, blockGiven}
+use Rattle.line.specs.Block.{numbersIn, blockAnswer}
 
 -- `refused`, a space, and the number in one digit or two.
 unfoldable pub refusal : ℕ → List ℕ

@@ -13,8 +13,8 @@ use Rattle.whole.specs.Tables.{tabulate-length}
 use Rattle.whole.specs.Words.{Word, Within, known, fits, bound, plain-is, bounds}
 use Rattle.exact.specs.Corrected.{Given, at, block, toA}
 use Rattle.fit.specs.Track.{given, smoothedAt, valueA, valueC, valueD}
-use Rattle.fit.proofs.Lists.{within-limit}
-use Rattle.fit.proofs.Weights.{smoothed-bound}
+use Rattle.limits.proofs.Lists.{within-limit}
+use Rattle.series.proofs.Weights.{smoothed-bound}
 use Rattle.fit.proofs.Arrays.{table-bound}
 use Rattle.fit.proofs.Tracks.{Sized, sized, Limited, limited, a-table, b-table, track-judged}
 use Rattle.fit.proofs.corrected_track.Statement.{statement}

@@ -9,7 +9,7 @@ use Rattle.limits.specs.Refusal.{_when_, _then_}
 use Rattle.limits.specs.Limits.{beyond}
 use Rattle.exact.specs.Corrected.{Given}
 use Rattle.exact.specs.Accurate.{AccurateTrack}
-use Rattle.fit.specs.Lists.{miscounted}
+use Rattle.limits.specs.Lists.{miscounted}
 use Rattle.fit.specs.declared.Tracked.{Tracked}
 use Rattle.fit.specs.Track.{given, figures, wrongSizes, outOfLimits, trackRule}
 use Rattle.fit.proofs.Accuracy.{tracked-accurate}

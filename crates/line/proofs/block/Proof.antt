@@ -7,8 +7,8 @@ use mathlib.Core.Bool.{Bool, not, _||_}
 use Prim.Native.Nat.{ℕ, _<_}
 use lib.ListN.{length}
 use lib.Dec.{lit<, eqb}
-use Rattle.line.specs.declared.Labels.{Labels}
-use Rattle.line.specs.declared.Numbers.{Numbers}
+use Rattle.labels.specs.declared.Labels.{Labels}
+use Rattle.labels.specs.declared.Numbers.{Numbers}
 use Rattle.line.specs.Line.{lineAnswer, lineAfter}
 use Rattle.line.proofs.Blocks.{missized, wrong-length, wrong-sizes, track-number, track-refuses, refused, written}
 use Rattle.line.proofs.block.Statement.{statement}

@@ -14,7 +14,7 @@ use mir.Facts.{toZ-ofZ}
 use Rattle.whole.specs.Table.{tabulate}
 use Rattle.whole.specs.Words.{Word, known, back-of, bound, plain-is, bounds}
 use Rattle.exact.specs.Corrected.{at}
-use Rattle.fit.proofs.Lists.{within-limit}
+use Rattle.limits.proofs.Lists.{within-limit}
 use Rattle.fit.proofs.Arrays.{fill-none, fill-more, fill-all}
 use Rattle.fit.proofs.correction.a_values.Statement.{statement}
 use Rattle.fit.proofs.correction.a_values.Tie as tie

@@ -12,13 +12,13 @@ use mir.Syntax.{w64}
 use mir.Val.{toZ, ofZ}
 use Rattle.whole.specs.Table.{tabulate}
 use Rattle.whole.specs.Words.{back-of}
-use Rattle.fit.specs.declared.Smoothed.{Smoothed}
+use Rattle.series.specs.declared.Smoothed.{Smoothed}
 use Rattle.exact.specs.Corrected.{at}
-use Rattle.fit.specs.Answers.{smoothReply}
-use Rattle.fit.specs.Smooth.{smoothed, smoothRule}
+use Rattle.series.specs.Answers.{smoothReply}
+use Rattle.series.specs.Smooth.{smoothed, smoothRule}
 use Rattle.fit.proofs.Arrays.{fill-none, fill-more, fill-all}
 use Rattle.fit.proofs.Blocks.{part-value}
-use Rattle.fit.proofs.Replies.{smooth-cases}
+use Rattle.series.proofs.Replies.{smooth-cases}
 use Rattle.fit.proofs.correction.smooth_blocks.Statement.{statement}
 use Rattle.fit.proofs.correction.smooth_blocks.Tie as tie
 

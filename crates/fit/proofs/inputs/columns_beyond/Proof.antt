@@ -1,5 +1,7 @@
 -- `fit::inputs::columns_beyond` meets its contract: the row of tests is the rule's.
 -- Assumes nothing.
+use mathlib.Core.Bool.{_||_}
+use mathlib.Core.Path.{ap₂}
 use borrow.Author.Needs.{needs}
 use Rattle.fit.proofs.inputs.columns_beyond.Statement.{statement}
 use Rattle.fit.proofs.inputs.columns_beyond.Tie as tie
@@ -21,7 +23,13 @@ any-outside-requires-5 c κs = search needs
 
 returns : tie.Need-returns
 returns c =
-    cc
+    let four = c .before in
+    let three = four .before in
+    let two = three .before in
+    let one = two .before in
+    ap₂ _||_
+    (ap₂ _||_ (ap₂ _||_ (ap₂ _||_ (one .any-outside .ensures) (two .any-outside2 .ensures)) (three .any-outside3 .ensures)) (four .any-outside4 .ensures))
+    (c .any-outside5 .ensures)
 
 pub columns-beyond-spec : {M : Type 1} → statement M
 columns-beyond-spec =

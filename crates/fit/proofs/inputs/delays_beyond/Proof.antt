@@ -1,6 +1,10 @@
 -- `fit::inputs::delays_beyond` meets its contract: the row of tests is the rule's.
 -- Assumes nothing.
+use mathlib.Core.Bool.{_||_}
+use mathlib.Core.Path.{ap, ap₂, _∙_}
+use Prim.Native.Nat.{_^_}
 use mir.Facts.{toZ-ofZ}
+use Rattle.limits.specs.Limits.{beyond}
 use borrow.Author.Needs.{needs}
 use Rattle.fit.proofs.inputs.delays_beyond.Statement.{statement}
 use Rattle.fit.proofs.inputs.delays_beyond.Tie as tie
@@ -19,8 +23,15 @@ outside-requires-4 c κs = search needs
 
 returns : tie.Need-returns
 returns c =
-    let f = c .before .before .before .before .fits in
-    cc (toZ-ofZ (f .int), toZ-ofZ (f .cab), toZ-ofZ (f .refdly), toZ-ofZ (f .gd))
+    let three = c .before in
+    let two = three .before in
+    let one = two .before in
+    let f = one .before .fits in
+    ap₂ _||_
+    (ap₂ _||_
+    (ap₂ _||_ (one .outside .ensures ∙ ap (beyond (10 ^ 10)) (toZ-ofZ (f .int))) (two .outside2 .ensures ∙ ap (beyond (10 ^ 10)) (toZ-ofZ (f .cab))))
+    (three .outside3 .ensures ∙ ap (beyond (10 ^ 10)) (toZ-ofZ (f .refdly))))
+    (c .outside4 .ensures ∙ ap (beyond (10 ^ 10)) (toZ-ofZ (f .gd)))
 
 pub delays-beyond-spec : {M : Type 1} → statement M
 delays-beyond-spec =

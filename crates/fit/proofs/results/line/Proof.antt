@@ -3,7 +3,7 @@
 use mathlib.Core.Path.{sym, ap, _∙_}
 use lib.IntN.{ℤ}
 use Rattle.whole.specs.Words.{back-of}
-use Rattle.fit.specs.Answers.{Reply, fitReply}
+use Rattle.series.specs.Answers.{Reply, fitReply}
 use borrow.Author.Needs.{needs}
 use Rattle.fit.proofs.results.line.Statement.{statement}
 use Rattle.fit.proofs.results.line.Tie as tie

@@ -7,13 +7,13 @@ use lib.IntN.{ℤ, pos}
 use Rattle.whole.specs.Words.{back-of}
 use Rattle.limits.specs.Refusal.{_then_}
 use Rattle.limits.specs.Limits.{limitsRule, dsgRule}
-use Rattle.fit.specs.declared.Scattered.{Scattered}
+use Rattle.series.specs.declared.Scattered.{Scattered}
 use Rattle.fit.specs.declared.TrackRecord.{TrackRecord}
-use Rattle.fit.specs.Answers.{Reply, reply, scatterReply, scatterNumbered}
+use Rattle.series.specs.Answers.{Reply, reply, scatterReply, scatterNumbered}
 use Rattle.fit.specs.Track.{recordOf, numbersRule, tracked}
-use Rattle.fit.proofs.Edges.{scatter-passed}
+use Rattle.series.proofs.Edges.{scatter-passed}
 use Rattle.limits.proofs.Laws.{then-refused, then-passed}
-use Rattle.fit.proofs.Replies.{reply-number, reply-values}
+use Rattle.series.proofs.Replies.{reply-number, reply-values}
 use Rattle.fit.proofs.Tracks.{tracked-refused, tracked-accepted, Inside, inside, LineOf, line-of}
 use borrow.Author.Needs.{needs}
 use Rattle.fit.proofs.results.results.Statement.{statement}

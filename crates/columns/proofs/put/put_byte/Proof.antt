@@ -1,0 +1,19 @@
+-- `columns::put::put_byte` meets its contract: a store is one byte placed.
+-- Assumes nothing.
+use mathlib.Core.List.{[], _∷_}
+use native.Mathlib.Omega.{arith}
+use Rattle.columns.proofs.Placing.{put, placed-byte}
+use borrow.Author.Needs.{needs}
+use Rattle.columns.proofs.put.put_byte.Statement.{statement}
+use Rattle.columns.proofs.put.put_byte.Tie as tie
+
+element-write-line : tie.Need-element-write-line
+element-write-line c = search needs
+
+returns : tie.Need-returns
+returns c =
+    put (c .args .line .now) (c .args .at) (c .args .byte ∷ []) (c .pre .0) (omega arith)
+    (placed-byte (c .args .line .now) (c .args .at) (c .args .byte) (omega arith))
+
+pub put-byte-spec : {M : Type 1} → statement M
+put-byte-spec = tie.close (tie.spec element-write-line returns)

@@ -1,0 +1,60 @@
+-- `columns::put::put_clock` meets its contract: hours, minutes and seconds, one behind the other.
+-- Assumes nothing.
+use mathlib.Core.Path.{sym, ap, ap₂, _∙_, subst}
+use mathlib.Core.List.{List, [], _∷_, _++_, append-assoc}
+use Prim.Native.Nat.{ℕ, _+_, _/_, _%_}
+use lib.ListN.{length-append}
+use native.Mathlib.Omega.{arith}
+use Rattle.fields.specs.Text.{decimal}
+use Rattle.fields.proofs.Laws.{length-decimal}
+use Rattle.columns.specs.Placed.{ended, Put}
+use Rattle.columns.specs.Text.{clock}
+use Rattle.columns.proofs.Placing.{onto}
+use borrow.Author.Needs.{needs}
+use Rattle.columns.proofs.put.put_clock.Statement.{statement}
+use Rattle.columns.proofs.put.put_clock.Tie as tie
+
+cast-put-digits : tie.Need-cast-put-digits
+cast-put-digits c = search needs
+
+put-digits-requires : tie.Need-put-digits-requires
+put-digits-requires c κs = search needs
+
+cast-put-digits-2 : tie.Need-cast-put-digits-2
+cast-put-digits-2 c = search needs
+
+put-digits-requires-2 : tie.Need-put-digits-requires-2
+put-digits-requires-2 c κs = search needs
+
+cast-put-decimal : tie.Need-cast-put-decimal
+cast-put-decimal c = search needs
+
+put-decimal-requires : tie.Need-put-decimal-requires
+put-decimal-requires c κs = search needs
+
+returns : tie.Need-returns
+unfolding clock
+returns c =
+    let a = c .before .before .before .before .before .before in
+    let hour = decimal 2 (a .args .second / 3600) in
+    let minute = decimal 2 (a .args .second / 60 % 60) in
+    let second = decimal 2 (a .args .second % 60) in
+    subst (λ (t : List ℕ). Put (a .args .line .now) (c .put-decimal .last .0) 13 t)
+    (append-assoc hour minute (ended second)
+    ∙ ap (λ (t : List ℕ). hour ++ t) (sym (append-assoc minute second (32 ∷ [])))
+    ∙ sym (append-assoc hour (minute ++ second) (32 ∷ [])))
+    (onto (a .pre) (omega arith) (ap (λ (n : ℕ). 13 + n) (length-append hour minute ∙ ap₂ _+_ (length-decimal 2 _) (length-decimal 2 _)))
+    (onto (a .pre) (omega arith) (ap (λ (n : ℕ). 13 + n) (length-decimal 2 _)) (c .before .before .before .before .put-digits .ensures) (c .before .before .put-digits2 .ensures))
+    (c .put-decimal .ensures))
+
+pub put-clock-spec : {M : Type 1} → statement M
+put-clock-spec =
+    tie.close
+    (tie.spec
+    cast-put-digits
+    put-digits-requires
+    cast-put-digits-2
+    put-digits-requires-2
+    cast-put-decimal
+    put-decimal-requires
+    returns)

@@ -1,0 +1,68 @@
+-- Laws of the limit tests on lists (specs/Lists.antt).
+-- Assumes nothing.
+use mathlib.Core.Path.{_≡_, refl, ap, _∙_}
+use mathlib.Core.Bool.{Bool, true, false, _||_}
+use mathlib.Core.List.{List, [], _∷_}
+use Prim.Native.Nat.{ℕ, zero, suc, _+_, _≤_, _<_, zero-le}
+use native.Mathlib.Numerals.{add-one}
+use lib.IntN.{ℤ, pos, natAbs}
+use lib.ListN.{length, take, drop, getD, drop-of-length-le}
+use lib.Seq.{drop-cons}
+use Rattle.limits.specs.Limits.{outside, beyond}
+use Rattle.limits.proofs.Laws.{or-false, magnitude-within, then-zero, when-zero}
+use Rattle.limits.specs.Refusal.{_when_, _then_}
+use borrow.Author.Tests.{eqb-true, eq-eqb, not-false}
+use lib.Dec.{eqb}
+use Rattle.limits.specs.Lists.{miscounted, anyOutside, anyBeyond, rangeRule}
+
+-- a loop that has found no number outside before place i has what is left to test
+module _ (low high : ℤ) (l : List ℤ) (i : ℕ) (so-far : anyOutside low high l ≡ anyOutside low high (drop i l)) where
+  step : i < length l → anyOutside low high l ≡ outside low high (getD l i (pos 0)) || anyOutside low high (drop (i + 1) l)
+  unfolding anyOutside
+  step h = so-far ∙ rw (add-one, drop-cons l i (pos 0) h)
+
+  pub found : i < length l → outside low high (getD l i (pos 0)) ≡ true → anyOutside low high l ≡ true
+  found h t = step h ∙ ap (λ (b : Bool). b || anyOutside low high (drop (i + 1) l)) t
+
+  pub passed : i < length l → outside low high (getD l i (pos 0)) ≡ false → anyOutside low high l ≡ anyOutside low high (drop (i + 1) l)
+  passed h t = step h ∙ ap (λ (b : Bool). b || anyOutside low high (drop (i + 1) l)) t
+
+  pub none-left : length l ≤ i → anyOutside low high l ≡ false
+  unfolding anyOutside
+  none-left h = so-far ∙ rw (drop-of-length-le l h)
+
+-- a list that passed has no number beyond the limit
+pub within-limit : (limit : ℕ) (l : List ℤ) → anyBeyond limit l ≡ false → (i : ℕ) → natAbs (getD l i (pos 0)) ≤ limit
+unfolding anyOutside
+within-limit limit [] e i = zero-le
+within-limit limit (z ∷ l) e zero = magnitude-within limit z (or-false (beyond limit z) (anyBeyond limit l) e .0)
+within-limit limit (z ∷ l) e (suc i) = within-limit limit l (or-false (beyond limit z) (anyBeyond limit l) e .1) i
+
+-- what it tells that a list is not refused
+pub list-accepted : (n : ℕ) (low high : ℤ) (l : List ℤ) → rangeRule n low high l ≡ 0
+    → (length l ≡ n) × (anyOutside low high l ≡ false)
+unfolding rangeRule
+list-accepted n low high l e =
+    let z = then-zero (1 when miscounted n l) (2 when anyOutside low high l) e in (
+      eqb-true (length l) n (not-false (eqb (length l) n) (when-zero 0 (miscounted n l) (z .0))),
+      when-zero 1 (anyOutside low high l) (z .1),
+    )
+
+pub list-passes : (n : ℕ) (low high : ℤ) (l : List ℤ) → length l ≡ n → anyOutside low high l ≡ false → rangeRule n low high l ≡ 0
+unfolding rangeRule _when_ _then_
+list-passes n low high l e p = rw (eq-eqb (length l) n e, p)
+
+-- a part of a list that passed has passed
+pub any-drop : (low high : ℤ) (m : ℕ) (l : List ℤ) → anyOutside low high l ≡ false → anyOutside low high (drop m l) ≡ false
+unfolding anyOutside
+any-drop low high zero l e = e
+any-drop low high (suc m) [] e = refl
+any-drop low high (suc m) (z ∷ l) e = any-drop low high m l (or-false (outside low high z) (anyOutside low high l) e .1)
+
+pub any-take : (low high : ℤ) (n : ℕ) (l : List ℤ) → anyOutside low high l ≡ false → anyOutside low high (take n l) ≡ false
+unfolding anyOutside
+any-take low high zero l e = refl
+any-take low high (suc n) [] e = refl
+any-take low high (suc n) (z ∷ l) e =
+    let o = or-false (outside low high z) (anyOutside low high l) e in
+    rw (o .0, any-take low high n l (o .1))

@@ -1,0 +1,31 @@
+-- The refusals 1 and 2 of a list of numbers, which Smooth, Fit and Scatter share (document 01, "Each operation and its refusals, in order").
+-- Assumes nothing.
+use Prim.Native.Nat.{ℕ}
+use mathlib.Core.Bool.{Bool, false, not, _||_}
+use mathlib.Core.List.{List, [], _∷_}
+use lib.IntN.{ℤ, pos, negℤ}
+use lib.Dec.{eqb}
+use lib.ListN.{length}
+use Rattle.limits.specs.Limits.{outside}
+use Rattle.limits.specs.Refusal.{_when_, _then_}
+
+-- The list has another length than n.
+abbrev pub miscounted : ℕ → List ℤ → Bool
+miscounted n l = not (eqb (length l) n)
+
+-- Some number of the list is outside low to high.
+unfoldable pub anyOutside : ℤ → ℤ → List ℤ → Bool
+anyOutside low high [] = false
+anyOutside low high (z ∷ l) = outside low high z || anyOutside low high l
+
+-- Some number of the list is outside plus or minus limit.
+abbrev pub anyBeyond : ℕ → List ℤ → Bool
+anyBeyond limit l = anyOutside (negℤ (pos limit)) (pos limit) l
+
+-- 1: the count is not n. 2: a number is outside low to high.
+unfoldable pub rangeRule : ℕ → ℤ → ℤ → List ℤ → ℕ
+rangeRule n low high l = 1 when miscounted n l then 2 when anyOutside low high l
+
+-- 2: a number is outside plus or minus limit.
+abbrev pub listRule : ℕ → ℕ → List ℤ → ℕ
+listRule n limit l = rangeRule n (negℤ (pos limit)) (pos limit) l

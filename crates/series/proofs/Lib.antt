@@ -1,0 +1,5 @@
+pub mod Weights
+pub mod Replies
+pub mod Fitting
+pub mod Residuals
+pub mod Edges

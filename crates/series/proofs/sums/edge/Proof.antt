@@ -1,0 +1,36 @@
+-- `series::sums::edge` meets its contract: up to 10000 the square stays below 10^12.
+-- Assumes nothing.
+use borrow.Author.Needs.{needs}
+use mathlib.Core.Path.{sym, ap, _∙_}
+use Prim.Native.Nat.{ℕ, _*_, _-_, _≤_}
+use native.Mathlib.Nat.{mul-le-mul}
+use native.Mathlib.Omega.{arith}
+use lib.IntN.{pos}
+use Rattle.series.proofs.Edges.{edge-natural}
+use Rattle.series.proofs.sums.edge.Statement.{statement}
+use Rattle.series.proofs.sums.edge.Tie as tie
+
+root-bound : (d : ℕ) → d ≤ 10000 → 100 * d - 50 ≤ 999950
+root-bound d h = omega arith
+
+mul-e : tie.Need-mul-e
+mul-e c = search needs
+
+sub-e : tie.Need-sub-e
+sub-e c = search needs
+
+mul-result : tie.Need-mul-result
+mul-result c =
+    let b = root-bound (c .args .d) (c .pre .1) in
+    omega (arith, mul-le-mul b b)
+
+mul-result-2 : tie.Need-mul-result-2
+mul-result-2 c =
+    let b = root-bound (c .args .d) (c .pre .1) in
+    omega (arith, mul-le-mul b b)
+
+returns : tie.Need-returns
+returns c = sym (edge-natural 1 52 (c .args .d) (c .pre .0) ∙ ap (λ (k : ℕ). pos (52 * (k * k))) {x = 1 * (100 * c .args .d - 50)} (omega arith))
+
+pub edge-spec : {M : Type 1} → statement M
+edge-spec = tie.close (tie.spec mul-e sub-e mul-result mul-result-2 returns)

@@ -1,0 +1,30 @@
+-- Fit (document 01, "Fitting"): the line through the values v 0 .. v (n - 1), of which there are 52, counted in steps of which a picosecond
+-- has s, today 1.
+-- Assumes nothing.
+use Prim.Native.Nat.{ℕ, _*_, _-_, _^_}
+use mathlib.Core.List.{List}
+use lib.IntN.{ℤ, pos, _*ℤ_}
+use Rattle.exact.specs.Weights.{place}
+use Rattle.whole.specs.Sum.{sum}
+use Rattle.whole.specs.Nearest.{nearest}
+use Rattle.exact.specs.Corrected.{at}
+use Rattle.limits.specs.Lists.{listRule}
+use Rattle.series.specs.Answers.{Reply, reply}
+
+-- S and T of document 01: with 52 values, place 52 j is 2j - 51.
+unfoldable pub total : ℕ → (ℕ → ℤ) → ℤ
+total n v = sum n v
+
+unfoldable pub moment : ℕ → (ℕ → ℤ) → ℤ
+moment n v = sum n (λ j. place n j *ℤ v j)
+
+-- The midpoint in 0.1 ns, with 52 values S / 5200, and the slope in 0.1 ps/s, with 52 values T / 35139.
+unfoldable pub midpoint : ℕ → ℕ → (ℕ → ℤ) → ℤ
+midpoint s n v = nearest (total n v) (100 * s * n)
+
+unfoldable pub slope : ℕ → ℕ → (ℕ → ℤ) → ℤ
+slope s n v = nearest (pos 4 *ℤ moment n v) (s * (n * (n * n - 1)))
+
+-- 1: the count is not 52. 2: a value is outside ±2 × 10^12. The values of an accepted reply are the midpoint and the slope.
+unfoldable pub fitRule : List ℤ → Reply (ℤ × ℤ)
+fitRule l = reply (pos 0, pos 0) (listRule 52 (2 * 10 ^ 12) l) (midpoint 1 52 (at l), slope 1 52 (at l))

@@ -1,0 +1,4 @@
+pub mod Answers
+pub mod Smooth
+pub mod Fit
+pub mod Scatter

@@ -1,0 +1,50 @@
+-- Scatter (document 01, "Scatter"): DSG, the root mean square of the residuals of n values from their line, in 0.1 ns. The values are
+-- counted in steps of which a picosecond has s.
+-- Assumes nothing.
+use Prim.Native.Nat.{ℕ, zero, suc, _*_, _-_, _^_}
+use mathlib.Core.Bool.{true, false, cond}
+use mathlib.Core.List.{List}
+use lib.IntN.{ℤ, pos, natAbs, _-ℤ_, _*ℤ_}
+use lib.Signed.{leZ, ltZ}
+use Rattle.whole.specs.Sum.{sum}
+use Rattle.whole.specs.Nearest.{nearest}
+use Rattle.whole.specs.Square.{squared}
+use Rattle.limits.specs.Refusal.{_then_}
+use Rattle.limits.specs.Limits.{dsgRule}
+use Rattle.exact.specs.Corrected.{at}
+use Rattle.exact.specs.Weights.{place}
+use Rattle.limits.specs.Lists.{listRule}
+use Rattle.series.specs.Answers.{Reply, reply}
+use Rattle.series.specs.Fit.{total, moment}
+
+-- The residual of value j: the value - S / n - 3 (2j - (n - 1)) T / (n (n² - 1)), nearest. With 52 values that is
+-- (46852 × value - 901 × S - (2j - 51) × T) / 46852.
+unfoldable pub residual : ℕ → (ℕ → ℤ) → ℕ → ℤ
+residual n v j =
+    nearest
+    (pos (n * (n * n - 1)) *ℤ v j -ℤ pos (n * n - 1) *ℤ total n v -ℤ pos 3 *ℤ (place n j *ℤ moment n v))
+    (n * (n * n - 1))
+
+-- Q, the sum of the squared residuals.
+unfoldable pub squares : ℕ → (ℕ → ℤ) → ℤ
+squares n v = sum n (λ j. squared (residual n v j))
+
+-- The least Q that a DSG of d has, for d from 1 up: with 52 values 52 × (100d - 50)².
+unfoldable pub edge : ℕ → ℕ → ℕ → ℤ
+edge s n d = pos n *ℤ squared (pos s *ℤ (pos (100 * d) -ℤ pos 50))
+
+-- From d up, the last number whose edge is not above q, in at most k steps.
+unfoldable pub climb : (ℕ → ℤ) → ℤ → ℕ → ℕ → ℕ
+climb e q zero d = d
+climb e q (suc k) d = elim (leZ (e (suc d)) q) [ true ↦ climb e q k (suc d) | false ↦ d ]
+
+-- DSG: 0 if q is under 2500 n, with 52 values 130000; otherwise the greatest d from 1 up whose edge is not above q. As an edge lies above
+-- its d, q steps are enough: that no d from 1 up with such an edge is greater is the law `greatest` of proofs/Edges.antt.
+unfoldable pub dsg : ℕ → ℕ → ℤ → ℕ
+dsg s n q = cond (ltZ q (pos (2500 * (s * s) * n))) 0 (climb (edge s n) q (natAbs q) 1)
+
+-- 1 and 2 as in Fit. 6: DSG is above 9999.
+unfoldable pub scatterRule : List ℤ → Reply ℤ
+scatterRule l =
+    let sigma = pos (dsg 1 52 (squares 52 (at l))) in
+    reply (pos 0) (listRule 52 (2 * 10 ^ 12) l then dsgRule sigma) sigma

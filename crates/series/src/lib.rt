@@ -1,0 +1,84 @@
+// Smooth, Fit and Scatter of document 01: the three operations on a list of values.
+// Each takes a list of any length and numbers of any size and never traps: what it can't use it refuses with the number of
+// the first refusal, in the order of document 01, "Each operation and its refusals, in order".
+// All quantities are whole picoseconds unless a unit is given.
+
+mod number;
+mod sums;
+
+use number::nearest;
+use sums::CAP;
+use sums::dsg;
+use sums::list_refusal;
+use sums::squares;
+use sums::sums;
+use sums::values_refusal;
+use sums::weighted;
+ghost use mathlib.Core.Path.{_≡_};
+ghost use Rattle.series.specs.Answers.{smoothReply, smoothNumbered, fitReply, fitNumbered, scatterReply, scatterNumbered};
+ghost use Rattle.series.specs.Smooth.{smoothRule};
+ghost use Rattle.series.specs.Fit.{fitRule};
+ghost use Rattle.series.specs.Scatter.{scatterRule};
+
+// What Smooth answers: the smoothed value, or the number of the refusal.
+pub enum Smoothed {
+    Value(i64),
+    Refused(u32),
+}
+
+// What Fit answers: the midpoint in 0.1 ns with the slope in 0.1 ps/s, or the number of the refusal.
+pub enum Fitted {
+    Line { midpoint: i64, slope: i64 },
+    Refused(u32),
+}
+
+// What Scatter answers: DSG in 0.1 ns, or the number of the refusal.
+pub enum Scattered {
+    Sigma(i64),
+    Refused(u32),
+}
+
+// The value at the middle of fifteen measurements of the parabola with the least sum of squared residuals.
+pub fn smooth(measurements: &[i64]) -> Smoothed
+    ensures answer { λ r. ⌜ smoothReply r ≡ smoothRule (now (measurements .entry)) ⌝ }
+    ensures variant { λ r. ⌜ smoothNumbered r ⌝ }
+{
+    let refusal = list_refusal(measurements, 15, -1_000_000_000_000, 1_000_000_000_000);
+    if refusal != 0 {
+        return Smoothed::Refused(refusal);
+    }
+    Smoothed::Value(nearest(weighted(measurements), 1105))
+}
+
+// The line through 52 values with the least sum of squared residuals: its value at the midpoint, and its slope.
+pub fn fit(values: &[i64]) -> Fitted
+    ensures answer { λ r. ⌜ fitReply r ≡ fitRule (now (values .entry)) ⌝ }
+    ensures variant { λ r. ⌜ fitNumbered r ⌝ }
+{
+    let refusal = values_refusal(values);
+    if refusal != 0 {
+        return Fitted::Refused(refusal);
+    }
+    let s = sums(values);
+    Fitted::Line {
+        midpoint: nearest(s.total, 5200),
+        slope: nearest(s.moment, 35139),
+    }
+}
+
+// DSG: the root mean square of the residuals of 52 values from their line.
+pub fn scatter(values: &[i64]) -> Scattered
+    ensures answer { λ r. ⌜ scatterReply r ≡ scatterRule (now (values .entry)) ⌝ }
+    ensures variant { λ r. ⌜ scatterNumbered r ⌝ }
+{
+    let refusal = values_refusal(values);
+    if refusal != 0 {
+        return Scattered::Refused(refusal);
+    }
+    let s = sums(values);
+    let q = squares(values, s.total, s.moment);
+    if CAP <= q {
+        return Scattered::Refused(6);
+    }
+    Scattered::Sigma(dsg(q) as i64)
+}
