@@ -10,8 +10,6 @@ use crate::replies::Operation;
 use crate::replies::close;
 use crate::replies::opened;
 use decode::signed64;
-use decode::unsigned16;
-use decode::unsigned32;
 use libc::STDIN_FILENO;
 use line::Labels;
 use line::Numbers;
@@ -21,22 +19,11 @@ const RECORD: usize = 240;
 // A bound, so that the reading ends. No input has as many.
 const MOST_RECORDS: u32 = 1000;
 
-fn labels(record: &[u8; 240]) -> Labels {
-    Labels {
-        constellation: record[24],
-        satellite: record[25],
-        cl: record[26],
-        fr: record[27],
-        hc: record[28],
-        frc1: record[29],
-        frc2: record[30],
-        frc3: record[31],
-        mjd: unsigned32(record, 32),
-        start: unsigned32(record, 36),
-        elv: unsigned16(record, 40),
-        azth: unsigned16(record, 42),
-        ioe: unsigned16(record, 44),
-    }
+// They stand in it as in a hire block that begins at byte 20.
+fn labels(record: &[u8]) -> Labels
+    requires { ⌜ length (now «record») ≡ 240 ⌝ }
+{
+    hire::labels(&record[20..])
 }
 
 fn numbers(record: &[u8; 240]) -> Numbers {

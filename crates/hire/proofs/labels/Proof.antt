@@ -1,6 +1,7 @@
 -- `hire::labels` meets its contract.
 -- Assumes nothing.
 use borrow.Author.Needs.{needs}
+use Rattle.labels.specs.Given.{labelsOf}
 use Rattle.hire.specs.Hire.{blockLabels}
 use Rattle.hire.proofs.labels.Statement.{statement}
 use Rattle.hire.proofs.labels.Tie as tie
@@ -46,7 +47,33 @@ unsigned16-requires-3 c κs = search needs
 
 returns : tie.Need-returns
 unfolding blockLabels
-returns c = cc
+returns c =
+    let azth = c .before in
+    let elv = azth .before in
+    let start = elv .before in
+    let mjd = start .before in
+    let frc3 = mjd .before in
+    let frc2 = frc3 .before in
+    let frc1 = frc2 .before in
+    let hc = frc1 .before in
+    let fr = hc .before in
+    let cl = fr .before in
+    let satellite = cl .before in
+    let constellation = satellite .before in
+    λ i. labelsOf
+    (constellation .byte .ensures i)
+    (satellite .byte2 .ensures i)
+    (cl .byte3 .ensures i)
+    (fr .byte4 .ensures i)
+    (hc .byte5 .ensures i)
+    (frc1 .byte6 .ensures i)
+    (frc2 .byte7 .ensures i)
+    (frc3 .byte8 .ensures i)
+    (mjd .unsigned32 .ensures i)
+    (start .unsigned322 .ensures i)
+    (elv .unsigned16 .ensures i)
+    (azth .unsigned162 .ensures i)
+    (c .unsigned163 .ensures i)
 
 pub labels-spec : {M : Type 1} → statement M
 labels-spec =

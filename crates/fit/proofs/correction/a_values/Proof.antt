@@ -9,10 +9,10 @@ use native.Mathlib.Omega.{arith}
 use lib.IntN.{ℤ, _+ℤ_, _-ℤ_}
 use lib.ListN.{length, take, length-set}
 use mir.Syntax.{w64}
-use mir.Val.{toZ}
+use mir.Val.{toZ, ofZ}
 use mir.Facts.{toZ-ofZ}
 use Rattle.whole.specs.Table.{tabulate}
-use Rattle.whole.specs.Words.{Word, known, back-of, bound, plain-is, bounds}
+use Rattle.whole.specs.Words.{Word, known, read, back, back-of, bound}
 use Rattle.exact.specs.Corrected.{at}
 use Rattle.limits.proofs.Lists.{within-limit}
 use Rattle.fit.proofs.Arrays.{fill-none, fill-more, fill-all}
@@ -84,8 +84,8 @@ corrected-requires : tie.Need-corrected-requires Inv-loop μ-loop
 corrected-requires c κs =
     let n = c .before .before .before .before .before .before in
     let w = words (n .before) (n .loop .j) in (
-      (bound (search bounds depth 9) tt, bound (search bounds depth 9) tt, bound (search bounds depth 9) tt),
-      (bound (search bounds depth 9) tt, bound (search bounds depth 9) tt, bound (search bounds depth 9) tt, bound (search bounds depth 9) tt),
+      (bound (read (w .0)) tt, bound (read (w .1)) tt, bound (read (w .2)) tt),
+      (bound (read (w .3)) tt, bound (read (w .4)) tt, bound (read (w .5)) tt, bound (read (w .6)) tt),
     )
 
 mul-values : tie.Need-mul-values Inv-loop μ-loop
@@ -103,11 +103,14 @@ loop-less c = search needs
 loop-again : tie.Need-loop-again Inv-loop μ-loop
 loop-again c =
     let n = c .before .before .before .before .before .before .before in
+    let a = n .before .args in
     let w = words (n .before) (n .loop .j) in (
       search needs,
       rw length-set (n .loop .inv .1),
       fill-more _ (n .loop .values) (n .loop .j) (omega arith) (n .loop .inv .2)
-          (back-of (c .corrected .ok) ∙ c .corrected .ensures ∙ plain-is (search bounds depth 18) tt ∙ sym (plain-is (search bounds depth 18) tt)),
+          (back-of (c .corrected .ok)
+          ∙ c .corrected .ensures
+          ∙ (λ i. back (w .0) tt i -ℤ toZ w64 (ofZ w64 (a .delay)) -ℤ back (w .3) tt i +ℤ back (w .4) tt i -ℤ back (w .5) tt i -ℤ back (w .6) tt i -ℤ toZ w64 (ofZ w64 (a .gd)))),
     )
 
 returns : tie.Need-returns Inv-loop μ-loop

@@ -1,0 +1,14 @@
+-- `line::exports::trackline_start` meets its contract, by that of `schedule::start`.
+-- Assumes nothing.
+use borrow.Author.Needs.{needs}
+use Rattle.line.proofs.exports.trackline_start.Statement.{statement}
+use Rattle.line.proofs.exports.trackline_start.Tie as tie
+
+start-requires : tie.Need-start-requires
+start-requires c κs = search needs
+
+returns : tie.Need-returns
+returns c = c .start .ensures
+
+pub trackline-start-spec : {M : Type 1} → statement M
+trackline-start-spec = tie.close (tie.spec start-requires returns)
