@@ -69,7 +69,9 @@ bench:
 
 archive: $(ARCHIVE)
 
+# rt staticlib proves the crates below one at a time, rt check side by side.
 $(ARCHIVE): $(SOURCES)
+	rt check line
 	rt staticlib line
 
 shared: $(SHARED)
