@@ -11,14 +11,17 @@ use crate::replies::refusal;
 // What a lent line is filled with, so that what is kept can be told.
 pub const FILL: u8 = b'.';
 
+// The line that was written, or the refusal.
+fn given(row: Row, number: u32, lent: &[u8]) -> Row {
+    if number != 0 {
+        return refusal(row, number);
+    }
+    row.text(lent)
+}
+
 // A case in which a line should be written: two rows, one text below the other.
 fn report_written(case: &[u8], number: u32, lent: &[u8], should: &[u8], right: bool) {
-    let row = opened(Operation::Line, case);
-    if number != 0 {
-        refusal(row, number).print();
-    } else {
-        row.text(lent).print();
-    }
+    given(opened(Operation::Line, case), number, lent).print();
     close(
         Row::new()
             .column(GAVE - 10)

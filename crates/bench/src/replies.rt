@@ -67,17 +67,23 @@ pub fn scattered(answer: Scattered) -> Reply {
     }
 }
 
-// The columns in front of what was given.
-pub fn opened(operation: Operation, case: &[u8]) -> Row {
-    let row = Row::new();
-    let named = match operation {
+// The name of an operation.
+fn named(row: Row, operation: Operation) -> Row {
+    match operation {
         Operation::Smooth => row.text(b"smooth"),
         Operation::Fit => row.text(b"fit"),
         Operation::Scatter => row.text(b"scatter"),
         Operation::Start => row.text(b"start"),
         Operation::Line | Operation::Kept => row.text(b"line"),
-    };
-    named.column(CASE).text(case).column(GAVE)
+    }
+}
+
+// The columns in front of what was given.
+pub fn opened(operation: Operation, case: &[u8]) -> Row {
+    named(Row::new(), operation)
+        .column(CASE)
+        .text(case)
+        .column(GAVE)
 }
 
 pub fn refusal(row: Row, number: u32) -> Row {

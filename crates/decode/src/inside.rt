@@ -45,23 +45,10 @@ pub fn unsigned64(bytes: &[u8], at: usize) -> u64
 pub fn row_lies(bytes: usize, at: usize, stride: usize, count: usize) -> bool
     ensures { λ r. ⌜ (r ≡ true → RowLies bytes at stride count) ⌝ }
 {
-    if count == 0 {
-        return true;
+    if (count == 0) | (65536 < count) | (65536 < stride) | (bytes < at) {
+        return count == 0;
     }
-    if 65536 < stride {
-        return false;
-    }
-    if 65536 < count {
-        return false;
-    }
-    if bytes < at {
-        return false;
-    }
-    let room = bytes - at;
-    if room < 8 {
-        return false;
-    }
-    stride * (count - 1) <= room - 8
+    stride * (count - 1) + 8 <= bytes - at
 }
 
 // Fills out with the signed numbers of such a row.

@@ -36,7 +36,7 @@ pub fn unsigned32(bytes: &[u8], at: usize) -> u32
     }
 }
 
-pub fn unsigned64(bytes: &[u8], at: usize) -> u64
+fn unsigned64(bytes: &[u8], at: usize) -> u64
     ensures { λ r. ⌜ r ≡ unsignedAt 8 (now (bytes .entry)) at ⌝ }
 {
     if lies(bytes, at, 8) {
@@ -47,7 +47,7 @@ pub fn unsigned64(bytes: &[u8], at: usize) -> u64
 }
 
 // A pattern of 64 bits as a signed number.
-pub fn twos_complement(n: u64) -> i64
+fn twos_complement(n: u64) -> i64
     ensures { λ r. ⌜ r ≡ twosComplement n ⌝ }
 {
     if n < 0x8000_0000_0000_0000 {

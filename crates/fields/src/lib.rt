@@ -29,7 +29,7 @@ pub fn magnitude(value: i64) -> u64
 }
 
 // The byte + or -.
-pub fn sign(value: i64) -> u8
+fn sign(value: i64) -> u8
     ensures { λ r. ⌜ r ≡ sign value ⌝ }
 {
     if value < 0 { b'-' } else { b'+' }
