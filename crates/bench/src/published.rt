@@ -19,7 +19,7 @@ const RECORD: usize = 240;
 // A bound, so that the reading ends. No input has as many.
 const MOST_RECORDS: u32 = 1000;
 
-// They stand in it as in a hire block that begins at byte 20.
+// The labels stand in a record as in a hire block that begins at its byte 20.
 fn labels(record: &[u8]) -> Labels
     requires { ⌜ length (now «record») ≡ 240 ⌝ }
 {
