@@ -14,7 +14,7 @@ use Rattle.exact.specs.Weights.{weights, place}
 use Rattle.limits.specs.Lists.{anyOutside, rangeRule}
 use Rattle.series.specs.Smooth.{smoothed, smoothRule}
 use Rattle.series.specs.Fit.{total, moment, midpoint, slope, fitRule}
-use Rattle.series.specs.Scatter.{residual, squares, edge, climb, dsg, scatterRule}
+use Rattle.series.specs.Scatter.{residual, squares, threshold, climb, dsg, scatterRule}
 
 pub data Case : Type 0 where
   smooth fit scatter : List ℤ → Case
@@ -53,5 +53,5 @@ cases =
     ∷ []
 
 pub worked : map (λ (c : Case × List ℤ). run (c .0)) cases ≡ map (λ (c : Case × List ℤ). c .1) cases
-unfolding cases sum nearest _when_ _then_ outside dsgRule anyOutside rangeRule tabulate weights smoothed smoothRule place total moment midpoint slope fitRule residual squares edge climb dsg scatterRule
+unfolding cases sum nearest _when_ _then_ outside dsgRule anyOutside rangeRule tabulate weights smoothed smoothRule place total moment midpoint slope fitRule residual squares threshold climb dsg scatterRule
 worked = refl

@@ -2,20 +2,20 @@
 // through the lines that the format documents print, with the fills in our form. Of each case it says what it gave and what it
 // should be, and marks a difference with WRONG; the last row counts them. That it is safe and ends is proved, no more.
 mod counts;
+mod document_cases;
 mod lines;
 mod print;
 mod published;
 mod replies;
-mod technician;
 
 use counts::Tally;
+use document_cases::fit_cases;
+use document_cases::long_line_cases;
+use document_cases::scatter_cases;
+use document_cases::short_line_cases;
+use document_cases::smooth_cases;
+use document_cases::start_cases;
 use published::published_cases;
-use technician::fit_cases;
-use technician::long_line_cases;
-use technician::scatter_cases;
-use technician::short_line_cases;
-use technician::smooth_cases;
-use technician::start_cases;
 
 fn main() {
     let fits = scatter_cases(fit_cases(smooth_cases(Tally::new())));

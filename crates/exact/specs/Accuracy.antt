@@ -6,13 +6,13 @@ use Prim.Native.Nat.{ℕ, suc, _+_, _*_, _-_, _≤_, _<_}
 use native.Mathlib.Nat.{mul-le-mul-left}
 use native.Mathlib.Omega.{arith}
 use lib.IntN.{ℤ, pos, negℤ, _+ℤ_, _-ℤ_, _*ℤ_}
-use Rattle.whole.specs.Square.{squared, size}
+use Rattle.whole.specs.Square.{squared, magnitude}
 use Rattle.whole.specs.Sum.{sum}
 use Rattle.whole.specs.Ring.{one-*ℤ}
 use Rattle.whole.specs.Identity.{identity, quote}
 use Rattle.whole.specs.Linear.{le-by, le-is, lt-is}
 use Rattle.whole.specs.Order.{_⩽_, _⋖_, le-refl, le-of-eq, le-of-lt, le-shift, cancel-le, pos-le, zero-le-pos, mul-le, mul-pos}
-use Rattle.whole.specs.Size.{size-mul, size-combined}
+use Rattle.whole.specs.Magnitude.{magnitude-mul, magnitude-combined}
 use Rattle.exact.specs.Parabola.{LeastParabola, ExactSmoothed}
 use Rattle.exact.specs.Line.{LeastLine, lineMisfit}
 use Rattle.exact.specs.Corrected.{Given, at, block, toA, toB}
@@ -27,9 +27,9 @@ use Rattle.exact.specs.Scattering.{spread, scatter-above, scatter-below}
 -- ---- smoothed and corrected values are within half a picosecond of the exact ones
 
 pub smoothed-near : {m : ℕ → ℤ} {Y Q R e : ℤ} (v : ℤ) → Rounded v (sum 15 (λ i. at weights i *ℤ m i)) (pos 1105)
-    → LeastParabola m Y Q R e → size (pos 2 *ℤ e *ℤ v -ℤ pos 2 *ℤ Y) ⩽ e
+    → LeastParabola m Y Q R e → magnitude (pos 2 *ℤ e *ℤ v -ℤ pos 2 *ℤ Y) ⩽ e
 smoothed-near {m} {Y} {Q} {R} {e} v rounded l =
-    size-combined (pos 2 *ℤ e *ℤ v -ℤ pos 2 *ℤ Y) _ (pos 0) {Y = pos 0} (pos 1105) e (pos 0) (record { lt = tt }) (le-of-lt (l .positive))
+    magnitude-combined (pos 2 *ℤ e *ℤ v -ℤ pos 2 *ℤ Y) _ (pos 0) {Y = pos 0} (pos 1105) e (pos 0) (record { lt = tt }) (le-of-lt (l .positive))
     (le-refl (pos 0))
     (before e v Y ∙ ap (λ (z : ℤ). pos 2210 *ℤ e *ℤ v -ℤ pos 2 *ℤ z) (weights-exact l) ∙ after e v (sum 15 (λ i. at weights i *ℤ m i)))
     rounded (le-refl (pos 0)) (le-of-eq (added e))
@@ -70,7 +70,7 @@ gap-B g e j v y = dropped (toA g (pos 1) j v) (toA g e j y) (at (g .clock) j) �
 
 -- whole values are within half a picosecond of themselves
 near-self : (n : ℕ) (v : ℕ → ℤ) → Near n v v (pos 1)
-near-self n v j h = subst (λ (z : ℤ). size z ⩽ pos 1) (sym (none (v j))) (zero-le-pos 1)
+near-self n v j h = subst (λ (z : ℤ). magnitude z ⩽ pos 1) (sym (none (v j))) (zero-le-pos 1)
   where
     none : (v : ℤ) → pos 2 *ℤ pos 1 *ℤ v -ℤ pos 2 *ℤ v ≡ pos 0
     none v = identity (v ∷ []) (search quote depth 20) tt
@@ -86,19 +86,19 @@ tilt n h = pos-le (omega (arith, mul-le-mul-left n (wide n h)))
 
 -- twice the error of a midpoint, and 2n (n² - 1) times that of a slope
 module _ (n : ℕ) (h : 2 ≤ n) (v : ℕ → ℤ) {Y : ℕ → ℤ} {e P Q d : ℤ} (e-pos : pos 0 ⋖ e) (near : Near n v Y e) (l : LeastLine n Y e P Q d) where
-  midpoint-error : (r : ℤ) → Rounded r (sum n v) (pos 100 *ℤ pos n) → pos 2 *ℤ size (pos 100 *ℤ d *ℤ r -ℤ P) ⩽ pos 101 *ℤ d
+  midpoint-error : (r : ℤ) → Rounded r (sum n v) (pos 100 *ℤ pos n) → pos 2 *ℤ magnitude (pos 100 *ℤ d *ℤ r -ℤ P) ⩽ pos 101 *ℤ d
   midpoint-error r rounded =
-      subst (λ (u : ℤ). u ⩽ pos 101 *ℤ d) (size-mul (pos 2) (pos 100 *ℤ d *ℤ r -ℤ P)) (midpoint-bound 1 n v h e-pos near l r rounded)
+      subst (λ (u : ℤ). u ⩽ pos 101 *ℤ d) (magnitude-mul (pos 2) (pos 100 *ℤ d *ℤ r -ℤ P)) (midpoint-bound 1 n v h e-pos near l r rounded)
 
   slope-error : (r : ℤ) → Rounded r (pos 4 *ℤ sum n (λ j. place n j *ℤ v j)) (pos 1 *ℤ pos (span n))
-      → pos 2 *ℤ pos (span n) *ℤ size (d *ℤ r -ℤ pos 10 *ℤ Q) ⩽ d *ℤ (pos 1 *ℤ pos (span n) +ℤ pos 2 *ℤ (pos n *ℤ pos n))
+      → pos 2 *ℤ pos (span n) *ℤ magnitude (d *ℤ r -ℤ pos 10 *ℤ Q) ⩽ d *ℤ (pos 1 *ℤ pos (span n) +ℤ pos 2 *ℤ (pos n *ℤ pos n))
   slope-error r rounded =
       subst (λ (u : ℤ). u ⩽ d *ℤ (pos 1 *ℤ pos (span n) +ℤ pos 2 *ℤ (pos n *ℤ pos n)))
-      (size-mul (pos 2 *ℤ pos (span n)) (pos 1 *ℤ d *ℤ r -ℤ pos 10 *ℤ Q)
-      ∙ ap (λ (u : ℤ). pos 2 *ℤ pos (span n) *ℤ size (u *ℤ r -ℤ pos 10 *ℤ Q)) (one-*ℤ d))
+      (magnitude-mul (pos 2 *ℤ pos (span n)) (pos 1 *ℤ d *ℤ r -ℤ pos 10 *ℤ Q)
+      ∙ ap (λ (u : ℤ). pos 2 *ℤ pos (span n) *ℤ magnitude (u *ℤ r -ℤ pos 10 *ℤ Q)) (one-*ℤ d))
       (slope-bound 1 n v h e-pos near l r rounded)
 
--- at most 13 / 25 of a unit, with u for the error's size, N for n (n² - 1) and w for n²
+-- at most 13 / 25 of a unit, with u for the error's magnitude, N for n (n² - 1) and w for n²
 hundredths : (N u d w : ℤ) → pos 0 ⋖ N → pos 0 ⩽ d → pos 2 *ℤ N *ℤ u ⩽ d *ℤ (pos 1 *ℤ N +ℤ pos 2 *ℤ w) → pos 50 *ℤ w ⩽ N
     → pos 25 *ℤ u ⩽ pos 13 *ℤ d
 hundredths N u d w N-pos d-pos error tilted =
@@ -116,17 +116,17 @@ hundredths N u d w N-pos d-pos error tilted =
         le-by ρ (search quote depth 20) (omega (arith, le-is ρ (search quote depth 20) p, le-is ρ (search quote depth 20) q))
 
 -- What Fit gives for n whole values: midpoint and slope rounded to the nearest.
-pub record Fitted (n : ℕ) (v : ℕ → ℤ) (midpoint slope : ℤ) : Type 0 where
+pub record RoundedFit (n : ℕ) (v : ℕ → ℤ) (midpoint slope : ℤ) : Type 0 where
   pub midpointRounded : Rounded midpoint (sum n v) (pos 100 *ℤ pos n)
   pub slopeRounded : Rounded slope (pos 4 *ℤ sum n (λ j. place n j *ℤ v j)) (pos 1 *ℤ pos (span n))
 
 -- 0.505 of a unit is within 0.51. At 52 values 0.5 + n / (n² - 1) is 0.5192 of a unit: the next hundredth down, 0.51, is too tight.
 pub accurate-line : (n : ℕ) → 51 ≤ n → (v Y : ℕ → ℤ) (e : ℤ) {midpoint slope : ℤ} → pos 0 ⋖ e → Near n v Y e
-    → Fitted n v midpoint slope → AccurateLine n Y e midpoint slope
+    → RoundedFit n v midpoint slope → AccurateLine n Y e midpoint slope
 accurate-line n h v Y e {midpoint} {slope} e-pos near f =
     record {
       midpointNear = λ P Q d l.
-          let ρ : List ℤ = size (pos 100 *ℤ d *ℤ midpoint -ℤ P) ∷ d ∷ [] in
+          let ρ : List ℤ = magnitude (pos 100 *ℤ d *ℤ midpoint -ℤ P) ∷ d ∷ [] in
           le-by ρ (search quote depth 20)
           (omega (
             arith,
@@ -134,12 +134,12 @@ accurate-line n h v Y e {midpoint} {slope} e-pos near f =
             le-is ρ (search quote depth 20) (midpoint-error n two v e-pos near l midpoint (f .midpointRounded)),
           ));
       slopeNear = λ P Q d l.
-          let ρ : List ℤ = size (d *ℤ slope -ℤ pos 10 *ℤ Q) ∷ d ∷ [] in
+          let ρ : List ℤ = magnitude (d *ℤ slope -ℤ pos 10 *ℤ Q) ∷ d ∷ [] in
           le-by ρ (search quote depth 20)
           (omega (
             arith,
             le-is ρ (search quote depth 20)
-                (hundredths (pos (span n)) (size (d *ℤ slope -ℤ pos 10 *ℤ Q)) d (pos n *ℤ pos n) (span-pos n two) (le-of-lt (l .positive))
+                (hundredths (pos (span n)) (magnitude (d *ℤ slope -ℤ pos 10 *ℤ Q)) d (pos n *ℤ pos n) (span-pos n two) (le-of-lt (l .positive))
                 (slope-error n two v e-pos near l slope (f .slopeRounded)) (tilt n h)),
           ));
     }
@@ -147,23 +147,23 @@ accurate-line n h v Y e {midpoint} {slope} e-pos near f =
     two : 2 ≤ n
     two = omega arith
 
--- What Scatter gives for n whole values: residuals rounded to the nearest, the sum q of their squares, and the number whose two edges hold q.
-pub record Scattered (n : ℕ) (v : ℕ → ℤ) (dsg : ℤ) : Type 0 where
+-- What Scatter gives for n whole values: residuals rounded to the nearest, the sum q of their squares, and the number whose two thresholds hold q.
+pub record RoundedScatter (n : ℕ) (v : ℕ → ℤ) (dsg : ℤ) : Type 0 where
   pub residual : ℕ → ℤ
   pub rounded : (j : ℕ) → j < n → Rounded (residual j) (spread n v j) (pos (span n))
   pub notNegative : pos 0 ⩽ dsg
-  pub edge : pos 1 ⩽ dsg → pos n *ℤ squared (pos 100 *ℤ dsg -ℤ pos 50) ⩽ sum n (λ j. squared (residual j))
-  pub nextEdge : sum n (λ j. squared (residual j)) ⩽ pos n *ℤ squared (pos 100 *ℤ dsg +ℤ pos 50)
+  pub threshold : pos 1 ⩽ dsg → pos n *ℤ squared (pos 100 *ℤ dsg -ℤ pos 50) ⩽ sum n (λ j. squared (residual j))
+  pub nextThreshold : sum n (λ j. squared (residual j)) ⩽ pos n *ℤ squared (pos 100 *ℤ dsg +ℤ pos 50)
 
-pub accurate-scatter : (n : ℕ) → 2 ≤ n → (v Y : ℕ → ℤ) (e : ℤ) {dsg : ℤ} → pos 0 ⋖ e → Near n v Y e → Scattered n v dsg
+pub accurate-scatter : (n : ℕ) → 2 ≤ n → (v Y : ℕ → ℤ) (e : ℤ) {dsg : ℤ} → pos 0 ⋖ e → Near n v Y e → RoundedScatter n v dsg
     → AccurateScatter n Y e dsg
 accurate-scatter n h v Y e {dsg} e-pos near s =
     record {
       atMost = λ P Q d l.
-          le-shift (scatter-below n v h e-pos near l (s .residual) (s .rounded) (pos 100 *ℤ dsg +ℤ pos 50) above (s .nextEdge))
+          le-shift (scatter-below n v h e-pos near l (s .residual) (s .rounded) (pos 100 *ℤ dsg +ℤ pos 50) above (s .nextThreshold))
           (identity (lineMisfit n Y e P Q d ∷ pos n ∷ dsg ∷ d ∷ e ∷ []) (search quote depth 20 fits 4000) tt);
       atLeast = λ P Q d l k.
-          le-shift (scatter-above n v h e-pos near l (s .residual) (s .rounded) (pos 100 *ℤ dsg -ℤ pos 50) (below k) (s .edge k))
+          le-shift (scatter-above n v h e-pos near l (s .residual) (s .rounded) (pos 100 *ℤ dsg -ℤ pos 50) (below k) (s .threshold k))
           (identity (lineMisfit n Y e P Q d ∷ pos n ∷ dsg ∷ d ∷ e ∷ []) (search quote depth 20 fits 4000) tt);
     }
   where
@@ -185,11 +185,11 @@ pub record Computed (n : ℕ) (g : Given) (v A B C D : ℕ → ℤ) (f : Figures
   pub isB : (j : ℕ) → j < n → B j ≡ toB g (pos 1) j (v j)
   pub isC : (j : ℕ) → j < n → C j ≡ at (g .troposphere) j
   pub isD : (j : ℕ) → j < n → D j ≡ at (g .ionosphere) j
-  pub fitA : Fitted n A (f .refsv) (f .srsv)
-  pub fitB : Fitted n B (f .refsys) (f .srsys)
-  pub fitC : Fitted n C (f .mdtr) (f .smdt)
-  pub fitD : Fitted n D (f .mdio) (f .smdi)
-  pub scatterB : Scattered n B (f .dsg)
+  pub fitA : RoundedFit n A (f .refsv) (f .srsv)
+  pub fitB : RoundedFit n B (f .refsys) (f .srsys)
+  pub fitC : RoundedFit n C (f .mdtr) (f .smdt)
+  pub fitD : RoundedFit n D (f .mdio) (f .smdi)
+  pub scatterB : RoundedScatter n B (f .dsg)
 
 pub accurate-track : (n : ℕ) → 51 ≤ n → (g : Given) (v A B C D : ℕ → ℤ) (f : Figures) → Computed n g v A B C D f
     → AccurateTrack n g f
@@ -205,7 +205,7 @@ accurate-track n h g v A B C D f t =
   where
     -- values that are w's have w's errors
     moved : (Y : ℕ → ℤ) {e : ℤ} (u w : ℕ → ℤ) → ((j : ℕ) → j < n → u j ≡ w j) → Near n w Y e → Near n u Y e
-    moved Y {e} u w same near j k = subst (λ (z : ℤ). size (pos 2 *ℤ e *ℤ z -ℤ pos 2 *ℤ Y j) ⩽ e) (sym (same j k)) (near j k)
+    moved Y {e} u w same near j k = subst (λ (z : ℤ). magnitude (pos 2 *ℤ e *ℤ z -ℤ pos 2 *ℤ Y j) ⩽ e) (sym (same j k)) (near j k)
 
     near : (Y : ℕ → ℤ) (e : ℤ) → ExactSmoothed n (block g) Y e → Near n v Y e
     near Y e x j k = smoothed-near (v j) (t .smoothed j k) (x .at j k .2)
@@ -213,12 +213,12 @@ accurate-track n h g v A B C D f t =
     near-A : (Y : ℕ → ℤ) (e : ℤ) → ExactSmoothed n (block g) Y e → Near n A (λ j. toA g e j (Y j)) e
     near-A Y e x =
         moved (λ j. toA g e j (Y j)) A (λ j. toA g (pos 1) j (v j)) (t .isA)
-        (λ j k. subst (λ (z : ℤ). size z ⩽ e) (sym (gap-A g e j (v j) (Y j))) (near Y e x j k))
+        (λ j k. subst (λ (z : ℤ). magnitude z ⩽ e) (sym (gap-A g e j (v j) (Y j))) (near Y e x j k))
 
     near-B : (Y : ℕ → ℤ) (e : ℤ) → ExactSmoothed n (block g) Y e → Near n B (λ j. toB g e j (Y j)) e
     near-B Y e x =
         moved (λ j. toB g e j (Y j)) B (λ j. toB g (pos 1) j (v j)) (t .isB)
-        (λ j k. subst (λ (z : ℤ). size z ⩽ e) (sym (gap-B g e j (v j) (Y j))) (near Y e x j k))
+        (λ j k. subst (λ (z : ℤ). magnitude z ⩽ e) (sym (gap-B g e j (v j) (Y j))) (near Y e x j k))
 
     near-column : (u w : ℕ → ℤ) → ((j : ℕ) → j < n → u j ≡ w j) → Near n u w (pos 1)
     near-column u w same = moved w u w same (near-self n w)

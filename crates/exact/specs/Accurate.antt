@@ -4,7 +4,7 @@
 use Prim.Native.Nat.{ℕ}
 use lib.IntN.{ℤ, pos, _+ℤ_, _-ℤ_, _*ℤ_}
 use lib.Signed.{_≤ℤ_}
-use Rattle.whole.specs.Square.{squared, size}
+use Rattle.whole.specs.Square.{squared, magnitude}
 use Rattle.exact.specs.Parabola.{ExactSmoothed}
 use Rattle.exact.specs.Line.{LeastLine, lineMisfit}
 use Rattle.exact.specs.Corrected.{Given, at, block, toA, toB}
@@ -12,9 +12,9 @@ use Rattle.exact.specs.Corrected.{Given, at, block, toA, toB}
 -- A midpoint in 0.1 ns is within 0.51 of its unit of P / 100d, and a slope in 0.1 ps/s within 0.52 of its unit of 10Q / d, where
 -- (P + Qt) / d is the least line through the n values Y j / e.
 pub record AccurateLine (n : ℕ) (Y : ℕ → ℤ) (e midpoint slope : ℤ) : Type 0 where
-  pub midpointNear : (P Q d : ℤ) → LeastLine n Y e P Q d → size (pos 100 *ℤ d *ℤ midpoint -ℤ P) ≤ℤ (pos 51 *ℤ d)
+  pub midpointNear : (P Q d : ℤ) → LeastLine n Y e P Q d → magnitude (pos 100 *ℤ d *ℤ midpoint -ℤ P) ≤ℤ (pos 51 *ℤ d)
   pub slopeNear : (P Q d : ℤ) → LeastLine n Y e P Q d
-      → (pos 100 *ℤ size (d *ℤ slope -ℤ pos 10 *ℤ Q)) ≤ℤ (pos 52 *ℤ d)
+      → (pos 100 *ℤ magnitude (d *ℤ slope -ℤ pos 10 *ℤ Q)) ≤ℤ (pos 52 *ℤ d)
 
 -- M is the least sum divided by n, lineMisfit / (n (2de)²). A DSG is within 0.51 of its unit, 51 ps, of its root: M is at most
 -- (100 DSG + 51)² and, for a DSG from 1 up, at least (100 DSG - 51)².

@@ -7,16 +7,16 @@ use mathlib.Core.List.{List, [], _∷_}
 use Prim.Native.Nat.{ℕ, suc, _+_, _*_, _-_, _≤_, _<_}
 use native.Mathlib.Omega.{arith}
 use lib.IntN.{ℤ, pos, negℤ, _+ℤ_, _-ℤ_, _*ℤ_}
-use Rattle.whole.specs.Square.{squared, size}
+use Rattle.whole.specs.Square.{squared, magnitude}
 use Rattle.whole.specs.Sum.{sum}
 use Rattle.whole.specs.Identity.{identity, quote}
 use Rattle.whole.specs.Linear.{le-by, le-is, lt-is}
 use Rattle.whole.specs.Order.{_⩽_, _⋖_, le-refl, le-trans, le-of-eq, le-of-lt, le-slack, le-shift, pos-lt, zero-le-pos, mul-nonneg, mul-pos, mul-le, mul-le-mul, cancel-le, square-nonneg, square-le, square-pos}
-use Rattle.whole.specs.Size.{size-mul, size-nonneg, size-combined, square-size, size-scaled}
-use Rattle.whole.specs.Sums.{sum-eq, sums-le, sums, sum-cong, sum-le, sum-constant, sum-squares-nonneg, size-sum, size-sum-le}
+use Rattle.whole.specs.Magnitude.{magnitude-mul, magnitude-nonneg, magnitude-combined, square-magnitude, magnitude-scaled}
+use Rattle.whole.specs.Sums.{sum-eq, sums-le, sums, sum-cong, sum-le, sum-constant, sum-squares-nonneg, magnitude-sum, magnitude-sum-le}
 use Rattle.exact.specs.Line.{LeastLine}
 use Rattle.exact.specs.Weights.{place}
-use Rattle.exact.specs.Places.{span, sum-size-place}
+use Rattle.exact.specs.Places.{span, sum-magnitude-place}
 use Rattle.exact.specs.Fitting.{midpoint-exact, slope-exact}
 
 -- twice the difference of v and Y / e, times e
@@ -25,11 +25,11 @@ gap v Y e j = pos 2 *ℤ e *ℤ v j -ℤ pos 2 *ℤ Y j
 
 -- each v is within half a step of Y / e
 abbrev pub Near : ℕ → (ℕ → ℤ) → (ℕ → ℤ) → ℤ → Type 0
-Near n v Y e = (j : ℕ) → j < n → size (gap v Y e j) ⩽ e
+Near n v Y e = (j : ℕ) → j < n → magnitude (gap v Y e j) ⩽ e
 
 -- a number r is within half of the fraction a / b
 abbrev pub Rounded : ℤ → ℤ → ℤ → Type 0
-Rounded r a b = size (pos 2 *ℤ b *ℤ r -ℤ pos 2 *ℤ a) ⩽ b
+Rounded r a b = magnitude (pos 2 *ℤ b *ℤ r -ℤ pos 2 *ℤ a) ⩽ b
 
 module _ (s n : ℕ) (v : ℕ → ℤ) {Y : ℕ → ℤ} {e P Q d : ℤ} (h : 2 ≤ n) (e-pos : pos 0 ⋖ e) (near : Near n v Y e) (l : LeastLine n Y e P Q d) where
   one : 1 ≤ n
@@ -40,17 +40,17 @@ module _ (s n : ℕ) (v : ℕ → ℤ) {Y : ℕ → ℤ} {e P Q d : ℤ} (h : 2 
 
   -- ---- the midpoint: half a unit, and half a step for the mean of the values
 
-  sum-near : size (pos 2 *ℤ e *ℤ sum n v -ℤ pos 2 *ℤ sum n Y) ⩽ pos n *ℤ e
-  sum-near = subst (λ (z : ℤ). size z ⩽ pos n *ℤ e) collected (size-sum-le n (gap v Y e) near)
+  sum-near : magnitude (pos 2 *ℤ e *ℤ sum n v -ℤ pos 2 *ℤ sum n Y) ⩽ pos n *ℤ e
+  sum-near = subst (λ (z : ℤ). magnitude z ⩽ pos n *ℤ e) collected (magnitude-sum-le n (gap v Y e) near)
     where
       collected : sum n (gap v Y e) ≡ pos 2 *ℤ e *ℤ sum n v -ℤ pos 2 *ℤ sum n Y
       collected = sum-eq n (search sums depth 12) (λ j k. refl)
 
   -- of 100 s steps in a unit: |r - P / 100sd| is at most (100s + 1) / 200s
   pub midpoint-bound : (r : ℤ) → Rounded r (sum n v) (pos 100 *ℤ pos s *ℤ pos n)
-      → size (pos 2 *ℤ (pos 100 *ℤ pos s *ℤ d *ℤ r -ℤ P)) ⩽ (pos 100 *ℤ pos s +ℤ pos 1) *ℤ d
+      → magnitude (pos 2 *ℤ (pos 100 *ℤ pos s *ℤ d *ℤ r -ℤ P)) ⩽ (pos 100 *ℤ pos s +ℤ pos 1) *ℤ d
   midpoint-bound r rounded =
-      size-combined _ _ _ (e *ℤ pos n) (e *ℤ d) d (mul-pos e-pos (pos-lt one)) (le-of-lt (mul-pos e-pos d-pos)) (le-of-lt d-pos)
+      magnitude-combined _ _ _ (e *ℤ pos n) (e *ℤ d) d (mul-pos e-pos (pos-lt one)) (le-of-lt (mul-pos e-pos d-pos)) (le-of-lt d-pos)
       (before e (pos n) (pos s) d r P ∙ ap (λ (z : ℤ). pos 200 *ℤ e *ℤ d *ℤ pos s *ℤ pos n *ℤ r -ℤ pos 2 *ℤ z) (sym (midpoint-exact one e-pos l))
       ∙ after e (pos n) (pos s) d r (sum n v) (sum n Y))
       rounded sum-near (le-of-eq (added e (pos n) (pos s) d))
@@ -70,15 +70,15 @@ module _ (s n : ℕ) (v : ℕ → ℤ) {Y : ℕ → ℤ} {e P Q d : ℤ} (h : 2 
 
   -- ---- the slope: half a unit, and what half a step at each value can tilt the line
 
-  moment-near : size (pos 2 *ℤ (pos 2 *ℤ e *ℤ sum n (λ j. place n j *ℤ v j) -ℤ pos 2 *ℤ sum n (λ j. place n j *ℤ Y j)))
+  moment-near : magnitude (pos 2 *ℤ (pos 2 *ℤ e *ℤ sum n (λ j. place n j *ℤ v j) -ℤ pos 2 *ℤ sum n (λ j. place n j *ℤ Y j)))
       ⩽ e *ℤ (pos n *ℤ pos n)
   moment-near =
       le-trans
-      (subst (λ (z : ℤ). size z ⩽ sum n (λ j. size (pos 2 *ℤ (place n j *ℤ gap v Y e j)))) collected
-      (size-sum n (λ j. pos 2 *ℤ (place n j *ℤ gap v Y e j))))
+      (subst (λ (z : ℤ). magnitude z ⩽ sum n (λ j. magnitude (pos 2 *ℤ (place n j *ℤ gap v Y e j)))) collected
+      (magnitude-sum n (λ j. pos 2 *ℤ (place n j *ℤ gap v Y e j))))
       (le-trans (sums-le n (search sums depth 12) term)
-      (subst (λ (z : ℤ). z ⩽ e *ℤ (pos n *ℤ pos n)) (reordered e (sum n (λ j. size (place n j))))
-      (mul-le e (le-of-lt e-pos) (sum-size-place n))))
+      (subst (λ (z : ℤ). z ⩽ e *ℤ (pos n *ℤ pos n)) (reordered e (sum n (λ j. magnitude (place n j))))
+      (mul-le e (le-of-lt e-pos) (sum-magnitude-place n))))
     where
       collected : sum n (λ j. pos 2 *ℤ (place n j *ℤ gap v Y e j))
           ≡ pos 2 *ℤ (pos 2 *ℤ e *ℤ sum n (λ j. place n j *ℤ v j) -ℤ pos 2 *ℤ sum n (λ j. place n j *ℤ Y j))
@@ -90,22 +90,22 @@ module _ (s n : ℕ) (v : ℕ → ℤ) {Y : ℕ → ℤ} {e P Q d : ℤ} (h : 2 
       reordered e u = identity (e ∷ u ∷ []) (search quote depth 20) tt
 
       term : (j : ℕ) → j < n
-          → size (pos 2 *ℤ (place n j *ℤ gap v Y e j)) ⩽ pos 2 *ℤ e *ℤ size (place n j)
+          → magnitude (pos 2 *ℤ (place n j *ℤ gap v Y e j)) ⩽ pos 2 *ℤ e *ℤ magnitude (place n j)
       term j k =
           le-trans
-          (le-of-eq (size-mul (pos 2) (place n j *ℤ gap v Y e j) ∙ ap (λ (z : ℤ). pos 2 *ℤ z) (size-mul (place n j) (gap v Y e j))))
-          (le-trans (mul-le (pos 2) (zero-le-pos 2) (mul-le (size (place n j)) (size-nonneg (place n j)) (near j k)))
-          (le-of-eq (swapped e (size (place n j)))))
+          (le-of-eq (magnitude-mul (pos 2) (place n j *ℤ gap v Y e j) ∙ ap (λ (z : ℤ). pos 2 *ℤ z) (magnitude-mul (place n j) (gap v Y e j))))
+          (le-trans (mul-le (pos 2) (zero-le-pos 2) (mul-le (magnitude (place n j)) (magnitude-nonneg (place n j)) (near j k)))
+          (le-of-eq (swapped e (magnitude (place n j)))))
         where
           swapped : (e u : ℤ) → pos 2 *ℤ (u *ℤ e) ≡ pos 2 *ℤ e *ℤ u
           swapped e u = identity (e ∷ u ∷ []) (search quote depth 20) tt
 
   -- with N = n (n² - 1): |r - 10Q / sd| is at most 1/2 + n² / sN
   pub slope-bound : (r : ℤ) → Rounded r (pos 4 *ℤ sum n (λ j. place n j *ℤ v j)) (pos s *ℤ pos (span n))
-      → size (pos 2 *ℤ pos (span n) *ℤ (pos s *ℤ d *ℤ r -ℤ pos 10 *ℤ Q))
+      → magnitude (pos 2 *ℤ pos (span n) *ℤ (pos s *ℤ d *ℤ r -ℤ pos 10 *ℤ Q))
       ⩽ d *ℤ (pos s *ℤ pos (span n) +ℤ pos 2 *ℤ (pos n *ℤ pos n))
   slope-bound r rounded =
-      size-combined _ _ _ e (e *ℤ d) (pos 2 *ℤ d) e-pos (le-of-lt (mul-pos e-pos d-pos)) (mul-nonneg (zero-le-pos 2) (le-of-lt d-pos))
+      magnitude-combined _ _ _ e (e *ℤ d) (pos 2 *ℤ d) e-pos (le-of-lt (mul-pos e-pos d-pos)) (mul-nonneg (zero-le-pos 2) (le-of-lt d-pos))
       (before e (pos (span n)) (pos s) d r Q
       ∙ ap (λ (z : ℤ). pos 2 *ℤ e *ℤ d *ℤ pos s *ℤ pos (span n) *ℤ r -ℤ pos 4 *ℤ z) (sym (slope-exact one e-pos l))
       ∙ after e (pos (span n)) (pos s) d r (sum n (λ j. place n j *ℤ v j)) (sum n (λ j. place n j *ℤ Y j)))

@@ -1,4 +1,4 @@
--- The places 2j - (n - 1) of n values (module Weights). Value j lies 15 / 2 times its place, in seconds, from the mean date. The places add up to 0, their squares to n (n² - 1) / 3, and their sizes to at most n² / 2.
+-- The places 2j - (n - 1) of n values (module Weights). Value j lies 15 / 2 times its place, in seconds, from the mean date. The places add up to 0, their squares to n (n² - 1) / 3, and their magnitudes to at most n² / 2.
 -- Assumes nothing.
 use mathlib.Core.Path.{_≡_, refl, sym, ap, ap₂, _∙_, subst, subst₂}
 use mathlib.Core.List.{List, [], _∷_}
@@ -6,11 +6,11 @@ use Prim.Native.Nat.{ℕ, zero, suc, _+_, _*_, _-_, _≤_, _<_}
 use native.Mathlib.Nat.{one-le-mul}
 use native.Mathlib.Omega.{arith}
 use lib.IntN.{ℤ, pos, negℤ, _+ℤ_, _-ℤ_, _*ℤ_}
-use Rattle.whole.specs.Square.{squared, size}
+use Rattle.whole.specs.Square.{squared, magnitude}
 use Rattle.whole.specs.Sum.{sum}
 use Rattle.whole.specs.Identity.{identity, quote}
 use Rattle.whole.specs.Order.{_⩽_, _⋖_, le-refl, le-shift}
-use Rattle.whole.specs.Size.{size-neg}
+use Rattle.whole.specs.Magnitude.{magnitude-neg}
 use Rattle.whole.specs.Sums.{sum-cong, sum-first}
 use Rattle.exact.specs.Line.{twiceMeanDate, twiceSeconds}
 use Rattle.exact.specs.Weights.{place}
@@ -131,10 +131,10 @@ place-inside n j h = place-from (suc (suc n)) (omega arith) (suc j) ∙ shifted 
     shifted : pos (2 * suc j) -ℤ (pos (suc (suc n)) -ℤ pos 1) ≡ pos (2 * j) -ℤ (pos n -ℤ pos 1)
     shifted = ap₂ (λ (a b : ℤ). a -ℤ (b -ℤ pos 1)) J N ∙ cancel (pos (2 * j)) (pos n)
 
-size-first : (n : ℕ) → size (place (suc (suc n)) 0) ≡ pos (suc n)
-size-first n =
-    ap size {x = place (suc (suc n)) 0} {y = negℤ (pos (suc n))} (place-from (suc (suc n)) (omega arith) 0 ∙ first)
-    ∙ size-neg (pos (suc n))
+magnitude-first : (n : ℕ) → magnitude (place (suc (suc n)) 0) ≡ pos (suc n)
+magnitude-first n =
+    ap magnitude {x = place (suc (suc n)) 0} {y = negℤ (pos (suc n))} (place-from (suc (suc n)) (omega arith) 0 ∙ first)
+    ∙ magnitude-neg (pos (suc n))
   where
     cancel : (n : ℤ) → pos 0 -ℤ (n +ℤ pos 1 -ℤ pos 1) ≡ negℤ n
     cancel n = identity (n ∷ []) (search quote depth 20) tt
@@ -142,8 +142,8 @@ size-first n =
     first : pos (2 * 0) -ℤ (pos (suc (suc n)) -ℤ pos 1) ≡ negℤ (pos (suc n))
     first = ap (λ (z : ℤ). pos 0 -ℤ (z -ℤ pos 1)) (one-more (suc n)) ∙ cancel (pos (suc n))
 
-size-last : (n : ℕ) → size (place (suc (suc n)) (suc n)) ≡ pos (suc n)
-size-last n = ap size {x = place (suc (suc n)) (suc n)} {y = pos (suc n)} (place-from (suc (suc n)) (omega arith) (suc n) ∙ last)
+magnitude-last : (n : ℕ) → magnitude (place (suc (suc n)) (suc n)) ≡ pos (suc n)
+magnitude-last n = ap magnitude {x = place (suc (suc n)) (suc n)} {y = pos (suc n)} (place-from (suc (suc n)) (omega arith) (suc n) ∙ last)
   where
     cancel : (n : ℤ) → pos 2 *ℤ n -ℤ (n +ℤ pos 1 -ℤ pos 1) ≡ n
     cancel n = identity (n ∷ []) (search quote depth 20) tt
@@ -152,23 +152,23 @@ size-last n = ap size {x = place (suc (suc n)) (suc n)} {y = pos (suc n)} (place
     last = ap (λ (z : ℤ). pos (2 * suc n) -ℤ (z -ℤ pos 1)) (one-more (suc n)) ∙ cancel (pos (suc n))
 
 -- 2 Σ |2j - (n - 1)| ≤ n², in steps of two
-pub sum-size-place : (n : ℕ) → pos 2 *ℤ sum n (λ j. size (place n j)) ⩽ pos n *ℤ pos n
+pub sum-magnitude-place : (n : ℕ) → pos 2 *ℤ sum n (λ j. magnitude (place n j)) ⩽ pos n *ℤ pos n
 unfolding sum place
-sum-size-place zero = le-refl (pos 0)
-sum-size-place (suc zero) = record { le = tt }
-sum-size-place (suc (suc n)) =
-    subst₂ (λ (u N : ℤ). pos 2 *ℤ u ⩽ N *ℤ N) (sym both-ends) (sym two-more) (grown (pos n) (sum n (λ j. size (place n j))) (sum-size-place n))
+sum-magnitude-place zero = le-refl (pos 0)
+sum-magnitude-place (suc zero) = record { le = tt }
+sum-magnitude-place (suc (suc n)) =
+    subst₂ (λ (u N : ℤ). pos 2 *ℤ u ⩽ N *ℤ N) (sym both-ends) (sym two-more) (grown (pos n) (sum n (λ j. magnitude (place n j))) (sum-magnitude-place n))
   where
     two-more : pos (suc (suc n)) ≡ pos n +ℤ pos 2
     two-more = ap pos {x = suc (suc n)} {y = n + 2} (omega arith)
 
-    both-ends : sum (suc (suc n)) (λ j. size (place (suc (suc n)) j))
-        ≡ pos n +ℤ pos 1 +ℤ sum n (λ j. size (place n j)) +ℤ (pos n +ℤ pos 1)
+    both-ends : sum (suc (suc n)) (λ j. magnitude (place (suc (suc n)) j))
+        ≡ pos n +ℤ pos 1 +ℤ sum n (λ j. magnitude (place n j)) +ℤ (pos n +ℤ pos 1)
     both-ends =
         ap₂ _+ℤ_
-        (sum-first n (λ j. size (place (suc (suc n)) j))
-        ∙ ap₂ _+ℤ_ (size-first n ∙ one-more n) (sum-cong n (λ j h. ap size (place-inside n j h))))
-        (size-last n ∙ one-more n)
+        (sum-first n (λ j. magnitude (place (suc (suc n)) j))
+        ∙ ap₂ _+ℤ_ (magnitude-first n ∙ one-more n) (sum-cong n (λ j h. ap magnitude (place-inside n j h))))
+        (magnitude-last n ∙ one-more n)
 
     grown : (n u : ℤ) → pos 2 *ℤ u ⩽ n *ℤ n → pos 2 *ℤ (n +ℤ pos 1 +ℤ u +ℤ (n +ℤ pos 1)) ⩽ (n +ℤ pos 2) *ℤ (n +ℤ pos 2)
     grown n u h = le-shift h (identity (n ∷ u ∷ []) (search quote depth 20 fits 4000) tt)

@@ -8,12 +8,12 @@ use mathlib.Core.List.{List, [], _∷_}
 use Prim.Native.Nat.{ℕ, suc, _+_, _*_, _-_, _≤_, _<_}
 use native.Mathlib.Omega.{arith}
 use lib.IntN.{ℤ, pos, negℤ, _+ℤ_, _-ℤ_, _*ℤ_}
-use Rattle.whole.specs.Square.{squared, size}
+use Rattle.whole.specs.Square.{squared, magnitude}
 use Rattle.whole.specs.Sum.{sum}
 use Rattle.whole.specs.Identity.{identity, quote}
 use Rattle.whole.specs.Linear.{le-by, le-is}
 use Rattle.whole.specs.Order.{_⩽_, _⋖_, lt-le-trans, le-trans, le-of-eq, le-slack, le-shift, add-le, sub-nonneg, zero-le-pos, mul-nonneg, mul-le, cancel-le, square-nonneg, square-le, square-pos}
-use Rattle.whole.specs.Size.{size-nonneg, square-size}
+use Rattle.whole.specs.Magnitude.{magnitude-nonneg, square-magnitude}
 use Rattle.whole.specs.Sums.{sum-eq, sums-le, sums, sum-squares-nonneg}
 use Rattle.exact.specs.Line.{lineResidual, lineMisfit, LeastLine}
 use Rattle.exact.specs.Weights.{place}
@@ -217,8 +217,8 @@ module _ (n : ℕ) (v : ℕ → ℤ) {Y : ℕ → ℤ} {e P Q d : ℤ} (h : 2 �
           ≡ d *ℤ e *ℤ (pos 2 *ℤ N *ℤ r -ℤ pos 2 *ℤ s) +ℤ d *ℤ (pos 2 *ℤ e *ℤ s -ℤ pos 2 *ℤ t)
       after N d e r s t = identity (N ∷ d ∷ e ∷ r ∷ s ∷ t ∷ []) (search quote depth 20 fits 4000) tt
 
-  square-within : (x b : ℤ) → size x ⩽ b → squared x ⩽ squared b
-  square-within x b k = subst (λ (z : ℤ). z ⩽ squared b) (square-size x) (square-le (size-nonneg x) k)
+  square-within : (x b : ℤ) → magnitude x ⩽ b → squared x ⩽ squared b
+  square-within x b k = subst (λ (z : ℤ). z ⩽ squared b) (square-magnitude x) (square-le (magnitude-nonneg x) k)
 
   apart-square : (j : ℕ) → j < n
       → squared N *ℤ squared (apart j)

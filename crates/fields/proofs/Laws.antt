@@ -13,7 +13,7 @@ use lib.Dec.{ltb}
 use borrow.Author.Tests.{ltb-true, ltb-false, le-leb, lt-leb}
 use lib.IntN.{ℤ, pos, negsuc, negℤ, natAbs}
 use borrow.Rule.Slice.PartMut.{putMid, midOf}
-use Rattle.fields.specs.Text.{decimal, sign, signed, hexDigit, hexadecimal, total}
+use Rattle.fields.specs.Text.{decimal, sign, signed, hexDigit, hexadecimal, byteSum}
 use Rattle.fields.specs.Read.{digitsAfter, readDecimal, readSigned, readDigit, readHexadecimal}
 use Rattle.fields.proofs.Lists.{drop-set-same}
 
@@ -52,17 +52,17 @@ pub length-hexadecimal : (n : ℕ) → length (hexadecimal n) ≡ 2
 unfolding hexadecimal
 length-hexadecimal n = refl
 
-total-append : (xs ys : List ℕ) → total (xs ++ ys) ≡ total xs + total ys
-unfolding total
-total-append [] ys = omega arith
-total-append (x ∷ xs) ys = omega (arith, total-append xs ys)
+byteSum-append : (xs ys : List ℕ) → byteSum (xs ++ ys) ≡ byteSum xs + byteSum ys
+unfolding byteSum
+byteSum-append [] ys = omega arith
+byteSum-append (x ∷ xs) ys = omega (arith, byteSum-append xs ys)
 
 -- the sum of one byte more
-pub total-turn : (text : List ℕ) (i : ℕ) → i < length text → total (take (i + 1) text) ≡ total (take i text) + getD text i 0
-unfolding total
-total-turn text i h =
+pub byteSum-turn : (text : List ℕ) (i : ℕ) → i < length text → byteSum (take (i + 1) text) ≡ byteSum (take i text) + getD text i 0
+unfolding byteSum
+byteSum-turn text i h =
     rw (add-one, take-suc text i 0)
-    (total-append (take i text) (getD text i 0 ∷ []) ∙ omega arith)
+    (byteSum-append (take i text) (getD text i 0 ∷ []) ∙ omega arith)
 
 -- an empty part takes no sign and no digit
 pub empty-signed : (out : List ℕ) (z : ℤ) → length out ≤ 0 → out ≡ signed (length out) z

@@ -32,9 +32,9 @@ unfoldable pub hexadecimal : ℕ → List ℕ
 hexadecimal n = hexDigit (n / 16) ∷ hexDigit n ∷ []
 
 -- The sum of bytes, and the checksum, which is that sum modulo 256.
-unfoldable pub total : List ℕ → ℕ
-total [] = 0
-total (b ∷ bs) = b + total bs
+unfoldable pub byteSum : List ℕ → ℕ
+byteSum [] = 0
+byteSum (b ∷ bs) = b + byteSum bs
 
 unfoldable pub checksum : List ℕ → ℕ
-checksum text = total text % 256
+checksum text = byteSum text % 256

@@ -17,20 +17,20 @@ use Rattle.whole.specs.Table.{tabulate}
 use Rattle.whole.specs.Tables.{tabulate-getD}
 use Rattle.exact.specs.Corrected.{Given, at, block, toA, toB}
 use Rattle.exact.specs.Accurate.{AccurateTrack}
-use Rattle.exact.specs.Accuracy.{Fitted, Scattered, Computed, accurate-track}
+use Rattle.exact.specs.Accuracy.{RoundedFit, RoundedScatter, Computed, accurate-track}
 use Rattle.exact.specs.Weights.{weights, place}
 use Rattle.exact.specs.Places.{span}
 use Rattle.exact.specs.Bounds.{Rounded}
 use Rattle.exact.specs.Scattering.{spread}
 use Rattle.series.specs.Smooth.{smoothed}
 use Rattle.series.specs.Fit.{total, moment, midpoint, slope}
-use Rattle.series.specs.Scatter.{residual, squares, edge, dsg}
+use Rattle.series.specs.Scatter.{residual, squares, threshold, dsg}
 use Rattle.fit.specs.Track.{smoothedAt, valueA, valueB, valueC, valueD, recordOf, results, figures, tracked, trackNumber, trackRule}
 use Rattle.fit.specs.declared.Tracked.{Tracked}
-use Rattle.series.proofs.Edges.{Greatest, dsg-greatest}
+use Rattle.series.proofs.Thresholds.{Greatest, dsg-greatest}
 
 -- midpoint and slope are rounded to the nearest
-fitted : (v : ℕ → ℤ) → Fitted 52 v (midpoint 1 52 v) (slope 1 52 v)
+fitted : (v : ℕ → ℤ) → RoundedFit 52 v (midpoint 1 52 v) (slope 1 52 v)
 unfolding midpoint slope total moment
 fitted v =
     record {
@@ -38,18 +38,18 @@ fitted v =
       slopeRounded = nearest-within (pos 4 *ℤ sum 52 (λ j. place 52 j *ℤ v j)) 140556 (lit< tt);
     }
 
--- a residual is rounded to the nearest, and DSG's edges hold the sum of their squares
+-- a residual is rounded to the nearest, and DSG's thresholds hold the sum of their squares
 rounded : (v : ℕ → ℤ) (j : ℕ) → Rounded (residual 52 v j) (spread 52 v j) (pos (span 52))
 unfolding residual spread total moment
 rounded v j = nearest-within _ 140556 (lit< tt)
 
-edge-is : (n d : ℕ) → edge 1 n d ≡ pos n *ℤ squared (pos 100 *ℤ pos d -ℤ pos 50)
-unfolding edge
-edge-is n d = ap (λ (z : ℤ). pos n *ℤ squared z) (one-*ℤ (pos (100 * d) -ℤ pos 50))
+threshold-is : (n d : ℕ) → threshold 1 n d ≡ pos n *ℤ squared (pos 100 *ℤ pos d -ℤ pos 50)
+unfolding threshold
+threshold-is n d = ap (λ (z : ℤ). pos n *ℤ squared z) (one-*ℤ (pos (100 * d) -ℤ pos 50))
 
-next-edge : (n d : ℕ) → edge 1 n (suc d) ≡ pos n *ℤ squared (pos 100 *ℤ pos d +ℤ pos 50)
-next-edge n d =
-    edge-is n (suc d)
+next-threshold : (n d : ℕ) → threshold 1 n (suc d) ≡ pos n *ℤ squared (pos 100 *ℤ pos d +ℤ pos 50)
+next-threshold n d =
+    threshold-is n (suc d)
     ∙ ap (λ (k : ℕ). pos n *ℤ squared (pos k -ℤ pos 50)) more
     ∙ ap (λ (z : ℤ). pos n *ℤ squared z) (half (pos (100 * d)))
   where
@@ -59,26 +59,26 @@ next-edge n d =
     half : (x : ℤ) → x +ℤ pos 100 -ℤ pos 50 ≡ x +ℤ pos 50
     half x = identity (x ∷ []) (search quote depth 20) tt
 
-edge-reached : (v : ℕ → ℤ) → 1 ≤ dsg 1 52 (squares 52 v)
+threshold-reached : (v : ℕ → ℤ) → 1 ≤ dsg 1 52 (squares 52 v)
     → pos 52 *ℤ squared (pos 100 *ℤ pos (dsg 1 52 (squares 52 v)) -ℤ pos 50) ⩽ sum 52 (λ j. squared (residual 52 v j))
 unfolding squares
-edge-reached v k =
-    subst (λ (z : ℤ). z ⩽ squares 52 v) (edge-is 52 (dsg 1 52 (squares 52 v)))
+threshold-reached v k =
+    subst (λ (z : ℤ). z ⩽ squares 52 v) (threshold-is 52 (dsg 1 52 (squares 52 v)))
     (dsg-greatest 1 52 (lit< tt) (lit< tt) (squares 52 v) .reached k)
 
-edge-next : (v : ℕ → ℤ)
+threshold-next : (v : ℕ → ℤ)
     → sum 52 (λ j. squared (residual 52 v j)) ⋖ pos 52 *ℤ squared (pos 100 *ℤ pos (dsg 1 52 (squares 52 v)) +ℤ pos 50)
 unfolding squares
-edge-next v = subst (λ (z : ℤ). squares 52 v ⋖ z) (next-edge 52 (dsg 1 52 (squares 52 v))) (dsg-greatest 1 52 (lit< tt) (lit< tt) (squares 52 v) .next)
+threshold-next v = subst (λ (z : ℤ). squares 52 v ⋖ z) (next-threshold 52 (dsg 1 52 (squares 52 v))) (dsg-greatest 1 52 (lit< tt) (lit< tt) (squares 52 v) .next)
 
-scattered : (v : ℕ → ℤ) → Scattered 52 v (pos (dsg 1 52 (squares 52 v)))
+scattered : (v : ℕ → ℤ) → RoundedScatter 52 v (pos (dsg 1 52 (squares 52 v)))
 scattered v =
     record {
       residual = residual 52 v;
       rounded = λ j h. rounded v j;
       notNegative = zero-le-pos sigma;
-      edge = λ k. edge-reached v (pos-le-is k);
-      nextEdge = le-of-lt (edge-next v);
+      threshold = λ k. threshold-reached v (pos-le-is k);
+      nextThreshold = le-of-lt (threshold-next v);
     }
   where
     sigma : ℕ

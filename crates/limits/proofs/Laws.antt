@@ -57,13 +57,13 @@ natural-within low high (pos n) e =
 natural-within low high (negsuc n) e = absurd (true≢false e)
 
 -- what an answer 0 on the eight fitted numbers tells
-pub record Within (refsv srsv refsys srsys mdtr smdt mdio smdi : ℤ) : Type 0 where
+pub record InLimits (refsv srsv refsys srsys mdtr smdt mdio smdi : ℤ) : Type 0 where
   pub midpoints : (natAbs refsv ≤ 9999999999) × (natAbs refsys ≤ 9999999999)
   pub slopes : (natAbs srsv ≤ 99999) × (natAbs srsys ≤ 99999) × (natAbs smdt ≤ 999) × (natAbs smdi ≤ 999)
   pub delays : (pos (natAbs mdtr) ≡ mdtr) × (natAbs mdtr ≤ 9999) × (pos (natAbs mdio) ≡ mdio) × (natAbs mdio ≤ 9999)
 
 pub within : (refsv srsv refsys srsys mdtr smdt mdio smdi : ℤ) → limitsRule refsv srsv refsys srsys mdtr smdt mdio smdi ≡ 0
-    → Within refsv srsv refsys srsys mdtr smdt mdio smdi
+    → InLimits refsv srsv refsys srsys mdtr smdt mdio smdi
 unfolding limitsRule
 within refsv srsv refsys srsys mdtr smdt mdio smdi e =
     let three = then-zero _ _ e in

@@ -79,7 +79,7 @@ numbers-back l n bytes rest a =
       trkl = (ap pos (decimal-back l n rest 4 4 (natAbs (n .trkl)) (omega arith) refl (omega (arith, t))) ∙ t .0) i;
     }
   where
-    w : limits.Within (n .refsv) (n .srsv) (n .refsys) (n .srsys) (n .mdtr) (n .smdt) (n .mdio) (n .smdi)
+    w : limits.InLimits (n .refsv) (n .srsv) (n .refsys) (n .srsys) (n .mdtr) (n .smdt) (n .mdio) (n .smdi)
     w = limits.within _ _ _ _ _ _ _ _ (a .limits)
 
     d : (pos (natAbs (n .dsg)) ≡ n .dsg) × (natAbs (n .dsg) ≤ 9999)

@@ -10,7 +10,7 @@ use lib.IntN.{pos}
 use Rattle.limits.specs.Refusal.{_when_, _then_}
 use Rattle.limits.specs.Limits.{outside, limitsRule, dsgRule}
 use Rattle.schedule.specs.Schedule.{broughtIn, startMinute, some, isStart, startRule}
-use Rattle.fields.specs.Text.{decimal, sign, signed, hexDigit, hexadecimal, total, checksum}
+use Rattle.fields.specs.Text.{decimal, sign, signed, hexDigit, hexadecimal, byteSum, checksum}
 use Rattle.labels.specs.declared.Labels.{Labels}
 use Rattle.labels.specs.declared.Numbers.{Numbers}
 use Rattle.labels.specs.Labels.{constellationFits, codeFits, labelsFit}
@@ -57,7 +57,7 @@ numbers =
     }
 
 pub sample : lineText labels numbers ≡ bytesOf "G05 FF 50722 000200 0780 450 1800 +0000000010 +00000 +0000000010 +00000 0000 007 0000 +000 0000 +000 00 00 L1C 26"
-unfolding bytesOf lineText columns trackColumns clockColumns delayColumns spaced clock decimal signed sign hexadecimal hexDigit checksum total
+unfolding bytesOf lineText columns trackColumns clockColumns delayColumns spaced clock decimal signed sign hexadecimal hexDigit checksum byteSum
 sample = refl
 
 pub sample-accepted : lineAnswer labels numbers 113 ≡ 0

@@ -13,7 +13,7 @@ use Rattle.whole.specs.Nearest.{nearest}
 use Rattle.whole.specs.Identity.{quote}
 use Rattle.whole.specs.Linear.{le-by}
 use Rattle.whole.specs.Order.{pos-le-is}
-use Rattle.whole.specs.Size.{natAbs-mul, size-le}
+use Rattle.whole.specs.Magnitude.{natAbs-mul, magnitude-le}
 use Rattle.whole.specs.Rounding.{nearest-scale}
 use Rattle.whole.specs.Words.{partial}
 use Rattle.exact.specs.Corrected.{at}
@@ -27,7 +27,7 @@ use Rattle.series.proofs.Replies.{reply-accepted}
 apart : (a b m : ℕ) → a ≤ b + m → b ≤ a + m → natAbs (pos a -ℤ pos b) ≤ m
 apart a b m h k =
     let ρ : List ℤ = pos a ∷ pos b ∷ pos m ∷ [] in
-    pos-le-is (size-le {x = pos a -ℤ pos b} {b = pos m} (le-by ρ (search quote depth 20) (omega arith)) (le-by ρ (search quote depth 20) (omega arith)))
+    pos-le-is (magnitude-le {x = pos a -ℤ pos b} {b = pos m} (le-by ρ (search quote depth 20) (omega arith)) (le-by ρ (search quote depth 20) (omega arith)))
 
 -- a place lies within n of the middle
 pub place-bound : (n j : ℕ) → j < n → natAbs (place n j) ≤ n

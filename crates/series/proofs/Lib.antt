@@ -2,4 +2,4 @@ pub mod Weights
 pub mod Replies
 pub mod Fitting
 pub mod Residuals
-pub mod Edges
+pub mod Thresholds

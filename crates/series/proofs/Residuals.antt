@@ -13,7 +13,7 @@ use Rattle.whole.specs.Square.{squared}
 use Rattle.whole.specs.Nearest.{nearest}
 use Rattle.whole.specs.Identity.{identity, quote}
 use Rattle.whole.specs.Order.{_⩽_, le-refl, add-le, square-nonneg, as-pos, pos-le-is}
-use Rattle.whole.specs.Size.{square-size}
+use Rattle.whole.specs.Magnitude.{square-magnitude}
 use Rattle.whole.specs.Sums.{sum-suc, sum-squares-nonneg}
 use Rattle.whole.specs.Rounding.{nearest-scale}
 use Rattle.exact.specs.Weights.{place}
@@ -36,7 +36,7 @@ residual-52 v j =
 
 module _ (f : ℕ → ℤ) where
   square-of : (r j : ℕ) → r ≡ natAbs (f j) → pos (r * r) ≡ squared (f j)
-  square-of r j e = ap (λ (k : ℕ). pos (k * k)) e ∙ square-size (f j)
+  square-of r j e = ap (λ (k : ℕ). pos (k * k)) e ∙ square-magnitude (f j)
 
   -- one term more
   pub square-more : (q r j : ℕ) → pos q ≡ sum j (λ k. squared (f k)) → r ≡ natAbs (f j)

@@ -6,7 +6,7 @@ use native.Mathlib.Nat.{le-trans, le-of-eq, mul-le-mul}
 use lib.Dec.{lit<, lit≤}
 use lib.IntN.{ℤ, natAbs, _*ℤ_}
 use Rattle.whole.specs.Sum.{sum}
-use Rattle.whole.specs.Size.{natAbs-mul}
+use Rattle.whole.specs.Magnitude.{natAbs-mul}
 use Rattle.whole.specs.Rounding.{nearest-bound}
 use Rattle.whole.specs.Words.{partial}
 use Rattle.limits.specs.Limits.{outside}

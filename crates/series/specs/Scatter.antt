@@ -30,18 +30,18 @@ unfoldable pub squares : ℕ → (ℕ → ℤ) → ℤ
 squares n v = sum n (λ j. squared (residual n v j))
 
 -- The least Q that a DSG of d has, for d from 1 up: with 52 values 52 × (100d - 50)².
-unfoldable pub edge : ℕ → ℕ → ℕ → ℤ
-edge s n d = pos n *ℤ squared (pos s *ℤ (pos (100 * d) -ℤ pos 50))
+unfoldable pub threshold : ℕ → ℕ → ℕ → ℤ
+threshold s n d = pos n *ℤ squared (pos s *ℤ (pos (100 * d) -ℤ pos 50))
 
--- From d up, the last number whose edge is not above q, in at most k steps.
+-- From d up, the last number whose threshold is not above q, in at most k steps.
 unfoldable pub climb : (ℕ → ℤ) → ℤ → ℕ → ℕ → ℕ
 climb e q zero d = d
 climb e q (suc k) d = elim (leZ (e (suc d)) q) [ true ↦ climb e q k (suc d) | false ↦ d ]
 
--- DSG: 0 if q is under 2500 n, with 52 values 130000; otherwise the greatest d from 1 up whose edge is not above q. As an edge lies above
--- its d, q steps are enough: that no d from 1 up with such an edge is greater is the law `greatest` of proofs/Edges.antt.
+-- DSG: 0 if q is under 2500 n, with 52 values 130000; otherwise the greatest d from 1 up whose threshold is not above q. As a threshold lies above
+-- its d, q steps are enough: that no d from 1 up with such a threshold is greater is the law `greatest` of proofs/Thresholds.antt.
 unfoldable pub dsg : ℕ → ℕ → ℤ → ℕ
-dsg s n q = cond (ltZ q (pos (2500 * (s * s) * n))) 0 (climb (edge s n) q (natAbs q) 1)
+dsg s n q = cond (ltZ q (pos (2500 * (s * s) * n))) 0 (climb (threshold s n) q (natAbs q) 1)
 
 -- 1 and 2 as in Fit. 6: DSG is above 9999.
 unfoldable pub scatterRule : List ℤ → Reply ℤ

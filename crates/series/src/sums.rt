@@ -16,7 +16,7 @@ ghost use Rattle.exact.specs.Corrected.{at};
 ghost use Rattle.exact.specs.Weights.{weights, place};
 ghost use Rattle.limits.specs.Lists.{anyBeyond, rangeRule, listRule};
 ghost use Rattle.series.specs.Fit.{total, moment};
-ghost use Rattle.series.specs.Scatter.{squares, edge, dsg};
+ghost use Rattle.series.specs.Scatter.{squares, threshold, dsg};
 
 // The weights of the parabola's value at the middle of fifteen measurements, over 1105.
 const WEIGHTS: [i64; 15] = [
@@ -135,9 +135,9 @@ pub fn squares(values: &[i64], s: i64, t: i64) -> u64
 }
 
 // The least sum of squares that a DSG of d has.
-fn edge(d: u64) -> u64
+fn threshold(d: u64) -> u64
     requires { ⌜ (0 < d) × (d ≤ 10000) ⌝ }
-    ensures { λ r. ⌜ pos r ≡ edge 1 52 d ⌝ }
+    ensures { λ r. ⌜ pos r ≡ threshold 1 52 d ⌝ }
 {
     let e = 100 * d - 50;
     52 * (e * e)
@@ -152,7 +152,7 @@ pub fn dsg(q: u64) -> u64
     let mut high: u64 = 10000;
     while low + 1 < high {
         let middle = (low + high) / 2;
-        if edge(middle) <= q {
+        if threshold(middle) <= q {
             low = middle;
         } else {
             high = middle;

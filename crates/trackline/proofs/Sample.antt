@@ -18,7 +18,7 @@ use Rattle.exact.specs.Weights.{weights, place}
 use Rattle.limits.specs.Lists.{anyOutside}
 use Rattle.series.specs.Smooth.{smoothed}
 use Rattle.series.specs.Fit.{total, moment, midpoint, slope}
-use Rattle.series.specs.Scatter.{residual, squares, edge, climb, dsg}
+use Rattle.series.specs.Scatter.{residual, squares, threshold, climb, dsg}
 use Rattle.fit.specs.declared.TrackRecord.{TrackRecord}
 use Rattle.fit.specs.Track.{smoothedAt, valueA, valueB, valueC, valueD, recordOf, results, given, wrongSizes, outOfLimits, correctedBeyond, numbersRule, recordNumber, trackNumber}
 use Rattle.columns.specs.Text.{lineLength, lineText}
@@ -63,7 +63,7 @@ unfolding results
 sample-results = rw (sample-a, sample-b, sample-c, sample-d)
 
 sample-numbers : numbersIn sampleRecord ≡ numbers
-unfolding sum nearest place total moment midpoint slope residual squares edge climb dsg recordOf
+unfolding sum nearest place total moment midpoint slope residual squares threshold climb dsg recordOf
 sample-numbers = refl
 
 -- and Track accepts it
@@ -72,7 +72,7 @@ unfolding outside anyOutside wrongSizes outOfLimits
 sample-inside = (refl, refl)
 
 sample-record-accepted : recordNumber sampleRecord ≡ 0
-unfolding sum nearest place total moment midpoint slope residual squares edge climb dsg recordOf outside _when_ _then_ limitsRule dsgRule anyOutside correctedBeyond numbersRule recordNumber
+unfolding sum nearest place total moment midpoint slope residual squares threshold climb dsg recordOf outside _when_ _then_ limitsRule dsgRule anyOutside correctedBeyond numbersRule recordNumber
 sample-record-accepted = refl
 
 sample-accepted-track : trackNumber sampleTrack ≡ 0

@@ -10,7 +10,7 @@ pub mod Identity
 pub mod Linear
 -- The laws.
 pub mod Order
-pub mod Size
+pub mod Magnitude
 pub mod Sums
 pub mod Tables
 pub mod Rounding

@@ -11,13 +11,13 @@ use native.Mathlib.Numerals.{add-one}
 use native.Mathlib.Omega.{arith}
 use lib.IntN.{ℤ, pos, negsuc, negℤ, natAbs, _+ℤ_, _-ℤ_, _*ℤ_}
 use lib.Signed.{shrZ}
-use Rattle.whole.specs.Square.{size}
+use Rattle.whole.specs.Square.{magnitude}
 use Rattle.whole.specs.Nearest.{nearest}
 use Rattle.whole.specs.Ring.{negℤ-*ℤ}
 use Rattle.whole.specs.Identity.{identity, quote}
 use Rattle.whole.specs.Linear.{le-by, lt-by, le-is, lt-is}
 use Rattle.whole.specs.Order.{_⩽_, _⋖_, lt-le-trans, le-of-lt, le-antisymm, le-or-lt, lt-irrefl, le-shift, lt-shift, pos-le, pos-lt, pos-le-is, zero-le-pos, mul-pos, mul-le, mul-lt, cancel-lt}
-use Rattle.whole.specs.Size.{size-le, size-le-is}
+use Rattle.whole.specs.Magnitude.{magnitude-le, magnitude-le-is}
 
 -- ---- the floor of z / m
 
@@ -58,8 +58,8 @@ nearest-gt n d h = shift n (pos d) (nearest n d) (floor-lt (pos 2 *ℤ n +ℤ po
     shift n d r h = lt-shift h (identity (n ∷ d ∷ r ∷ []) (search quote depth 12) tt)
 
 -- so it is within half of n / d: |2dr - 2n| ≤ d
-pub nearest-within : (n : ℤ) (d : ℕ) → 0 < d → size (pos 2 *ℤ pos d *ℤ nearest n d -ℤ pos 2 *ℤ n) ⩽ pos d
-nearest-within n d h = size-le (le-of-lt (nearest-gt n d h)) (nearest-le n d h)
+pub nearest-within : (n : ℤ) (d : ℕ) → 0 < d → magnitude (pos 2 *ℤ pos d *ℤ nearest n d -ℤ pos 2 *ℤ n) ⩽ pos d
+nearest-within n d h = magnitude-le (le-of-lt (nearest-gt n d h)) (nearest-le n d h)
 
 -- and it is the only number with -d < 2dr - 2n ≤ d
 pub nearest-only : (n : ℤ) (d : ℕ) → 0 < d → (r : ℤ) → negℤ (pos d) ⋖ pos 2 *ℤ pos d *ℤ r -ℤ pos 2 *ℤ n
@@ -158,10 +158,10 @@ nearest-whole d h k =
 
 -- a bound of the fraction is one of its nearest number
 pub nearest-bound : (n : ℤ) (d b : ℕ) → 0 < d → natAbs n ≤ b * d → natAbs (nearest n d) ≤ b
-nearest-bound n d b h e = pos-le-is (size-le low high)
+nearest-bound n d b h e = pos-le-is (magnitude-le low high)
   where
     sides : (negℤ (pos (b * d)) ⩽ n) × (n ⩽ pos (b * d))
-    sides = size-le-is (pos-le e)
+    sides = magnitude-le-is (pos-le e)
 
     high : nearest n d ⩽ pos b
     high = subst (λ (z : ℤ). nearest n d ⩽ z) (nearest-whole d h (pos b)) (nearest-mono d h (sides .1))

@@ -10,11 +10,11 @@ use native.Mathlib.Nat.{add-zero, add-suc}
 use native.Mathlib.Omega.{arith}
 use lib.ListN.{length, getD}
 use lib.IntN.{ℤ, pos, negsuc, negℤ, natAbs, _+ℤ_, _-ℤ_, _*ℤ_, +ℤ-idl, +ℤ-idr, +ℤ-assoc, *ℤ-zero, zero-*ℤ, negℤ-+ℤ, sucℤ-*ℤ, *ℤ-comm}
-use Rattle.whole.specs.Square.{squared, size}
+use Rattle.whole.specs.Square.{squared, magnitude}
 use Rattle.whole.specs.Sum.{sum}
 use Rattle.whole.specs.Ring.{*ℤ-+ℤ, +ℤ-swap}
 use Rattle.whole.specs.Order.{_⩽_, _⋖_, le-refl, le-trans, add-le, square-nonneg, pos-le, pos-le-is}
-use Rattle.whole.specs.Size.{size-add}
+use Rattle.whole.specs.Magnitude.{magnitude-add}
 
 -- ---- terms
 
@@ -76,18 +76,18 @@ pub sum-squares-nonneg : (n : ℕ) (f : ℕ → ℤ) → pos 0 ⩽ sum n (λ i. 
 sum-squares-nonneg n f = sum-nonneg n (λ i h. square-nonneg (f i))
 
 -- |f 0 + .. + f (n - 1)| is at most |f 0| + .. + |f (n - 1)|
-pub size-sum : (n : ℕ) (f : ℕ → ℤ) → size (sum n f) ⩽ sum n (λ i. size (f i))
+pub magnitude-sum : (n : ℕ) (f : ℕ → ℤ) → magnitude (sum n f) ⩽ sum n (λ i. magnitude (f i))
 unfolding sum
-size-sum zero f = le-refl (pos 0)
-size-sum (suc n) f = le-trans (size-add (sum n f) (f n)) (add-le (size-sum n f) (le-refl (size (f n))))
+magnitude-sum zero f = le-refl (pos 0)
+magnitude-sum (suc n) f = le-trans (magnitude-add (sum n f) (f n)) (add-le (magnitude-sum n f) (le-refl (magnitude (f n))))
 
 -- and at most n b where no term is larger than b
-pub size-sum-le : (n : ℕ) (f : ℕ → ℤ) {b : ℤ} → ((i : ℕ) → i < n → size (f i) ⩽ b) → size (sum n f) ⩽ pos n *ℤ b
-size-sum-le n f {b} h =
-    le-trans (size-sum n f) (subst (λ (z : ℤ). sum n (λ i. size (f i)) ⩽ z) (sym (sum-constant n b)) (sum-le n h))
+pub magnitude-sum-le : (n : ℕ) (f : ℕ → ℤ) {b : ℤ} → ((i : ℕ) → i < n → magnitude (f i) ⩽ b) → magnitude (sum n f) ⩽ pos n *ℤ b
+magnitude-sum-le n f {b} h =
+    le-trans (magnitude-sum n f) (subst (λ (z : ℤ). sum n (λ i. magnitude (f i)) ⩽ z) (sym (sum-constant n b)) (sum-le n h))
 
 pub natAbs-sum : (n : ℕ) (f : ℕ → ℤ) (b : ℕ) → ((i : ℕ) → i < n → natAbs (f i) ≤ b) → natAbs (sum n f) ≤ n * b
-natAbs-sum n f b h = pos-le-is (size-sum-le n f (λ i k. pos-le (h i k)))
+natAbs-sum n f b h = pos-le-is (magnitude-sum-le n f (λ i k. pos-le (h i k)))
 
 -- ---- splitting
 

@@ -22,7 +22,7 @@ use mir.Val.{SFits, toZ, ofZ}
 use mir.Facts.{toZ-ofZ, toZ-pos, and-yes}
 use Rattle.whole.specs.Sum.{sum}
 use Rattle.whole.specs.Sums.{natAbs-sum}
-use Rattle.whole.specs.Size.{natAbs-neg, natAbs-mul, natAbs-add, natAbs-quot}
+use Rattle.whole.specs.Magnitude.{natAbs-neg, natAbs-mul, natAbs-add, natAbs-quot}
 
 -- ---- one number
 

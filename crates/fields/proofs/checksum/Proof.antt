@@ -6,20 +6,20 @@ use Prim.Native.Nat.{ℕ, _≤_, _-_, _%_}
 use native.Mathlib.Omega.{arith}
 use lib.ListN.{length, take}
 use lib.Seq.{take-all}
-use Rattle.fields.proofs.Laws.{total-turn}
+use Rattle.fields.proofs.Laws.{byteSum-turn}
 use borrow.Author.Needs.{needs}
-use Rattle.fields.specs.Text.{total, checksum}
+use Rattle.fields.specs.Text.{byteSum, checksum}
 use Rattle.fields.proofs.checksum.Statement.{statement}
 use Rattle.fields.proofs.checksum.Tie as tie
 
 abbrev Inv-loop : tie.InvT-loop
-Inv-loop text sum₀ i₀ i-end sum i = (i ≤ length text) × (sum ≡ total (take i text) % 256)
+Inv-loop text sum₀ i₀ i-end sum i = (i ≤ length text) × (sum ≡ byteSum (take i text) % 256)
 
 abbrev μ-loop : tie.MeasureT-loop
 μ-loop text sum₀ i₀ i-end sum i = length text - i
 
 loop-holds : tie.Need-loop-holds Inv-loop μ-loop
-unfolding total
+unfolding byteSum
 loop-holds c = search needs
 
 shared-slice-read-wide : tie.Need-shared-slice-read-wide Inv-loop μ-loop
@@ -41,7 +41,7 @@ loop-again : tie.Need-loop-again Inv-loop μ-loop
 loop-again c =
     let l = c .before .before .before .loop in
     let text = c .before .before .before .before .before .args .text .now in
-    (search needs, omega (arith, total-turn text (l .i) (search needs), l .inv .1, c .wide .ensures))
+    (search needs, omega (arith, byteSum-turn text (l .i) (search needs), l .inv .1, c .wide .ensures))
 
 cast-result : tie.Need-cast-result Inv-loop μ-loop
 cast-result c = search needs
@@ -50,7 +50,7 @@ returns : tie.Need-returns Inv-loop μ-loop
 unfolding checksum
 returns c =
     let text = c .before .before .before .args .text .now in
-    c .before .loop .inv .1 ∙ ap (λ (t : List ℕ). total t % 256) (take-all (c .before .loop .i) text (search needs))
+    c .before .loop .inv .1 ∙ ap (λ (t : List ℕ). byteSum t % 256) (take-all (c .before .loop .i) text (search needs))
 
 pub checksum-spec : {M : Type 1} → statement M
 checksum-spec =

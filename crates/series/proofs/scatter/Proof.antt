@@ -13,10 +13,10 @@ use Rattle.exact.specs.Corrected.{at}
 use Rattle.series.specs.Answers.{reply}
 use Rattle.limits.specs.Lists.{listRule}
 use Rattle.series.specs.Fit.{total, moment}
-use Rattle.series.specs.Scatter.{squares, edge, dsg, scatterRule}
+use Rattle.series.specs.Scatter.{squares, threshold, dsg, scatterRule}
 use Rattle.limits.proofs.Lists.{list-accepted}
 use Rattle.series.proofs.Residuals.{squares-pos}
-use Rattle.series.proofs.Edges.{dsg-greatest, greatest, dsg-below, sigma-refused, sigma-accepted}
+use Rattle.series.proofs.Thresholds.{dsg-greatest, greatest, dsg-below, sigma-refused, sigma-accepted}
 use Rattle.limits.proofs.Laws.{then-refused, then-passed}
 use Rattle.series.proofs.Replies.{reply-accepted, reply-refused}
 use Rattle.series.proofs.scatter.Statement.{statement}
@@ -60,11 +60,11 @@ abbrev Q : (c : tie.After-squares) → ℤ
 Q c = squares 52 (at (c .before .before .before .before .before .before .args .values .now))
 
 returns-2 : tie.Need-returns-2
-unfolding scatterRule edge
+unfolding scatterRule threshold
 returns-2 c =
     let q = Q (c .before) in
     let least : 51994800130000 ≤ natAbs q = omega (arith, c .before .squares .ensures, c .if2 .taken) in
-    let reached : edge 1 52 10000 ⩽ q = rw (squares-pos 52 _) (pos-le least) in
+    let reached : threshold 1 52 10000 ⩽ q = rw (squares-pos 52 _) (pos-le least) in
     let top : 9999 < dsg 1 52 q = greatest 1 52 (dsg-greatest 1 52 (lit< tt) (lit< tt) q) (lit< tt) reached in (
       sym (ap (λ (n : ℕ). reply (pos 0) n (pos (dsg 1 52 q))) (then-passed _ _ (accepted (c .before .before .before .before .before)) ∙ sigma-refused _ top)),
       lit< tt,
@@ -75,7 +75,7 @@ dsg-requires c κs = search needs
 
 -- below CAP nothing was cut off
 sigma-is : (c : tie.After-dsg) → (c .dsg .result ≡ dsg 1 52 (Q (c .before .before))) × (c .dsg .result ≤ 9999)
-unfolding edge
+unfolding threshold
 sigma-is c =
     let q = Q (c .before .before) in
     let e : c .before .before .squares .result ≡ natAbs q = omega (arith, c .before .before .squares .ensures, c .before .if2 .left) in

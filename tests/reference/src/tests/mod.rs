@@ -1,7 +1,7 @@
+mod document_cases;
 mod exact;
 mod numbers;
 mod published;
-mod technician;
 mod text;
 
 use crate::{Columns, Delays, Labels, Record, BLOCKS, BLOCK_BYTES, SECONDS};

@@ -11,7 +11,7 @@ use Rattle.series.specs.declared.Scattered.{Scattered}
 use Rattle.fit.specs.declared.TrackRecord.{TrackRecord}
 use Rattle.series.specs.Answers.{Reply, reply, scatterReply, scatterNumbered}
 use Rattle.fit.specs.Track.{recordOf, numbersRule, tracked}
-use Rattle.series.proofs.Edges.{scatter-passed}
+use Rattle.series.proofs.Thresholds.{scatter-passed}
 use Rattle.limits.proofs.Laws.{then-refused, then-passed}
 use Rattle.series.proofs.Replies.{reply-number, reply-values}
 use Rattle.fit.proofs.Tracks.{tracked-refused, tracked-accepted, Inside, inside, LineOf, line-of}

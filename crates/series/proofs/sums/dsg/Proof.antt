@@ -1,4 +1,4 @@
--- `series::sums::dsg` meets its contract: low's edge is reached, high's is not, and they come together.
+-- `series::sums::dsg` meets its contract: low's threshold is reached, high's is not, and they come together.
 -- Assumes nothing.
 use mathlib.Core.Path.{_≡_, subst}
 use Prim.Native.Nat.{ℕ, suc, _-_, _≤_, _<_}
@@ -6,20 +6,20 @@ use native.Mathlib.Omega.{arith}
 use lib.Dec.{lit<}
 use lib.IntN.{ℤ, pos}
 use Rattle.whole.specs.Order.{_⩽_, _⋖_, pos-le, pos-lt}
-use Rattle.series.specs.Scatter.{edge}
-use Rattle.series.proofs.Edges.{dsg-greatest, greatest-only}
+use Rattle.series.specs.Scatter.{threshold}
+use Rattle.series.proofs.Thresholds.{dsg-greatest, greatest-only}
 use Rattle.series.proofs.sums.dsg.Statement.{statement}
 use Rattle.series.proofs.sums.dsg.Tie as tie
 
 abbrev Inv-loop : tie.InvT-loop
 Inv-loop q low₀ high₀ low high =
-    (low < high) × (high ≤ 10000) × (1 ≤ low → edge 1 52 low ⩽ pos q) × (pos q ⋖ edge 1 52 high)
+    (low < high) × (high ≤ 10000) × (1 ≤ low → threshold 1 52 low ⩽ pos q) × (pos q ⋖ threshold 1 52 high)
 
 abbrev μ-loop : tie.MeasureT-loop
 μ-loop q low₀ high₀ low high = high - low
 
 loop-holds : tie.Need-loop-holds Inv-loop μ-loop
-unfolding edge
+unfolding threshold
 loop-holds c = (lit< tt, omega arith, λ h. absurd (omega arith), pos-lt (c .pre))
 
 add-loop : tie.Need-add-loop Inv-loop μ-loop
@@ -28,8 +28,8 @@ add-loop c = omega arith
 add-middle : tie.Need-add-middle Inv-loop μ-loop
 add-middle c = omega arith
 
-edge-requires : tie.Need-edge-requires Inv-loop μ-loop
-edge-requires c κs = omega arith
+threshold-requires : tie.Need-threshold-requires Inv-loop μ-loop
+threshold-requires c κs = omega arith
 
 loop-less : tie.Need-loop-less Inv-loop μ-loop
 loop-less c = omega arith
@@ -39,7 +39,7 @@ loop-again c =
     let n = c .before .before .before in (
       omega arith,
       n .loop .inv .1,
-      λ h. subst (λ (z : ℤ). z ⩽ pos (n .before .args .q)) (c .before .edge .ensures) (pos-le (omega arith)),
+      λ h. subst (λ (z : ℤ). z ⩽ pos (n .before .args .q)) (c .before .threshold .ensures) (pos-le (omega arith)),
       n .loop .inv .3,
     )
 
@@ -52,7 +52,7 @@ loop-again-2 c =
       omega arith,
       omega arith,
       n .loop .inv .2,
-      subst (λ (z : ℤ). pos (n .before .args .q) ⋖ z) (c .before .edge .ensures) (pos-lt (omega arith)),
+      subst (λ (z : ℤ). pos (n .before .args .q) ⋖ z) (c .before .threshold .ensures) (pos-lt (omega arith)),
     )
 
 returns : tie.Need-returns Inv-loop μ-loop
@@ -60,7 +60,7 @@ returns c =
     let n = c .before in
     let e : n .loop .high ≡ suc (n .loop .low) = omega arith in
     greatest-only 1 52
-    (record { reached = n .loop .inv .2; next = subst (λ (k : ℕ). pos (n .before .args .q) ⋖ edge 1 52 k) e (n .loop .inv .3) })
+    (record { reached = n .loop .inv .2; next = subst (λ (k : ℕ). pos (n .before .args .q) ⋖ threshold 1 52 k) e (n .loop .inv .3) })
     (dsg-greatest 1 52 (lit< tt) (lit< tt) (pos (n .before .args .q)))
 
 pub dsg-spec : {M : Type 1} → statement M
@@ -72,7 +72,7 @@ dsg-spec =
     loop-holds
     add-loop
     add-middle
-    edge-requires
+    threshold-requires
     loop-less
     loop-again
     loop-less-2

@@ -1,4 +1,4 @@
--- `series::sums::edge` meets its contract: up to 10000 the square stays below 10^12.
+-- `series::sums::threshold` meets its contract: up to 10000 the square stays below 10^12.
 -- Assumes nothing.
 use borrow.Author.Needs.{needs}
 use mathlib.Core.Path.{sym, ap, _∙_}
@@ -6,9 +6,9 @@ use Prim.Native.Nat.{ℕ, _*_, _-_, _≤_}
 use native.Mathlib.Nat.{mul-le-mul}
 use native.Mathlib.Omega.{arith}
 use lib.IntN.{pos}
-use Rattle.series.proofs.Edges.{edge-natural}
-use Rattle.series.proofs.sums.edge.Statement.{statement}
-use Rattle.series.proofs.sums.edge.Tie as tie
+use Rattle.series.proofs.Thresholds.{threshold-natural}
+use Rattle.series.proofs.sums.threshold.Statement.{statement}
+use Rattle.series.proofs.sums.threshold.Tie as tie
 
 root-bound : (d : ℕ) → d ≤ 10000 → 100 * d - 50 ≤ 999950
 root-bound d h = omega arith
@@ -30,7 +30,7 @@ mul-result-2 c =
     omega (arith, mul-le-mul b b)
 
 returns : tie.Need-returns
-returns c = sym (edge-natural 1 52 (c .args .d) (c .pre .0) ∙ ap (λ (k : ℕ). pos (52 * (k * k))) {x = 1 * (100 * c .args .d - 50)} (omega arith))
+returns c = sym (threshold-natural 1 52 (c .args .d) (c .pre .0) ∙ ap (λ (k : ℕ). pos (52 * (k * k))) {x = 1 * (100 * c .args .d - 50)} (omega arith))
 
-pub edge-spec : {M : Type 1} → statement M
-edge-spec = tie.close (tie.spec mul-e sub-e mul-result mul-result-2 returns)
+pub threshold-spec : {M : Type 1} → statement M
+threshold-spec = tie.close (tie.spec mul-e sub-e mul-result mul-result-2 returns)

@@ -1,10 +1,10 @@
--- `bench::technician::kept` is safe and ends. The measure is what is left of the part.
+-- `bench::document_cases::kept` is safe and ends. The measure is what is left of the part.
 -- Assumes nothing.
 use Prim.Native.Nat.{_-_}
 use lib.ListN.{length}
 use borrow.Author.Needs.{needs}
-use Rattle.bench.proofs.technician.kept.Statement.{statement}
-use Rattle.bench.proofs.technician.kept.Tie as tie
+use Rattle.bench.proofs.document_cases.kept.Statement.{statement}
+use Rattle.bench.proofs.document_cases.kept.Tie as tie
 
 abbrev Inv-loop : tie.InvT-loop
 Inv-loop part n₀ i₀ n i = Unit {0}

@@ -1,12 +1,12 @@
--- `bench::technician::pattern` is safe and ends. The measure is how many values are left.
+-- `bench::document_cases::pattern` is safe and ends. The measure is how many values are left.
 -- Assumes nothing.
 use Prim.Native.Nat.{_-_}
 use lib.ListN.{length, length-set}
 use mathlib.Core.Path.{_≡_, ap, _∙_}
 use mathlib.Core.Logic.{⊎-elim}
 use borrow.Author.Needs.{needs}
-use Rattle.bench.proofs.technician.pattern.Statement.{statement}
-use Rattle.bench.proofs.technician.pattern.Tie as tie
+use Rattle.bench.proofs.document_cases.pattern.Statement.{statement}
+use Rattle.bench.proofs.document_cases.pattern.Tie as tie
 
 abbrev Inv-loop : tie.InvT-loop
 Inv-loop a b values₀ j₀ values j = length values ≡ 52

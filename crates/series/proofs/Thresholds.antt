@@ -1,5 +1,5 @@
--- Laws of DSG and its edges (specs/Scatter.antt): DSG is the greatest number from 1 up whose edge is not above the sum of squares, or 0 where
--- there is none, and it is the only number whose edge is reached and whose next edge is not.
+-- Laws of DSG and its thresholds (specs/Scatter.antt): DSG is the greatest number from 1 up whose threshold is not above the sum of squares, or 0 where
+-- there is none, and it is the only number whose threshold is reached and whose next threshold is not.
 -- Assumes nothing.
 use mathlib.Core.Path.{_≡_, refl, sym, ap, _∙_, subst, subst₂}
 use mathlib.Core.Bool.{Bool, true, false, cond}
@@ -18,13 +18,13 @@ use Rattle.whole.specs.Square.{squared}
 use Rattle.whole.specs.Identity.{quote}
 use Rattle.whole.specs.Linear.{eq-by}
 use Rattle.whole.specs.Order.{_⩽_, _⋖_, le-lt-trans, lt-le-trans, lt-irrefl, le-trans as chain, le-or-lt, pos-le, pos-lt}
-use Rattle.whole.specs.Size.{le-size}
+use Rattle.whole.specs.Magnitude.{le-magnitude}
 use Rattle.limits.specs.Refusal.{_when_}
 use Rattle.limits.specs.Limits.{outside, dsgRule}
 use Rattle.exact.specs.Corrected.{at}
 use Rattle.limits.specs.Lists.{anyBeyond}
 use Rattle.series.specs.Answers.{reply}
-use Rattle.series.specs.Scatter.{squares, edge, climb, dsg, scatterRule}
+use Rattle.series.specs.Scatter.{squares, threshold, climb, dsg, scatterRule}
 use Rattle.limits.proofs.Lists.{list-passes}
 use Rattle.limits.proofs.Laws.{then-passed}
 
@@ -45,7 +45,7 @@ from-not-lt x y e = ⊎-elim (λ h. h) (λ h. absurd (subst T e (h .lt))) (le-or
 -- ---- climbing
 
 module _ (e : ℕ → ℤ) (q : ℤ) where
-  -- the last number reached has an edge that is not above q
+  -- the last number reached has a threshold that is not above q
   climb-reached : (k d : ℕ) → e d ⩽ q → e (climb e q k d) ⩽ q
   unfolding climb
   climb-reached zero d h = h
@@ -56,7 +56,7 @@ module _ (e : ℕ → ℤ) (q : ℤ) where
       go true t up = up (from-le (e (suc d)) q t)
       go false t up = h
 
-  -- and the next edge is above, where the steps suffice
+  -- and the next threshold is above, where the steps suffice
   climb-next : (k d : ℕ) → q ⋖ e (suc (k + d)) → q ⋖ e (suc (climb e q k d))
   unfolding climb
   climb-next zero d h = subst (λ (n : ℕ). q ⋖ e (suc n)) (omega arith) h
@@ -67,22 +67,22 @@ module _ (e : ℕ → ℤ) (q : ℤ) where
       go true t up = up
       go false t up = from-not-le (e (suc d)) q t
 
--- ---- edges
+-- ---- thresholds
 
 pos-sub : (a b : ℕ) → b ≤ a → pos a -ℤ pos b ≡ pos (a - b)
 pos-sub a b h = eq-by (pos a ∷ pos b ∷ pos (a - b) ∷ []) (search quote depth 12) (omega arith)
 
--- the edge of d, as a natural number
-abbrev pub edgeOf : ℕ → ℕ → ℕ → ℕ
-edgeOf s n d = n * (s * (100 * d - 50) * (s * (100 * d - 50)))
+-- the threshold of d, as a natural number
+abbrev pub thresholdOf : ℕ → ℕ → ℕ → ℕ
+thresholdOf s n d = n * (s * (100 * d - 50) * (s * (100 * d - 50)))
 
-pub edge-natural : (s n d : ℕ) → 0 < d → edge s n d ≡ pos (edgeOf s n d)
-unfolding edge
-edge-natural s n d h = ap (λ (z : ℤ). pos n *ℤ squared (pos s *ℤ z)) (pos-sub (100 * d) 50 (omega arith))
+pub threshold-natural : (s n d : ℕ) → 0 < d → threshold s n d ≡ pos (thresholdOf s n d)
+unfolding threshold
+threshold-natural s n d h = ap (λ (z : ℤ). pos n *ℤ squared (pos s *ℤ z)) (pos-sub (100 * d) 50 (omega arith))
 
-pub edge-mono : (s n : ℕ) {d e : ℕ} → 0 < d → d ≤ e → edge s n d ⩽ edge s n e
-edge-mono s n {d} {e} h k =
-    subst₂ (λ (x y : ℤ). x ⩽ y) (sym (edge-natural s n d h)) (sym (edge-natural s n e (le-trans h k)))
+pub threshold-mono : (s n : ℕ) {d e : ℕ} → 0 < d → d ≤ e → threshold s n d ⩽ threshold s n e
+threshold-mono s n {d} {e} h k =
+    subst₂ (λ (x y : ℤ). x ⩽ y) (sym (threshold-natural s n d h)) (sym (threshold-natural s n e (le-trans h k)))
     (pos-le (mul-le-mul-left n (mul-le-mul root root)))
   where
     inner : 100 * d - 50 ≤ 100 * e - 50
@@ -91,17 +91,17 @@ edge-mono s n {d} {e} h k =
     root : s * (100 * d - 50) ≤ s * (100 * e - 50)
     root = mul-le-mul-left s inner
 
--- d's edge is reached, if d is not 0, and the next one is not
+-- d's threshold is reached, if d is not 0, and the next one is not
 pub record Greatest (s n : ℕ) (q : ℤ) (d : ℕ) : Type 0 where
-  pub reached : 1 ≤ d → edge s n d ⩽ q
-  pub next : q ⋖ edge s n (suc d)
+  pub reached : 1 ≤ d → threshold s n d ⩽ q
+  pub next : q ⋖ threshold s n (suc d)
 
--- no number from 1 up whose edge is reached is greater
-pub greatest : (s n : ℕ) {q : ℤ} {d e : ℕ} → Greatest s n q d → 1 ≤ e → edge s n e ⩽ q → e ≤ d
+-- no number from 1 up whose threshold is reached is greater
+pub greatest : (s n : ℕ) {q : ℤ} {d e : ℕ} → Greatest s n q d → 1 ≤ e → threshold s n e ⩽ q → e ≤ d
 greatest s n {q} {d} {e} g h r = elim (decLe e d) [ yes k ↦ k | no k ↦ absurd (above (lt-of-not-le k)) ]
   where
     above : d < e → ⊥
-    above k = lt-irrefl (lt-le-trans (g .next) (chain (edge-mono s n (omega arith) k) r))
+    above k = lt-irrefl (lt-le-trans (g .next) (chain (threshold-mono s n (omega arith) k) r))
 
 -- so there is one such number only
 pub greatest-only : (s n : ℕ) {q : ℤ} {d e : ℕ} → Greatest s n q d → Greatest s n q e → d ≡ e
@@ -112,45 +112,45 @@ greatest-only s n g k = le-antisymm (below g k) (below k g)
     below {d = suc d} g k = greatest s n k (omega arith) (g .reached (omega arith))
 
 module _ (s n : ℕ) (s-pos : 0 < s) (n-pos : 0 < n) where
-  -- an edge is not below its d
-  edge-least : (d : ℕ) → 0 < d → d ≤ edgeOf s n d
-  edge-least d h =
+  -- a threshold is not below its d
+  threshold-least : (d : ℕ) → 0 < d → d ≤ thresholdOf s n d
+  threshold-least d h =
       let root : 1 * d ≤ s * (100 * d - 50) = mul-le-mul s-pos (omega arith) in
       let one : 1 ≤ s * (100 * d - 50) = omega arith in
-      let square : 1 * (1 * (1 * d)) ≤ edgeOf s n d = mul-le-mul n-pos (mul-le-mul one root) in
+      let square : 1 * (1 * (1 * d)) ≤ thresholdOf s n d = mul-le-mul n-pos (mul-le-mul one root) in
       omega arith
 
-  first-edge : edge s n 1 ≡ pos (2500 * (s * s) * n)
-  first-edge = edge-natural s n 1 (omega arith) ∙ ap pos (omega arith)
+  first-threshold : threshold s n 1 ≡ pos (2500 * (s * s) * n)
+  first-threshold = threshold-natural s n 1 (omega arith) ∙ ap pos (omega arith)
 
   -- ---- DSG
 
-  enough : (q : ℤ) → q ⋖ edge s n (suc (natAbs q + 1))
+  enough : (q : ℤ) → q ⋖ threshold s n (suc (natAbs q + 1))
   enough q =
-      le-lt-trans (le-size q)
-      (subst (λ (z : ℤ). pos (natAbs q) ⋖ z) (sym (edge-natural s n (suc (natAbs q + 1)) (omega arith)))
-      (pos-lt (le-trans {m = suc (natAbs q + 1)} (omega arith) (edge-least (suc (natAbs q + 1)) (omega arith)))))
+      le-lt-trans (le-magnitude q)
+      (subst (λ (z : ℤ). pos (natAbs q) ⋖ z) (sym (threshold-natural s n (suc (natAbs q + 1)) (omega arith)))
+      (pos-lt (le-trans {m = suc (natAbs q + 1)} (omega arith) (threshold-least (suc (natAbs q + 1)) (omega arith)))))
 
   pub dsg-greatest : (q : ℤ) → Greatest s n q (dsg s n q)
   unfolding dsg
   dsg-greatest q = go (ltZ q (pos (2500 * (s * s) * n))) refl
     where
-      go : (b : Bool) → ltZ q (pos (2500 * (s * s) * n)) ≡ b → Greatest s n q (cond b 0 (climb (edge s n) q (natAbs q) 1))
+      go : (b : Bool) → ltZ q (pos (2500 * (s * s) * n)) ≡ b → Greatest s n q (cond b 0 (climb (threshold s n) q (natAbs q) 1))
       go true t = record {
         reached = λ h. absurd (omega arith);
-        next = subst (λ (z : ℤ). q ⋖ z) (sym first-edge) (from-lt q _ t);
+        next = subst (λ (z : ℤ). q ⋖ z) (sym first-threshold) (from-lt q _ t);
       }
       go false t = record {
-        reached = λ h. climb-reached (edge s n) q (natAbs q) 1 (subst (λ (z : ℤ). z ⩽ q) (sym first-edge) (from-not-lt q _ t));
-        next = climb-next (edge s n) q (natAbs q) 1 (enough q);
+        reached = λ h. climb-reached (threshold s n) q (natAbs q) 1 (subst (λ (z : ℤ). z ⩽ q) (sym first-threshold) (from-not-lt q _ t));
+        next = climb-next (threshold s n) q (natAbs q) 1 (enough q);
       }
 
-  -- below an edge DSG is below its number
-  pub dsg-below : {q : ℤ} {d : ℕ} → 0 < d → q ⋖ edge s n d → dsg s n q < d
+  -- below a threshold DSG is below its number
+  pub dsg-below : {q : ℤ} {d : ℕ} → 0 < d → q ⋖ threshold s n d → dsg s n q < d
   dsg-below {q} {d} d-pos h = lt-of-not-le above
     where
       above : d ≤ dsg s n q → ⊥
-      above k = lt-irrefl (lt-le-trans h (chain (edge-mono s n d-pos k) (dsg-greatest q .reached (le-trans d-pos k))))
+      above k = lt-irrefl (lt-le-trans h (chain (threshold-mono s n d-pos k) (dsg-greatest q .reached (le-trans d-pos k))))
 
 -- ---- the limit on DSG
 
