@@ -8,10 +8,11 @@ use native.Mathlib.Omega.{arith}
 use native.Mathlib.Numerals.{add-one}
 use lib.ListN.{length, take, drop, set, getD, length-append}
 use lib.Seq.{take-suc, take-length, drop-length}
-use mathlib.Core.Bool.{true, false}
+use mathlib.Core.Bool.{true, false, true≢false}
 use lib.Dec.{ltb}
 use borrow.Author.Tests.{ltb-true, ltb-false, le-leb, lt-leb}
 use lib.IntN.{ℤ, pos, negsuc, negℤ, natAbs}
+use lib.Signed.{ltZ}
 use borrow.Rule.Slice.PartMut.{putMid, midOf}
 use Rattle.fields.specs.Text.{decimal, sign, signed, hexDigit, hexadecimal, byteSum}
 use Rattle.fields.specs.Read.{digitsAfter, readDecimal, readSigned, readDigit, readHexadecimal}
@@ -63,6 +64,17 @@ unfolding byteSum
 byteSum-turn text i h =
     rw (add-one, take-suc text i 0)
     (byteSum-append (take i text) (getD text i 0 ∷ []) ∙ omega arith)
+
+-- the sign by the test `z < 0`
+pub sign-below : (z : ℤ) → ltZ z (pos 0) ≡ true → 45 ≡ sign z
+unfolding sign
+sign-below (pos n) e = absurd (not-suc-le-zero (ltb-true n 0 e))
+sign-below (negsuc n) e = refl
+
+pub sign-above : (z : ℤ) → ltZ z (pos 0) ≡ false → 43 ≡ sign z
+unfolding sign
+sign-above (pos n) e = refl
+sign-above (negsuc n) e = absurd (true≢false e)
 
 -- an empty part takes no sign and no digit
 pub empty-signed : (out : List ℕ) (z : ℤ) → length out ≤ 0 → out ≡ signed (length out) z

@@ -172,7 +172,7 @@ divisor z w t h = subst (λ (x : ℤ). 0 < ofZ w64 x) (sym (plain-is w t)) h
 one-less : (a : ℕ) → negsuc 0 -ℤ negsuc a ≡ pos a
 one-less a = -ℤ-one (pos (suc a))
 
-minus-one-less : (k : ℕ) → negsuc 0 -ℤ pos k ≡ negsuc k
+pub minus-one-less : (k : ℕ) → negsuc 0 -ℤ pos k ≡ negsuc k
 minus-one-less zero = refl
 minus-one-less (suc k) = ap (λ (j : ℕ). negsuc (suc j)) (zero-add k)
 
