@@ -8,6 +8,7 @@ use native.Mathlib.Omega.{arith}
 use lib.Dec.{T, leb, ltb, eqb, eqb→eq, ltb→lt}
 use lib.IntN.{ℤ, pos, negsuc, natAbs, subℕ, negℤ-negℤ, _-ℤ_}
 use borrow.Author.Tests.{lt-ltb, le-ltb, eq-eqb, leb-true, leb-false, eqb-true, eqb-false, ltb-false, not-false}
+use mir.Facts.{and-yes}
 use Rattle.limits.proofs.Laws.{then-zero, when-zero, or-false}
 use Rattle.schedule.specs.Schedule.{firstDate, lastDate, day, tracks, broughtIn, startMinute, some, isStart, startRule}
 
@@ -122,10 +123,6 @@ start-passes n second t =
 
 -- ---- the row of tests
 
-and-both : (a b : Bool) → T (a && b) → T a × T b
-and-both true b t = (tt, t)
-and-both false b t = absurd t
-
 same : (a b : Bool) → (T a → T b) → (T b → T a) → a ≡ b
 same true true f g = refl
 same true false f g = absurd (f tt)
@@ -151,9 +148,9 @@ row n second = same (whole && inside && step && track) (isStart n second) (λ t.
 
     tests : T (whole && inside && step && track) → Tests n second
     tests t =
-        let u = and-both (whole && inside && step) track t in
-        let v = and-both (whole && inside) step (u .0) in
-        let w = and-both whole inside (v .0) in
+        let u = and-yes (whole && inside && step) track t in
+        let v = and-yes (whole && inside) step (u .0) in
+        let w = and-yes whole inside (v .0) in
         record {
           whole = eqb→eq (second % 60) 0 (w .0);
           inside = ltb→lt (second / 60) day (w .1);
