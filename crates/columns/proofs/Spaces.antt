@@ -12,7 +12,7 @@ use Rattle.fields.specs.Text.{hexadecimal, checksum}
 use Rattle.fields.specs.Read.{readHexadecimal}
 use Rattle.fields.proofs.Laws.{length-hexadecimal, read-hexadecimal}
 use Rattle.labels.specs.declared.Labels.{Labels}
-use Rattle.labels.specs.declared.Numbers.{Numbers}
+use Rattle.limits.specs.declared.Numbers.{Numbers}
 use Rattle.columns.specs.Text.{columns, spaced, lineText}
 use Rattle.columns.specs.Columns.{byteIn, field, spaceColumns}
 use Rattle.columns.proofs.Widths.{Sized, none, one, columns-sized, columns-width}

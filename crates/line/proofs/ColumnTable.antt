@@ -8,7 +8,7 @@ use lib.ListN.{length, drop, replicate}
 use Rattle.fields.specs.Text.{checksum}
 use Rattle.fields.specs.Read.{readHexadecimal}
 use Rattle.labels.specs.declared.Labels.{Labels}
-use Rattle.labels.specs.declared.Numbers.{Numbers}
+use Rattle.limits.specs.declared.Numbers.{Numbers}
 use Rattle.columns.specs.Text.{lineLength}
 use Rattle.columns.specs.Columns.{byteIn, field, spaceColumns, readLabels, readNumbers}
 use Rattle.columns.proofs.Spaces.{spaces, checksum-back}
