@@ -67,8 +67,8 @@ GOOD = ['`def fit/Track trackRule`', '`def fit/Track Given`', '`def fit/Track cl
         '`file docs/REFUSALS.md` reader', 'reader']
 # what stands in a row, and a part of the message
 BAD = [
-    ('', 'nothing carries it'), ('by the code', 'nothing carries it'), ('`test reference within`', 'nothing carries it'),
-    ('`edit fit/length_779`', 'nothing carries it'), ('`file docs/REFUSALS.md`', 'nothing carries it'),
+    ('', 'nothing carries it'), ('by the code', 'nothing carries it'), ('`edit fit/length_779`', 'nothing carries it'),
+    ('`test reference within`', 'nothing carries it'), ('`file docs/REFUSALS.md`', 'nothing carries it'),
     ('`fn fit::track answer` test only', 'beside a definition'), ('test only', 'without a test'),
     ('`def fit/Track trackRul`', 'no trackRul in module fit/Track'), ('`def fit/Track`', 'no name in module'),
     ('`def fit/Track tracked`', 'no tracked in module'), ('`def fit/Trace trackRule`', 'no module fit/Trace'),
@@ -112,12 +112,13 @@ class Clauses(unittest.TestCase):
                          (0, 'clauses: %d clauses, %d references, all found\n' % (len(GOOD), references)))
 
     def test_several_names_at_once(self):
-        ran = self.run_on(self.page('`def fit/Track trackRule clock` `law fit/Laws inner sum-place²` `fn fit::track answer accurate`',
-                                    '`edit fit/length_779 fit/first_block_52_times` reader'))
+        ran = self.run_on(self.page('`def fit/Track trackRule clock` `law fit/Laws inner sum-place²`',
+                                    '`fn fit::track answer accurate` `edit fit/length_779 fit/first_block_52_times`'))
         self.assertEqual((ran.returncode, ran.stdout), (0, 'clauses: 2 clauses, 8 references, all found\n'))
         ran = self.run_on(self.page('`def fit/Track trackRule watch`', '`edit fit/length_779 fit/length_778` reader'))
         self.assertEqual([line.split(': ', 1)[1] for line in ran.stdout.splitlines()],
-                         ['`def fit/Track watch`: no watch in module fit/Track', '`edit fit/length_778`: no edit fit/length_778'])
+                         ['`def fit/Track watch`: no watch in module fit/Track',
+                          '`edit fit/length_778`: no edit fit/length_778'])
 
     def test_each_fault_alone(self):
         for carrier, message in BAD:
