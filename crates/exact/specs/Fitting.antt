@@ -11,7 +11,7 @@ use Rattle.whole.specs.Square.{squared}
 use Rattle.whole.specs.Sum.{sum}
 use Rattle.whole.specs.Ring.{eq-of-sub}
 use Rattle.whole.specs.Identity.{identity, quote}
-use Rattle.whole.specs.Order.{_⩽_, _⋖_, mul-pos, cancel-eq, le-antisymm, pos-lt}
+use Rattle.whole.specs.Order.{_⩽_, _⋖_, mul-pos, cancel-eq, pos-lt, square-mul}
 use Rattle.whole.specs.Sums.{sum-eq, sums, sum-cong}
 use Rattle.exact.specs.Line.{twiceSeconds, lineResidual, lineMisfit, LeastLine}
 use Rattle.exact.specs.LeastSquares.{misfit, Kind, Orthogonal, orthogonal, least}
@@ -242,8 +242,5 @@ module _ {n : ℕ} {Y Y′ : ℕ → ℤ} {e e′ P P′ Q Q′ d d′ : ℤ} (h
   unfolding lineMisfit
   line-misfit-unique =
       sum-eq n (search sums depth 12)
-      (λ j k. factor (e′ *ℤ d′) (lineResidual n Y e P Q d j) ∙ ap squared (residual-unique j k)
-      ∙ sym (factor (e *ℤ d) (lineResidual n Y′ e′ P′ Q′ d′ j)))
-    where
-      factor : (a r : ℤ) → squared a *ℤ squared r ≡ squared (a *ℤ r)
-      factor a r = identity (a ∷ r ∷ []) (search quote depth 20) tt
+      (λ j k. square-mul (e′ *ℤ d′) (lineResidual n Y e P Q d j) ∙ ap squared (residual-unique j k)
+      ∙ sym (square-mul (e *ℤ d) (lineResidual n Y′ e′ P′ Q′ d′ j)))

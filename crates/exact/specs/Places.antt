@@ -45,6 +45,9 @@ span-is n h = ap (λ (z : ℤ). pos n *ℤ z) (minus-one (n * n) (one-le-mul h h
 one-more : (n : ℕ) → pos (suc n) ≡ pos n +ℤ pos 1
 one-more n = ap pos (omega arith)
 
+two-more : (n : ℕ) → pos (suc (suc n)) ≡ pos n +ℤ pos 2
+two-more n = ap pos {x = suc (suc n)} {y = n + 2} (omega arith)
+
 -- ---- sums over 2j - c, for any c
 
 sum-from : (n : ℕ) (c : ℤ) → sum n (λ j. pos (2 * j) -ℤ c) ≡ pos n *ℤ (pos n -ℤ pos 1) -ℤ pos n *ℤ c
@@ -122,14 +125,11 @@ place-inside n j h = place-from (suc (suc n)) (omega arith) (suc j) ∙ shifted 
     J : pos (2 * suc j) ≡ pos (2 * j) +ℤ pos 2
     J = ap pos {x = 2 * suc j} {y = 2 * j + 2} (omega arith)
 
-    N : pos (suc (suc n)) ≡ pos n +ℤ pos 2
-    N = ap pos {x = suc (suc n)} {y = n + 2} (omega arith)
-
     cancel : (j n : ℤ) → j +ℤ pos 2 -ℤ (n +ℤ pos 2 -ℤ pos 1) ≡ j -ℤ (n -ℤ pos 1)
     cancel j n = identity (j ∷ n ∷ []) (search quote depth 20) tt
 
     shifted : pos (2 * suc j) -ℤ (pos (suc (suc n)) -ℤ pos 1) ≡ pos (2 * j) -ℤ (pos n -ℤ pos 1)
-    shifted = ap₂ (λ (a b : ℤ). a -ℤ (b -ℤ pos 1)) J N ∙ cancel (pos (2 * j)) (pos n)
+    shifted = ap₂ (λ (a b : ℤ). a -ℤ (b -ℤ pos 1)) J (two-more n) ∙ cancel (pos (2 * j)) (pos n)
 
 magnitude-first : (n : ℕ) → magnitude (place (suc (suc n)) 0) ≡ pos (suc n)
 magnitude-first n =
@@ -157,11 +157,8 @@ unfolding sum place
 sum-magnitude-place zero = le-refl (pos 0)
 sum-magnitude-place (suc zero) = record { le = tt }
 sum-magnitude-place (suc (suc n)) =
-    subst₂ (λ (u N : ℤ). pos 2 *ℤ u ⩽ N *ℤ N) (sym both-ends) (sym two-more) (grown (pos n) (sum n (λ j. magnitude (place n j))) (sum-magnitude-place n))
+    subst₂ (λ (u N : ℤ). pos 2 *ℤ u ⩽ N *ℤ N) (sym both-ends) (sym (two-more n)) (grown (pos n) (sum n (λ j. magnitude (place n j))) (sum-magnitude-place n))
   where
-    two-more : pos (suc (suc n)) ≡ pos n +ℤ pos 2
-    two-more = ap pos {x = suc (suc n)} {y = n + 2} (omega arith)
-
     both-ends : sum (suc (suc n)) (λ j. magnitude (place (suc (suc n)) j))
         ≡ pos n +ℤ pos 1 +ℤ sum n (λ j. magnitude (place n j)) +ℤ (pos n +ℤ pos 1)
     both-ends =

@@ -52,7 +52,7 @@ dif-down : (a k : ℕ) → dif a (a + suc k) ≡ negsuc k
 unfolding dif
 dif-down a k = simp (lt-ltb a (a + suc k) (omega arith)) (ap negsuc (omega arith))
 
-pos-dif : (k : ℕ) → pos k ≡ dif k 0
+pub pos-dif : (k : ℕ) → pos k ≡ dif k 0
 pos-dif k = sym (dif-up 0 k) ∙ ap (λ (x : ℕ). dif x 0) (omega arith)
 
 negsuc-dif : (k : ℕ) → negsuc k ≡ dif 0 (suc k)
@@ -172,8 +172,5 @@ pub data Dif : ℤ → Type 0 where
 pub view : (z : ℤ) → Dif z
 view z = subst Dif (sym (dif-of z)) (of (above z) (below z))
 
--- a literal as a difference
-pub dif-pos : (k : ℕ) → pos k ≡ dif k 0
-dif-pos = pos-dif
-
-pub ruleset difs = (dif-add, dif-mul, dif-neg, dif-pos)
+-- what `simp` brings an expression to one difference by
+pub ruleset difs = (dif-add, dif-mul, dif-neg, pos-dif)

@@ -13,7 +13,7 @@ use lib.IntN.{ℤ, pos, negsuc, negℤ, natAbs, _+ℤ_, _-ℤ_, _*ℤ_}
 use lib.Signed.{shrZ}
 use Rattle.whole.specs.Square.{magnitude}
 use Rattle.whole.specs.Nearest.{nearest}
-use Rattle.whole.specs.Ring.{negℤ-*ℤ}
+use Rattle.whole.specs.Ring.{negℤ-*ℤ, *ℤ-negℤ}
 use Rattle.whole.specs.Identity.{identity, quote}
 use Rattle.whole.specs.Linear.{le-by, lt-by, le-is, lt-is}
 use Rattle.whole.specs.Order.{_⩽_, _⋖_, lt-le-trans, le-of-lt, le-antisymm, le-or-lt, lt-irrefl, le-shift, lt-shift, pos-le, pos-lt, pos-le-is, zero-le-pos, mul-pos, mul-le, mul-lt, cancel-lt}
@@ -107,16 +107,13 @@ pub nearest-scale : (n : ℤ) (d m : ℕ) → 0 < d → 0 < m → nearest (pos m
 nearest-scale n d m h k =
     sym
     (nearest-only (pos m *ℤ n) (m * d) (one-le-mul k h) (nearest n d)
-    (subst₂ _⋖_ (negated (pos m) (pos d)) (same n (pos d) (pos m) (nearest n d)) (mul-lt (pos m) (pos-lt k) (nearest-gt n d h)))
+    (subst₂ _⋖_ (*ℤ-negℤ (pos m) (pos d)) (same n (pos d) (pos m) (nearest n d)) (mul-lt (pos m) (pos-lt k) (nearest-gt n d h)))
     (subst (λ (z : ℤ). z ⩽ pos m *ℤ pos d) (same n (pos d) (pos m) (nearest n d))
     (mul-le (pos m) (zero-le-pos m) (nearest-le n d h))))
   where
     same : (n d m r : ℤ)
         → m *ℤ (pos 2 *ℤ d *ℤ r -ℤ pos 2 *ℤ n) ≡ pos 2 *ℤ (m *ℤ d) *ℤ r -ℤ pos 2 *ℤ (m *ℤ n)
     same n d m r = identity (n ∷ d ∷ m ∷ r ∷ []) (search quote depth 12) tt
-
-    negated : (m d : ℤ) → m *ℤ negℤ d ≡ negℤ (m *ℤ d)
-    negated m d = identity (m ∷ d ∷ []) (search quote depth 12) tt
 
 -- with the numerator: a larger fraction has no smaller nearest number
 pub nearest-mono : (d : ℕ) → 0 < d → {n m : ℤ} → n ⩽ m → nearest n d ⩽ nearest m d

@@ -1,4 +1,4 @@
--- Laws of tabulate (module Table): its length, its elements, and its sum.
+-- Laws of tabulate (module Table): its length and its elements.
 -- Assumes nothing.
 use mathlib.Core.Path.{_≡_, refl, sym, ap, ap₂, _∙_, subst}
 use mathlib.Core.List.{List, [], _∷_, _++_}
@@ -7,10 +7,7 @@ use native.Mathlib.Decide.{ℕ-discrete}
 use native.Mathlib.Numerals.{add-one}
 use native.Mathlib.Omega.{arith}
 use lib.ListN.{length, getD, length-append, List·getD-append}
-use lib.Seq.{ext-getD, getD-at}
-use lib.IntN.{ℤ, pos}
-use Rattle.whole.specs.Sum.{sum}
-use Rattle.whole.specs.Sums.{sum-cong, total, sum-list}
+use lib.Seq.{getD-at}
 use Rattle.whole.specs.Table.{tabulate}
 
 module _ {ℓ} {A : Type ℓ} (f : ℕ → A) where
@@ -41,16 +38,3 @@ unfolding tabulate
 tabulate-cong f g zero h = refl
 tabulate-cong f g (suc n) h =
     ap₂ (λ xs x. xs ++ (x ∷ [])) (tabulate-cong f g n (λ i k. h i (omega arith))) (h n (omega arith))
-
--- a list is the table of its elements
-pub tabulate-list {ℓ} : {A : Type ℓ} (d : A) (l : List A) → tabulate (λ i. getD l i d) (length l) ≡ l
-tabulate-list d l =
-    ext-getD d (tabulate (λ i. getD l i d) (length l)) l (tabulate-length (λ i. getD l i d) (length l))
-    (λ i h. tabulate-getD (λ i. getD l i d) (length l) i d (subst (λ (k : ℕ). i < k) (tabulate-length (λ i. getD l i d) (length l)) h))
-
--- the elements of a table add up to the sum
-pub total-tabulate : (f : ℕ → ℤ) (n : ℕ) → total (tabulate f n) ≡ sum n f
-total-tabulate f n =
-    sym (sum-list (tabulate f n))
-    ∙ ap (λ (k : ℕ). sum k (λ i. getD (tabulate f n) i (pos 0))) (tabulate-length f n)
-    ∙ sum-cong n (λ i h. tabulate-getD f n i (pos 0) h)
