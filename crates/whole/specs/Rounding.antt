@@ -1,7 +1,6 @@
 -- Laws of the nearest whole number (module Nearest): how far it is from the fraction, where a tie goes, that it is the only such number, and
 -- how it moves with the fraction.
 -- Assumes nothing.
-pub mod Examples
 use mathlib.Core.Path.{_≡_, sym, subst, subst₂}
 use mathlib.Core.List.{List, [], _∷_}
 use mathlib.Core.Logic.{_⊎_, inl, inr}
@@ -41,21 +40,21 @@ floor-lt (negsuc a) m h =
 
 -- ---- the nearest whole number r to n / d lies above (2n - d) / 2d and not above (2n + d) / 2d
 
--- 2dr - 2n is at most d,
-pub nearest-le : (n : ℤ) (d : ℕ) → 0 < d → pos 2 *ℤ pos d *ℤ nearest n d -ℤ pos 2 *ℤ n ⩽ pos d
-unfolding nearest
-nearest-le n d h = shift n (pos d) (nearest n d) (floor-le (pos 2 *ℤ n +ℤ pos d) (2 * d) (omega arith))
-  where
-    shift : (n d r : ℤ) → pos 2 *ℤ d *ℤ r ⩽ pos 2 *ℤ n +ℤ d → pos 2 *ℤ d *ℤ r -ℤ pos 2 *ℤ n ⩽ d
-    shift n d r h = le-shift h (identity (n ∷ d ∷ r ∷ []) (search quote depth 12) tt)
-
--- and above -d: of the two whole numbers at a tie it is the upper one
+-- 2dr - 2n is above -d: of the two whole numbers at a tie it is the upper one,
 pub nearest-gt : (n : ℤ) (d : ℕ) → 0 < d → negℤ (pos d) ⋖ pos 2 *ℤ pos d *ℤ nearest n d -ℤ pos 2 *ℤ n
 unfolding nearest
-nearest-gt n d h = shift n (pos d) (nearest n d) (floor-lt (pos 2 *ℤ n +ℤ pos d) (2 * d) (omega arith))
+nearest-gt n d h = shift n (pos d) (nearest n d) (floor-lt _ (2 * d) (omega arith))
   where
     shift : (n d r : ℤ) → pos 2 *ℤ n +ℤ d ⋖ pos 2 *ℤ d *ℤ (r +ℤ pos 1) → negℤ d ⋖ pos 2 *ℤ d *ℤ r -ℤ pos 2 *ℤ n
     shift n d r h = lt-shift h (identity (n ∷ d ∷ r ∷ []) (search quote depth 12) tt)
+
+-- and at most d
+pub nearest-le : (n : ℤ) (d : ℕ) → 0 < d → pos 2 *ℤ pos d *ℤ nearest n d -ℤ pos 2 *ℤ n ⩽ pos d
+unfolding nearest
+nearest-le n d h = shift n (pos d) (nearest n d) (floor-le _ (2 * d) (omega arith))
+  where
+    shift : (n d r : ℤ) → pos 2 *ℤ d *ℤ r ⩽ pos 2 *ℤ n +ℤ d → pos 2 *ℤ d *ℤ r -ℤ pos 2 *ℤ n ⩽ d
+    shift n d r h = le-shift h (identity (n ∷ d ∷ r ∷ []) (search quote depth 12) tt)
 
 -- so it is within half of n / d: |2dr - 2n| ≤ d
 pub nearest-within : (n : ℤ) (d : ℕ) → 0 < d → magnitude (pos 2 *ℤ pos d *ℤ nearest n d -ℤ pos 2 *ℤ n) ⩽ pos d

@@ -11,15 +11,11 @@ use lib.Seq.{getD-at}
 use Rattle.whole.specs.Table.{tabulate}
 
 module _ {ℓ} {A : Type ℓ} (f : ℕ → A) where
-  pub tabulate-suc : (n : ℕ) → tabulate f (suc n) ≡ tabulate f n ++ (f n ∷ [])
-  unfolding tabulate
-  tabulate-suc n = refl
-
   pub tabulate-length : (n : ℕ) → length (tabulate f n) ≡ n
   unfolding tabulate
   tabulate-length zero = refl
   tabulate-length (suc n) =
-      length-append (tabulate f n) (f n ∷ []) ∙ ap (λ (k : ℕ). k + 1) (tabulate-length n) ∙ add-one n
+      length-append (tabulate f n) _ ∙ ap (λ (k : ℕ). k + 1) (tabulate-length n) ∙ add-one n
 
   pub tabulate-getD : (n i : ℕ) (d : A) → i < n → getD (tabulate f n) i d ≡ f i
   unfolding tabulate
@@ -31,6 +27,11 @@ module _ {ℓ} {A : Type ℓ} (f : ℕ → A) where
       go before (no e) =
           List·getD-append (tabulate f n) (f n ∷ []) d i (subst (λ (k : ℕ). i < k) (sym (tabulate-length n)) (omega arith))
           ∙ before (omega arith)
+
+  -- one element more
+  pub tabulate-suc : (n : ℕ) → tabulate f (suc n) ≡ tabulate f n ++ (f n ∷ [])
+  unfolding tabulate
+  tabulate-suc n = refl
 
 -- functions that agree below n have the same table
 pub tabulate-cong {ℓ} : {A : Type ℓ} (f g : ℕ → A) (n : ℕ) → ((i : ℕ) → i < n → f i ≡ g i) → tabulate f n ≡ tabulate g n
