@@ -2,18 +2,17 @@
 -- midpoint, slope and residuals are rounded to the nearest whole number again. How far are they from the exact figures?
 -- Document 01 has n = 52 and s = 1. Each bound is one theorem for all four fits.
 -- Assumes nothing.
-use mathlib.Core.Path.{_≡_, refl, sym, ap, ap₂, _∙_, subst, subst₂}
-use mathlib.Core.List.{List, [], _∷_}
-use Prim.Native.Nat.{ℕ, suc, _+_, _*_, _-_, _≤_, _<_}
+use mathlib.Core.Path.{_≡_, refl, sym, ap, _∙_, subst}
+use mathlib.Core.List.{[], _∷_}
+use Prim.Native.Nat.{ℕ, _≤_, _<_}
 use native.Mathlib.Omega.{arith}
-use lib.IntN.{ℤ, pos, negℤ, _+ℤ_, _-ℤ_, _*ℤ_}
-use Rattle.whole.specs.Square.{squared, magnitude}
+use lib.IntN.{ℤ, pos, _+ℤ_, _-ℤ_, _*ℤ_}
+use Rattle.whole.specs.Square.{magnitude}
 use Rattle.whole.specs.Sum.{sum}
 use Rattle.whole.specs.Identity.{identity, quote}
-use Rattle.whole.specs.Linear.{le-by, le-is, lt-is}
-use Rattle.whole.specs.Order.{_⩽_, _⋖_, le-refl, le-trans, le-of-eq, le-of-lt, le-slack, le-shift, pos-lt, zero-le-pos, mul-nonneg, mul-pos, mul-le, mul-le-mul, cancel-le, square-nonneg, square-le, square-pos}
-use Rattle.whole.specs.Magnitude.{magnitude-mul, magnitude-nonneg, magnitude-combined, square-magnitude, magnitude-scaled}
-use Rattle.whole.specs.Sums.{sum-eq, sums-le, sums, sum-cong, sum-le, sum-scale, sum-squares-nonneg, magnitude-sum, magnitude-sum-le}
+use Rattle.whole.specs.Order.{_⩽_, _⋖_, le-trans, le-of-eq, le-of-lt, pos-lt, zero-le-pos, mul-nonneg, mul-pos, mul-le}
+use Rattle.whole.specs.Magnitude.{magnitude-mul, magnitude-nonneg, magnitude-combined}
+use Rattle.whole.specs.Sums.{sum-eq, sums-le, sums, sum-scale, magnitude-sum, magnitude-sum-le}
 use Rattle.exact.specs.Line.{LeastLine}
 use Rattle.exact.specs.Weights.{place}
 use Rattle.exact.specs.Places.{span, sum-magnitude-place}

@@ -1,7 +1,7 @@
 -- The places 2j - (n - 1) of n values (module Weights). Value j lies 15 / 2 times its place, in seconds, from the mean date. The places add up to 0, their squares to n (n² - 1) / 3, and their magnitudes to at most n² / 2.
 -- Assumes nothing.
-use mathlib.Core.Path.{_≡_, refl, sym, ap, ap₂, _∙_, subst, subst₂}
-use mathlib.Core.List.{List, [], _∷_}
+use mathlib.Core.Path.{_≡_, refl, sym, ap, ap₂, _∙_, subst₂}
+use mathlib.Core.List.{[], _∷_}
 use Prim.Native.Nat.{ℕ, zero, suc, _+_, _*_, _-_, _≤_, _<_}
 use native.Mathlib.Nat.{one-le-mul}
 use native.Mathlib.Omega.{arith}
@@ -9,7 +9,7 @@ use lib.IntN.{ℤ, pos, negℤ, _+ℤ_, _-ℤ_, _*ℤ_}
 use Rattle.whole.specs.Square.{squared, magnitude}
 use Rattle.whole.specs.Sum.{sum}
 use Rattle.whole.specs.Identity.{identity, quote}
-use Rattle.whole.specs.Order.{_⩽_, _⋖_, le-refl, le-shift}
+use Rattle.whole.specs.Order.{_⩽_, le-refl, le-shift}
 use Rattle.whole.specs.Magnitude.{magnitude-neg}
 use Rattle.whole.specs.Sums.{sum-cong, sum-first}
 use Rattle.exact.specs.Line.{twiceMeanDate, twiceSeconds}

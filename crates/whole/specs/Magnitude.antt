@@ -1,9 +1,9 @@
 -- The absolute value: natAbs as a natural number, `magnitude` as a whole number (module Square).
 -- Assumes nothing.
 use mathlib.Core.Path.{_≡_, refl, sym, ap, _∙_, subst}
-use mathlib.Core.List.{List, [], _∷_}
-use Prim.Native.Nat.{ℕ, zero, suc, _+_, _*_, _/_, _≤_}
-use lib.IntN.{ℤ, pos, negsuc, negℤ, natAbs, _+ℤ_, _-ℤ_, _*ℤ_}
+use mathlib.Core.List.{[], _∷_}
+use Prim.Native.Nat.{zero, suc, _+_, _*_, _/_, _≤_}
+use lib.IntN.{ℤ, pos, negsuc, negℤ, natAbs, _+ℤ_, _*ℤ_}
 use lib.Signed.{quotZ}
 use Rattle.whole.specs.Square.{squared, magnitude}
 use Rattle.whole.specs.Identity.{identity, quote}

@@ -1,14 +1,14 @@
 -- Laws of the nearest whole number (module Nearest): how far it is from the fraction, where a tie goes, that it is the only such number, and
 -- how it moves with the fraction.
 -- Assumes nothing.
-use mathlib.Core.Path.{_≡_, sym, subst, subst₂}
+use mathlib.Core.Path.{_≡_, sym, ap, _∙_, subst, subst₂}
 use mathlib.Core.List.{List, [], _∷_}
 use mathlib.Core.Logic.{_⊎_, inl, inr}
-use Prim.Native.Nat.{ℕ, zero, suc, _+_, _*_, _/_, _≤_, _<_, suc-le-suc}
+use Prim.Native.Nat.{ℕ, suc, _*_, _/_, _≤_, _<_, suc-le-suc}
 use native.Mathlib.Nat.{mul-div-le, lt-mul-div-succ, one-le-mul}
 use native.Mathlib.Numerals.{add-one}
 use native.Mathlib.Omega.{arith}
-use lib.IntN.{ℤ, pos, negsuc, negℤ, natAbs, _+ℤ_, _-ℤ_, _*ℤ_}
+use lib.IntN.{ℤ, pos, negsuc, negℤ, natAbs, _+ℤ_, _-ℤ_, _*ℤ_, +ℤ-idl}
 use lib.Signed.{shrZ}
 use Rattle.whole.specs.Square.{magnitude}
 use Rattle.whole.specs.Nearest.{nearest}
@@ -141,16 +141,13 @@ nearest-mono d h {n} {m} e = go (le-or-lt (nearest n d) (nearest m d))
 -- a whole number is its own nearest
 pub nearest-whole : (d : ℕ) → 0 < d → (k : ℤ) → nearest (k *ℤ pos d) d ≡ k
 nearest-whole d h k =
-    sym
-    (nearest-only (k *ℤ pos d) d h k
-    (subst (λ (z : ℤ). negℤ (pos d) ⋖ z) (sym (same (pos d) k)) (negative (pos d) (pos-lt h)))
-    (subst (λ (z : ℤ). z ⩽ pos d) (sym (same (pos d) k)) (zero-le-pos d)))
+    ap (λ (z : ℤ). nearest z d) (sym (+ℤ-idl (k *ℤ pos d))) ∙ nearest-shift (pos 0) d h k ∙ ap (λ (z : ℤ). z +ℤ k) none ∙ +ℤ-idl k
   where
-    same : (d k : ℤ) → pos 2 *ℤ d *ℤ k -ℤ pos 2 *ℤ (k *ℤ d) ≡ pos 0
-    same d k = identity (d ∷ k ∷ []) (search quote depth 12) tt
-
-    negative : (d : ℤ) → pos 0 ⋖ d → negℤ d ⋖ pos 0
-    negative d h = lt-shift h (identity (d ∷ []) (search quote depth 12) tt)
+    none : nearest (pos 0) d ≡ pos 0
+    none =
+        sym
+        (nearest-only (pos 0) d h (pos 0) (lt-by (pos d ∷ []) (search quote depth 12) (omega arith))
+        (le-by (pos d ∷ []) (search quote depth 12) (omega arith)))
 
 -- a bound of the fraction is one of its nearest number
 pub nearest-bound : (n : ℤ) (d b : ℕ) → 0 < d → natAbs n ≤ b * d → natAbs (nearest n d) ≤ b

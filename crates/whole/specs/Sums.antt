@@ -7,11 +7,11 @@ use mathlib.Core.Path.{_≡_, refl, sym, ap, ap₂, _∙_, subst, subst₂}
 use Prim.Native.Nat.{ℕ, zero, suc, _+_, _*_, _≤_, _<_}
 use native.Mathlib.Nat.{add-zero, add-suc}
 use native.Mathlib.Omega.{arith}
-use lib.IntN.{ℤ, pos, negsuc, negℤ, natAbs, _+ℤ_, _-ℤ_, _*ℤ_, +ℤ-idl, +ℤ-idr, +ℤ-assoc, *ℤ-zero, zero-*ℤ, negℤ-+ℤ, sucℤ-*ℤ, *ℤ-comm}
+use lib.IntN.{ℤ, pos, negℤ, natAbs, _+ℤ_, _*ℤ_, +ℤ-idl, +ℤ-idr, +ℤ-assoc, *ℤ-zero, zero-*ℤ, negℤ-+ℤ, sucℤ-*ℤ, *ℤ-comm}
 use Rattle.whole.specs.Square.{squared, magnitude}
 use Rattle.whole.specs.Sum.{sum}
 use Rattle.whole.specs.Ring.{*ℤ-+ℤ, +ℤ-swap}
-use Rattle.whole.specs.Order.{_⩽_, _⋖_, le-refl, le-trans, add-le, square-nonneg, pos-le, pos-le-is}
+use Rattle.whole.specs.Order.{_⩽_, le-refl, le-trans, add-le, square-nonneg, pos-le, pos-le-is}
 use Rattle.whole.specs.Magnitude.{magnitude-add}
 
 -- ---- terms

@@ -12,7 +12,6 @@ use Rattle.limits.specs.Limits.{dsgRule}
 use Rattle.exact.specs.Corrected.{at}
 use Rattle.series.specs.Answers.{reply}
 use Rattle.limits.specs.Lists.{listRule}
-use Rattle.series.specs.Fit.{total, moment}
 use Rattle.series.specs.Scatter.{squares, threshold, dsg, scatterRule}
 use Rattle.limits.proofs.Lists.{list-accepted}
 use Rattle.series.proofs.Fitting.{total-word, moment-word}
