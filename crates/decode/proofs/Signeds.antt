@@ -4,7 +4,7 @@ use mathlib.Core.Path.{_≡_, refl, sym, ap, ap₂, _∙_}
 use mathlib.Core.Bool.{true, false}
 use mathlib.Core.List.{List, [], _∷_, _++_, append-assoc, append-nil}
 use Prim.Native.Nat.{ℕ, zero, suc, _+_, _*_, _-_, _/_, _≤_, _<_, min}
-use native.Mathlib.Numerals.{add-one}
+use native.Mathlib.Numerals.{add-one, sub-one}
 use native.Mathlib.Omega.{arith}
 use native.Mathlib.Nat.{not-suc-le-zero, le-of-suc-le-suc, not-le-of-lt, mul-le-mul-left, le-div-iff-mul-le}
 use lib.ListN.{length, take, set, getD}
@@ -125,16 +125,13 @@ module _ (bytes at stride : ℕ) where
     pub row-room : (count : ℕ) → 0 < count → 0 < stride → leb (count - 1) ((bytes - at - 8) / stride) ≡ rowLies bytes at stride count
     unfolding rowLies
     row-room zero c s = absurd (not-suc-le-zero c)
-    row-room (suc k) c s = ap (λ (j : ℕ). leb j room) less ∙ elim (leb k room) as (λ t. leb k room ≡ t → t ≡ leb (at + stride * k + 8) bytes) [
+    row-room (suc k) c s = ap (λ (j : ℕ). leb j room) (sub-one (suc k)) ∙ elim (leb k room) as (λ t. leb k room ≡ t → t ≡ leb (at + stride * k + 8) bytes) [
       | true ↦ λ e. sym (le-leb (at + stride * k + 8) bytes (within (le-div-iff-mul-le s .0 (leb-true k room e))))
       | false ↦ λ e. sym (lt-leb (at + stride * k + 8) bytes (over (λ m. not-le-of-lt (leb-false k room e) (le-div-iff-mul-le s .1 m))))
     ] refl
       where
         room : ℕ
         room = (bytes - at - 8) / stride
-
-        less : suc k - 1 ≡ k
-        less = omega arith
 
         within : k * stride ≤ bytes - at - 8 → at + stride * k + 8 ≤ bytes
         within m = omega arith

@@ -5,7 +5,7 @@ use mathlib.Core.List.{List, [], _∷_, _++_, append-assoc, append-nil}
 use Prim.Native.Nat.{ℕ, zero, suc, _+_, _-_, _*_, _/_, _%_, _^_, _≤_, _<_}
 use native.Mathlib.Nat.{not-suc-le-zero, pow-suc}
 use native.Mathlib.Omega.{arith}
-use native.Mathlib.Numerals.{add-one}
+use native.Mathlib.Numerals.{add-one, sub-one}
 use lib.ListN.{length, take, drop, set, getD, length-append}
 use lib.Seq.{take-suc, take-length, drop-length}
 use mathlib.Core.Bool.{true, false, true≢false}
@@ -18,9 +18,6 @@ use Rattle.fields.specs.Text.{decimal, sign, signed, hexDigit, hexadecim
 use Rattle.fields.specs.Read.{digitsAfter, readDecimal, readSigned, readDigit, readHexadecimal}
 use Rattle.fields.proofs.Lists.{drop-set-same}
 
-less : (i : ℕ) → suc i - 1 ≡ i
-less i = omega arith
-
 -- the last digit stands before what follows the number
 last-digit : (n i : ℕ) (rest : List ℕ) → decimal (suc i) n ++ rest ≡ decimal i (n / 10) ++ (48 + n % 10) ∷ rest
 unfolding decimal
@@ -30,7 +27,7 @@ last-digit n i rest = append-assoc (decimal i (n / 10)) ((48 + n % 10) ∷ []) r
 pub decimal-turn : (n i : ℕ) (out : List ℕ) → 0 < i → i ≤ length out
     → decimal i n ++ drop i out ≡ decimal (i - 1) (n / 10) ++ drop (i - 1) (set out (i - 1) (48 + n % 10))
 decimal-turn n zero out h k = absurd (not-suc-le-zero h)
-decimal-turn n (suc i) out h k = rw (less i, drop-set-same) (last-digit n i (drop (suc i) out))
+decimal-turn n (suc i) out h k = rw (sub-one, drop-set-same) (last-digit n i (drop (suc i) out))
 
 -- no digit is left to write
 pub decimal-done : (n i : ℕ) (out : List ℕ) → i ≤ 0 → decimal i n ++ drop i out ≡ out
@@ -93,7 +90,7 @@ pub signed-done : (out : List ℕ) (s : ℕ) (z : ℤ) (digits : List ℕ) → 0
 unfolding signed
 signed-done [] s z digits h es ed = absurd (not-suc-le-zero h)
 signed-done (o ∷ out) s z digits h es ed =
-    ap₂ _∷_ es (part-filled out digits (suc (length out) - 1) (natAbs z) (less (length out)) ed)
+    ap₂ _∷_ es (part-filled out digits (suc (length out) - 1) (natAbs z) (sub-one (suc (length out))) ed)
 
 -- ---- read back
 

@@ -4,6 +4,7 @@ use mathlib.Core.Path.{_≡_, refl, sym, ap, _∙_, subst}
 use mathlib.Core.Bool.{Bool, true, false, _||_, _&&_}
 use Prim.Native.Nat.{ℕ, zero, suc, _+_, _*_, _-_, _/_, _%_, _≤_, _<_}
 use native.Mathlib.Nat.{not-suc-le-zero, le-refl}
+use native.Mathlib.Numerals.{sub-one}
 use native.Mathlib.Omega.{arith}
 use lib.Dec.{T, leb, ltb, eqb, eqb→eq, ltb→lt}
 use lib.IntN.{ℤ, pos, negsuc, natAbs, subℕ, negℤ-negℤ, _-ℤ_}
@@ -49,10 +50,7 @@ brought-difference a b = ap broughtIn (sub-is a b) ∙ elim (leb b a) as (λ t. 
 
 pub start-minute : (n k : ℕ) → startMinute n (suc k) ≡ (2 + 16 * k + (day - 1) * (4 * n)) % day
 unfolding startMinute
-start-minute n k = simp (le-ltb (suc k) 1 (omega arith), less k) (brought-difference (2 + 16 * k) (4 * n))
-  where
-    less : (k : ℕ) → suc k - 1 ≡ k
-    less k = omega arith
+start-minute n k = simp (le-ltb (suc k) 1 (omega arith), sub-one) (brought-difference (2 + 16 * k) (4 * n))
 
 -- ---- the search
 
