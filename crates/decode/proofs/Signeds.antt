@@ -12,7 +12,7 @@ use lib.Seq.{take-suc-set, take-all}
 use lib.Dec.{leb}
 use lib.IntN.{ℤ, pos}
 use borrow.Author.Tests.{le-leb, lt-leb, leb-true, leb-false}
-use Rattle.decode.specs.Number.{unsignedAt, twosComplement, signedAt, signedsAt}
+use Rattle.decode.specs.Number.{twosComplement, signedAt, signedsAt}
 use Rattle.decode.specs.Row.{rowLies}
 use Rattle.decode.proofs.Little.{unsigned-outside}
 

@@ -7,7 +7,7 @@ use native.Mathlib.Nat.{not-suc-le-zero, le-refl}
 use native.Mathlib.Numerals.{sub-one}
 use native.Mathlib.Omega.{arith}
 use lib.Dec.{T, leb, ltb, eqb, eqb→eq, ltb→lt}
-use lib.IntN.{ℤ, pos, negsuc, natAbs, subℕ, negℤ-negℤ, _-ℤ_}
+use lib.IntN.{pos, negsuc, subℕ, negℤ-negℤ, _-ℤ_}
 use borrow.Author.Tests.{lt-ltb, le-ltb, eq-eqb, leb-true, leb-false, eqb-true, eqb-false, ltb-false, not-false}
 use mir.Facts.{and-yes}
 use Rattle.limits.proofs.Laws.{then-zero, when-zero, or-false}

@@ -15,7 +15,7 @@ use native.Mathlib.Nat.{le-refl, le-trans, le-of-eq, le-step, lt-of-le-of-lt, lt
 use native.Mathlib.Omega.{arith}
 use lib.Dec.{T, eqb, leb, leb→le, ltb, ltb→lt}
 use lib.IntN.{ℤ, pos, negsuc, negℤ, subℕ, natAbs, _+ℤ_, _-ℤ_, _*ℤ_, +ℤ-idr, -ℤ-one}
-use lib.Signed.{mag, ltZ, nonNeg, quotZ, shrZ}
+use lib.Signed.{mag, ltZ, quotZ, shrZ}
 use borrow.Author.Tests.{ltb-true, lt-ltb}
 use mir.Syntax.{w64}
 use mir.Val.{SFits, toZ, ofZ}

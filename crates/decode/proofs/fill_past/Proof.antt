@@ -1,7 +1,7 @@
 -- `decode::fill_past` meets its contract. The loop keeps the numbers stored, and those that follow from the next place on, together the whole.
 -- Assumes nothing.
 use mathlib.Core.Path.{_≡_, sym, _∙_, ap}
-use mathlib.Core.List.{List, _++_}
+use mathlib.Core.List.{_++_}
 use Prim.Native.Nat.{ℕ, _≤_, _-_, min}
 use native.Mathlib.Omega.{arith}
 use lib.ListN.{length, take, length-set}
