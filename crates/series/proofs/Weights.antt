@@ -1,4 +1,4 @@
--- The table of weights (specs/Smooth.antt): each is the value of 167 - 5x² at its second x, and how large a product with one can be.
+-- The table of weights (specs/Smooth.antt): how large a product with one can be, and a smoothed value.
 -- Assumes nothing.
 use mathlib.Core.Path.{_≡_, refl, sym, ap, _∙_}
 use Prim.Native.Nat.{ℕ, _*_, _^_, _≤_, _<_}
