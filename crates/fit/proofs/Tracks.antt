@@ -173,9 +173,9 @@ b-table g a e = rw e (tabulate-cong _ (valueB g) 52 same)
 abbrev pub inputsNumber : Given → ℕ
 inputsNumber g = 1 when wrongSizes g then 2 when outOfLimits g
 
-pub track-refused : (g : Given) (n : ℕ) → n ≡ inputsNumber g → 0 < n → trackRule g ≡ record { refusal = n; «record» = zeros }
+pub inputs-refused : (g : Given) (n : ℕ) → n ≡ inputsNumber g → 0 < n → trackRule g ≡ record { refusal = n; «record» = zeros }
 unfolding trackRule trackNumber
-track-refused g n e h =
+inputs-refused g n e h =
     ap (λ (k : ℕ). tracked k (results g))
     (sym (then-assoc _ _ (recordNumber (results g))) ∙ ap (λ (k : ℕ). k then recordNumber (results g)) (sym e) ∙ then-refused n _ h)
     ∙ tracked-refused n (results g) h
@@ -186,13 +186,13 @@ inputs-accepted g e =
     (when-zero 0 (wrongSizes g) (z .0), when-zero 1 (outOfLimits g) (z .1))
 
 -- a track that is not refused with 1 or 2
-pub track-passed : (g : Given) → wrongSizes g ≡ false → outOfLimits g ≡ false → trackRule g ≡ tracked (recordNumber (results g)) (results g)
+pub inputs-passed : (g : Given) → wrongSizes g ≡ false → outOfLimits g ≡ false → trackRule g ≡ tracked (recordNumber (results g)) (results g)
 unfolding trackRule trackNumber _when_ _then_
-track-passed g e h = rw (e, h)
+inputs-passed g e h = rw (e, h)
 
 -- is judged by its corrected values
 pub track-judged : (g : Given) (a b c d : List ℤ) → wrongSizes g ≡ false → outOfLimits g ≡ false
     → a ≡ tabulate (valueA g) 52 → b ≡ tabulate (valueB g) 52 → c ≡ tabulate (valueC g) 52 → d ≡ tabulate (valueD g) 52
     → tracked (recordNumber (recordOf a b c d)) (recordOf a b c d) ≡ trackRule g
 unfolding results
-track-judged g a b c d e h ea eb ec ed = rw (ea, eb, ec, ed) (sym (track-passed g e h))
+track-judged g a b c d e h ea eb ec ed = rw (ea, eb, ec, ed) (sym (inputs-passed g e h))
