@@ -10,8 +10,12 @@ use native.Mathlib.Omega.{arith}
 use borrow.Author.Tests.{eqb-true, not-false}
 use lib.Dec.{eqb}
 use lib.IntN.{ℤ, pos, natAbs, _+ℤ_, _-ℤ_}
+use lib.Signed.{mag}
+use mir.Syntax.{w64}
+use mir.Val.{toZ, ofZ}
 use lib.ListN.{length}
 use Rattle.whole.specs.Ring.{one-*ℤ}
+use Rattle.whole.specs.Words.{back-of}
 use Rattle.whole.specs.Table.{tabulate}
 use Rattle.whole.specs.Tables.{tabulate-getD, tabulate-cong}
 use Rattle.limits.specs.Refusal.{_when_, _then_}
@@ -63,6 +67,15 @@ fit-value l e h (Fitted.Refused k) a n = absurd (never (ap (λ (r : Reply (ℤ �
   where
     never : k ≡ 0 → 0 < k → ⊥
     never z p = omega arith
+
+-- so it is no refusal,
+pub fit-never : {r : Fitted} {m s : ℤ} {n : ℕ} → r ≡ Fitted.Line m s → r ≡ Fitted.Refused n → ⊥
+fit-never {r} {m} {s} {n} p q = let z : _≡_ {A = ℕ} 0 1 = cc in omega arith
+
+-- and its two numbers read back from their bits
+pub fit-numbers : {r : Fitted} {x y m s : ℤ} → r ≡ Fitted.Line m s → r ≡ Fitted.Line x y → mag x < 2 ^ 63 → mag y < 2 ^ 63
+    → (toZ w64 (ofZ w64 x) ≡ m) × (toZ w64 (ofZ w64 y) ≡ s)
+fit-numbers {r} {x} {y} {m} {s} p q h k = let z : x ≡ m = cc in let w : y ≡ s = cc in (back-of h ∙ z, back-of k ∙ w)
 
 -- ---- what it tells that a track's lists and numbers are not refused
 
