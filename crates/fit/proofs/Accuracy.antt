@@ -1,7 +1,7 @@
 -- Demand 3 for Track: the figures of its record are accurate for what was given, whatever that is.
 -- Assumes nothing.
 use mathlib.Core.Path.{_≡_, refl, sym, ap, _∙_, subst}
-use mathlib.Core.List.{List, [], _∷_}
+use mathlib.Core.List.{[], _∷_}
 use Prim.Native.Nat.{ℕ, zero, suc, _+_, _*_, _-_, _≤_, _<_}
 use native.Mathlib.Omega.{arith}
 use lib.Dec.{lit<, lit≤}
@@ -17,7 +17,7 @@ use Rattle.whole.specs.Table.{tabulate}
 use Rattle.whole.specs.Tables.{tabulate-getD}
 use Rattle.exact.specs.Corrected.{Given, at, block, toA, toB}
 use Rattle.exact.specs.Accurate.{AccurateTrack}
-use Rattle.exact.specs.Accuracy.{RoundedFit, RoundedScatter, Computed, accurate-track}
+use Rattle.exact.specs.Accuracy.{RoundedFit, RoundedScatter, accurate-track}
 use Rattle.exact.specs.Weights.{weights, place}
 use Rattle.exact.specs.Places.{span}
 use Rattle.exact.specs.Bounds.{Rounded}
@@ -27,7 +27,7 @@ use Rattle.series.specs.Fit.{total, moment, midpoint, slope}
 use Rattle.series.specs.Scatter.{residual, squares, threshold, dsg}
 use Rattle.fit.specs.Track.{smoothedAt, valueA, valueB, valueC, valueD, numbersWith, recordOf, results, tracked, trackNumber, trackRule}
 use Rattle.fit.specs.declared.Tracked.{Tracked}
-use Rattle.series.proofs.Thresholds.{Greatest, dsg-greatest}
+use Rattle.series.proofs.Thresholds.{dsg-greatest}
 
 -- midpoint and slope are rounded to the nearest
 fit-rounded : (v : ℕ → ℤ) → RoundedFit 52 v (midpoint 1 52 v) (slope 1 52 v)

@@ -1,6 +1,6 @@
 -- No digit is lost: what a reader takes from the columns of an accepted line are the labels and the numbers given.
 -- Assumes nothing.
-use mathlib.Core.Path.{_≡_, refl, sym, ap, ap₂, _∙_, subst}
+use mathlib.Core.Path.{_≡_, refl, sym, ap, _∙_, subst}
 use mathlib.Core.Bool.{Bool, true, false, _&&_, _||_}
 use mathlib.Core.List.{List, [], _∷_, _++_, append-assoc}
 use Prim.Native.Nat.{ℕ, zero, suc, _+_, _*_, _-_, _/_, _%_, _^_, _≤_, _<_}
@@ -22,7 +22,7 @@ use Rattle.labels.specs.Labels.{constellationFits, codeFits, labelsFit, trackLe
 use Rattle.line.specs.Line.{lineAnswer, lineAfter}
 use Rattle.columns.specs.Text.{lineLength, clock, trackColumns, clockColumns, delayColumns, columns, spaced, lineText}
 use Rattle.columns.specs.Columns.{byteIn, field, readNumbers, readLabels}
-use Rattle.columns.proofs.Widths.{widths, offset, columns-sized, column-at, length-clock}
+use Rattle.columns.proofs.Widths.{widths, offset, columns-sized, column-at}
 use Rattle.line.proofs.Accepted.{Accepted, accepted, after-is}
 
 -- a piece that ends within the first elements of a list is a piece of the list

@@ -1,7 +1,6 @@
 -- The sample line of document 01 ("The hire block"): the definitions give it to the letter, and Line accepts its labels and numbers.
 -- Assumes nothing.
 use mathlib.Core.Path.{_≡_, refl}
-use mathlib.Core.Bool.{true, false}
 use mathlib.Core.List.{List, [], _∷_}
 use Prim.Native.Nat.{ℕ}
 use Prim.Native.Char.{code}

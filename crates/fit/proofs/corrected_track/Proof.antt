@@ -2,11 +2,11 @@
 -- Assumes nothing.
 use borrow.Author.Needs.{needs}
 use mathlib.Core.Path.{_≡_, ap, _∙_}
-use Prim.Native.Nat.{ℕ, _+_, _*_, _^_, _≤_}
+use Prim.Native.Nat.{_*_, _^_}
 use native.Mathlib.Nat.{le-trans}
 use native.Mathlib.Omega.{arith}
 use lib.Dec.{lit≤}
-use lib.IntN.{natAbs, _+ℤ_, _-ℤ_}
+use lib.IntN.{_+ℤ_, _-ℤ_}
 use lib.ListN.{length}
 use mir.Syntax.{w64}
 use mir.Val.{toZ, ofZ}
@@ -16,7 +16,6 @@ use Rattle.whole.specs.Tables.{tabulate-length}
 use Rattle.whole.specs.Words.{Word, known, equal, read, sum-of, negation-of, bound, back-of}
 use Rattle.exact.specs.Corrected.{Given, block}
 use Rattle.fit.specs.Track.{given, smoothedAt, valueA, valueC, valueD}
-use Rattle.limits.proofs.Lists.{within-limit}
 use Rattle.fit.proofs.Arrays.{table-bound}
 use Rattle.fit.proofs.Largest.{smoothed-within, a-within}
 use Rattle.fit.proofs.Tracks.{Sized, sized, Limited, limited, a-table, b-table, track-judged}

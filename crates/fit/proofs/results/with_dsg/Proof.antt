@@ -5,7 +5,6 @@ use Prim.Native.Nat.{ℕ, _<_}
 use native.Mathlib.Omega.{arith}
 use lib.IntN.{ℤ, pos}
 use Rattle.whole.specs.Words.{back-of}
-use Rattle.limits.specs.declared.Numbers.{Numbers}
 use Rattle.limits.specs.Refusal.{_then_}
 use Rattle.limits.specs.Limits.{limitsRule, dsgRule}
 use Rattle.series.specs.declared.Scattered.{Scattered}
