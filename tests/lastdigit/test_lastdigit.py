@@ -70,7 +70,8 @@ REFUSED = [
 ]
 ACCEPTED = [SAMPLE, WORKED, measured(999999999949), measured(-999999999950), pattern(999949), column(SAMPLE, 3, -50),
             column(SAMPLE, 3, 999949), changed(SAMPLE, (16, '<I', 84600)),
-            changed(SAMPLE, (4, '<B', 0x45), (24, '<H', 999)), changed(SAMPLE, (4, '<B', 0x52), (7, '<B', 24), (24, '<H', 96))]
+            changed(SAMPLE, (4, '<B', 0x45), (24, '<H', 999)),
+            changed(SAMPLE, (4, '<B', 0x52), (7, '<B', 24), (24, '<H', 96))]
 
 
 def run_tool(*arguments):
@@ -143,6 +144,13 @@ class Blocks(unittest.TestCase):
         self.assertEqual((result.returncode, result.stderr), (2, message))
         for arguments in ('-j', '52'), ('a.blk', '--check', DOCUMENT), ('a.blk', '--svg', 'a.svg'):
             self.assertEqual(run_tool(*arguments).returncode, 2)
+
+
+class Picture(unittest.TestCase):
+    def test_both_panels_have_their_axes_labelled(self):
+        picture = (ROOT / 'docs' / 'last-digit.svg').read_text()
+        for label, count in ('B in ns', 1), ('residual in ps', 1), ('second of the track', 2):
+            self.assertEqual(picture.count('>%s</text>' % label), count)
 
 
 class Document(unittest.TestCase):
