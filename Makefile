@@ -69,6 +69,7 @@ beside: archive programs
 	tests/make.sh
 	python3 tests/hireblock/test_hireblock.py
 	python3 tests/lastdigit/test_lastdigit.py
+	python3 tests/refusals/test_refusals.py
 	python3 tests/published/expected.py --check
 	$(CARGO) test --manifest-path tests/reference/Cargo.toml
 	$(CARGO) run --release --manifest-path tests/boundary/Cargo.toml
