@@ -7,6 +7,7 @@ figure that is wrong is named, and so is one that nobody works out.
 import decimal
 import math
 import re
+import struct
 from fractions import Fraction
 
 # the rounding of a smoothed value, in ps, and the last rounding, in units
@@ -136,29 +137,43 @@ def slope_bound(tool, half):
     yield '### Slope: %s of 0.1 ps/s' % rounded_up(HALF + moved, 4)
     yield 'The slope is 4T / n(n² - 1) in its unit, where T weighs value j with 2j - (n - 1)'
     yield 'for %d values T / %s.' % (n, Fraction(n * (n * n - 1), 4))
-    yield 'add up to at most n² / %s (`sum-size-place`)' % Fraction(n * n, sizes)
+    yield 'add up to at most n² / %s (`sum-magnitude-place`)' % Fraction(n * n, sizes)
     yield 'so errors of %s ps move T by at most n² / %s, and' % (half, n * n / (sizes * HALF))
     yield 'the slope by n / (n² - 1) of its unit: %d / %d, that is %s' % (n, n * n - 1, tool.places(moved, 5))
     yield 'With %s of the last rounding: under %s (`slope-bound`), and %s is promised. %s would be false' % (
         half, rounded_up(HALF + moved, 4), tool.LIMITS['slope'], tool.LIMITS['midpoint'])
+    yield from worst_slope(tool)
     least = next(k for k in range(2, 1000) if Fraction(k, k * k - 1) <= Fraction(tool.LIMITS['slope']) - HALF)
     yield 'for any number of values from %d up; %d is the one that is used' % (least, n)
 
 
+def worst_slope(tool):
+    """The track of tests/reference/src/worst.rs, whose slope is nearly as far off as the roundings allow."""
+    blocks = [[1219 * (j == 46)] * 15 for j in range(tool.BLOCKS)]
+    for j, block in enumerate(blocks):
+        block[7] += 354 if 2 * j >= tool.BLOCKS else -354
+    measurements = [value for block in blocks for value in block]
+    track = tool.Track(bytes(58) + struct.pack('<780q', *measurements) + bytes(5 * 8 * tool.BLOCKS))
+    slopes = {tool.Fit(track.rounded[kind]).slope for kind in 'AB'}
+    exact = tool.ExactFit(track.exact['B']).slope
+    yield 'its SRSV and SRSYS are %s and the exact slope is %s, which is %s of the unit away' % (
+        ' and '.join(map(str, slopes)), tool.places(exact, 6), tool.places(abs(slopes.pop() - exact), 6))
+
+
 def scatter_bound(tool, half):
-    # Q's edges stand at half a unit, and two roundings of half a ps move a root mean square by 1 ps at most
-    edge, apart = tool.root(Fraction(tool.edge(1), tool.BLOCKS)), 2 * HALF
-    reach = edge + decimal.Decimal(apart.numerator)
+    # the thresholds stand at half a unit, and two roundings of half a ps move a root mean square by 1 ps at most
+    least, apart = tool.root(Fraction(tool.threshold(1), tool.BLOCKS)), 2 * HALF
+    reach = least + decimal.Decimal(apart.numerator)
     yield 'the sum of (ρ - e)² is at most n / %s.' % (1 / HALF ** 2)
     yield 'r and ρ differ by at most %s each: the sum of (r - ρ)² is at most n / %s.' % (half, 1 / HALF ** 2)
     yield 'within %s ps of the exact ones' % apart
     yield 'root mean squares at most %s ps apart' % apart
     yield 'c Σu² ≤ (c + 1) Σw² + c (c + 1) Σ(u - w)²'
     yield 'DSG is d, from 1 up, where'
-    yield 'at least 100d - %d ps and below 100d + %d ps; it is 0 below %d ps' % (edge, edge, edge)
+    yield 'at least 100d - %d ps and below 100d + %d ps; it is 0 below %d ps' % (least, least, least)
     yield 'at most 100d + %d ps and, for d from 1 up, at least 100d - %d ps: %d ps, %s of the unit' % (
         reach, reach, reach, tool.LIMITS['DSG'])
-    yield 'A DSG of 0 has no edge below it and only the upper promise: M is at most %d²' % reach
+    yield 'A DSG of 0 has no threshold and only the upper promise: M is at most %d²' % reach
 
 
 # ---- the worked track
@@ -212,7 +227,7 @@ def fitting(fit, exact, tool):
 def scattering(fit, exact, tool):
     n, written = tool.BLOCKS, 100 * fit.dsg
     ours, theirs = tool.root(Fraction(fit.q, n)), exact.root
-    tie = tool.root(Fraction(tool.edge(fit.dsg), n))
+    tie = tool.root(Fraction(tool.threshold(fit.dsg), n))
     yield 'One residual, that of block %d' % FOLLOWED
     exact_one = exact.residuals[FOLLOWED]
     yield 'the residual from rounded values is nearer to %d, the exact one nearer to %d.' % (

@@ -90,14 +90,14 @@ class Blocks(unittest.TestCase):
         result = run_tool(self.block)
         self.assertEqual((result.returncode, result.stderr), (0, ''))
         rows = result.stdout.split('== Scatter\n')[1].split('\n\n')[0].splitlines()
-        return [row for row in rows if row.startswith(('edge', 'DSG', 'promised'))]
+        return [row for row in rows if row.startswith(('threshold', 'DSG', 'promised'))]
 
     def test_dsg_of_0_has_only_the_upper_promise(self):
-        edge = 'edge of 1 = 52 x (100 x 1 - 50)^2 = 52 x 50^2 = 130 000'
+        first = 'threshold of 1 = 52 x (100 x 1 - 50)^2 = 52 x 50^2 = 130 000'
         for a in 0, 49:
-            self.assertEqual(self.scatter(pattern(a)), [edge, 'DSG = 0', 'promised: M <= 2 601'])
+            self.assertEqual(self.scatter(pattern(a)), [first, 'DSG = 0', 'promised: M <= 2 601'])
         self.assertEqual(self.scatter(pattern(50)),
-                         [edge, 'edge of 2 = 52 x (100 x 2 - 50)^2 = 52 x 150^2 = 1 170 000', 'DSG = 1',
+                         [first, 'threshold of 2 = 52 x (100 x 2 - 50)^2 = 52 x 150^2 = 1 170 000', 'DSG = 1',
                           'promised: 2 401 <= M <= 22 801'])
 
     def test_a_refused_block_has_no_line(self):
@@ -166,8 +166,10 @@ class Document(unittest.TestCase):
     def test_check(self):
         result = run_tool('--check', DOCUMENT)
         self.assertEqual((result.returncode, result.stderr), (0, ''))
-        self.assertRegex(result.stdout, r'^lastdigit: \d+ lines, 0 differ; '
-                                        r'\d+ figures in the prose, 0 wrong or not checked\n$')
+        counts = re.match(r'lastdigit: (\d+) lines, 0 differ; (\d+) figures in the prose, 0 wrong or not checked\n$',
+                          result.stdout)
+        trust = (ROOT / 'docs' / 'TRUST.md').read_text()
+        self.assertIn('| %s lines and %s other figures of docs/LAST-DIGIT.md |' % counts.groups(), trust)
 
     def test_every_figure_of_the_prose_is_checked(self):
         """Each digit is changed, but for those in names that stand as code."""
