@@ -10,8 +10,12 @@ use native.Mathlib.Omega.{arith}
 use borrow.Author.Tests.{eqb-true, not-false}
 use lib.Dec.{eqb}
 use lib.IntN.{ℤ, pos, natAbs, _+ℤ_, _-ℤ_}
+use lib.Signed.{mag}
+use mir.Syntax.{w64}
+use mir.Val.{toZ, ofZ}
 use lib.ListN.{length}
 use Rattle.whole.specs.Ring.{one-*ℤ}
+use Rattle.whole.specs.Words.{back-of}
 use Rattle.whole.specs.Table.{tabulate}
 use Rattle.whole.specs.Tables.{tabulate-getD, tabulate-cong}
 use Rattle.limits.specs.Refusal.{_when_, _then_}
@@ -63,6 +67,15 @@ fit-value l e h (Fitted.Refused k) a n = absurd (never (ap (λ (r : Reply (ℤ �
   where
     never : k ≡ 0 → 0 < k → ⊥
     never z p = omega arith
+
+-- so it is no refusal,
+pub fit-never : {r : Fitted} {m s : ℤ} {n : ℕ} → r ≡ Fitted.Line m s → r ≡ Fitted.Refused n → ⊥
+fit-never {r} {m} {s} {n} p q = let z : _≡_ {A = ℕ} 0 1 = cc in omega arith
+
+-- and its two numbers read back from their bits
+pub fit-numbers : {r : Fitted} {x y m s : ℤ} → r ≡ Fitted.Line m s → r ≡ Fitted.Line x y → mag x < 2 ^ 63 → mag y < 2 ^ 63
+    → (toZ w64 (ofZ w64 x) ≡ m) × (toZ w64 (ofZ w64 y) ≡ s)
+fit-numbers {r} {x} {y} {m} {s} p q h k = let z : x ≡ m = cc in let w : y ≡ s = cc in (back-of h ∙ z, back-of k ∙ w)
 
 -- ---- what it tells that a track's lists and numbers are not refused
 
@@ -173,9 +186,9 @@ b-table g a e = rw e (tabulate-cong _ (valueB g) 52 same)
 abbrev pub inputsNumber : Given → ℕ
 inputsNumber g = 1 when wrongSizes g then 2 when outOfLimits g
 
-pub track-refused : (g : Given) (n : ℕ) → n ≡ inputsNumber g → 0 < n → trackRule g ≡ record { refusal = n; «record» = zeros }
+pub inputs-refused : (g : Given) (n : ℕ) → n ≡ inputsNumber g → 0 < n → trackRule g ≡ record { refusal = n; «record» = zeros }
 unfolding trackRule trackNumber
-track-refused g n e h =
+inputs-refused g n e h =
     ap (λ (k : ℕ). tracked k (results g))
     (sym (then-assoc _ _ (recordNumber (results g))) ∙ ap (λ (k : ℕ). k then recordNumber (results g)) (sym e) ∙ then-refused n _ h)
     ∙ tracked-refused n (results g) h
@@ -186,13 +199,13 @@ inputs-accepted g e =
     (when-zero 0 (wrongSizes g) (z .0), when-zero 1 (outOfLimits g) (z .1))
 
 -- a track that is not refused with 1 or 2
-pub track-passed : (g : Given) → wrongSizes g ≡ false → outOfLimits g ≡ false → trackRule g ≡ tracked (recordNumber (results g)) (results g)
+pub inputs-passed : (g : Given) → wrongSizes g ≡ false → outOfLimits g ≡ false → trackRule g ≡ tracked (recordNumber (results g)) (results g)
 unfolding trackRule trackNumber _when_ _then_
-track-passed g e h = rw (e, h)
+inputs-passed g e h = rw (e, h)
 
 -- is judged by its corrected values
 pub track-judged : (g : Given) (a b c d : List ℤ) → wrongSizes g ≡ false → outOfLimits g ≡ false
     → a ≡ tabulate (valueA g) 52 → b ≡ tabulate (valueB g) 52 → c ≡ tabulate (valueC g) 52 → d ≡ tabulate (valueD g) 52
     → tracked (recordNumber (recordOf a b c d)) (recordOf a b c d) ≡ trackRule g
 unfolding results
-track-judged g a b c d e h ea eb ec ed = rw (ea, eb, ec, ed) (sym (track-passed g e h))
+track-judged g a b c d e h ea eb ec ed = rw (ea, eb, ec, ed) (sym (inputs-passed g e h))

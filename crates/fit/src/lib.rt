@@ -12,6 +12,7 @@ mod results;
 use correction::a_values;
 use correction::b_values;
 use correction::copied;
+use correction::delay;
 use correction::smooth_blocks;
 use inputs::columns_beyond;
 use inputs::columns_miscounted;
@@ -76,10 +77,9 @@ fn corrected_track(
         return refused(refusal);
     }
     let smoothed = blocks.values;
-    let delay = int + cab - refdly;
     let a = a_values(
         &smoothed,
-        delay,
+        delay(int, cab, refdly),
         geometry,
         relativity,
         ionosphere,

@@ -15,7 +15,9 @@ ghost use mathlib.Core.Bool.{false};
 ghost use Prim.Native.Nat.{_*_, _^_};
 ghost use lib.IntN.{pos};
 ghost use lib.ListN.{length};
+ghost use Rattle.exact.specs.Corrected.{at};
 ghost use Rattle.limits.specs.Lists.{anyBeyond};
+ghost use Rattle.series.specs.Fit.{midpoint, slope};
 ghost use Rattle.fit.specs.Track.{numbersWith, recordOf, correctedBeyond, numbersRule, recordNumber, zeros, tracked};
 
 // A refusal: its number, and 0 throughout.
@@ -97,30 +99,16 @@ fn with_dsg(values: Corrected, fitted: Numbers) -> Tracked
     accepted(values, numbers)
 }
 
-// The ten numbers of corrected values that are inside their limit, or a refusal from 3 to 6.
-pub fn results(values: Corrected) -> Tracked
+// The answer for corrected values and the numbers of A and B: Fit's refusal of C or D, or the answer for the numbers of all four.
+fn with_delays(values: Corrected, refsv: i64, srsv: i64, refsys: i64, srsys: i64) -> Tracked
     requires { ⌜ (length (values .a) ≡ 52) × (length (values .b) ≡ 52)
         × (length (values .c) ≡ 52) × (length (values .d) ≡ 52) ⌝ }
     requires { ⌜ correctedBeyond (recordOf (values .a) (values .b) (values .c) (values .d)) ≡ false ⌝ }
+    requires { ⌜ (refsv ≡ midpoint 1 52 (at (values .a))) × (srsv ≡ slope 1 52 (at (values .a)))
+        × (refsys ≡ midpoint 1 52 (at (values .b))) × (srsys ≡ slope 1 52 (at (values .b))) ⌝ }
     ensures { λ r. ⌜ r ≡ tracked (numbersRule (recordOf (values .a) (values .b) (values .c) (values .d)))
         (recordOf (values .a) (values .b) (values .c) (values .d)) ⌝ }
 {
-    let a = fit(&values.a);
-    let Fitted::Line {
-        midpoint: refsv,
-        slope: srsv,
-    } = a
-    else {
-        return refused(fitted_number(a));
-    };
-    let b = fit(&values.b);
-    let Fitted::Line {
-        midpoint: refsys,
-        slope: srsys,
-    } = b
-    else {
-        return refused(fitted_number(b));
-    };
     let c = fit(&values.c);
     let Fitted::Line {
         midpoint: mdtr,
@@ -150,6 +138,33 @@ pub fn results(values: Corrected) -> Tracked
         trkl: 780,
     };
     with_dsg(values, fitted)
+}
+
+// The ten numbers of corrected values that are inside their limit, or a refusal from 3 to 6.
+pub fn results(values: Corrected) -> Tracked
+    requires { ⌜ (length (values .a) ≡ 52) × (length (values .b) ≡ 52)
+        × (length (values .c) ≡ 52) × (length (values .d) ≡ 52) ⌝ }
+    requires { ⌜ correctedBeyond (recordOf (values .a) (values .b) (values .c) (values .d)) ≡ false ⌝ }
+    ensures { λ r. ⌜ r ≡ tracked (numbersRule (recordOf (values .a) (values .b) (values .c) (values .d)))
+        (recordOf (values .a) (values .b) (values .c) (values .d)) ⌝ }
+{
+    let a = fit(&values.a);
+    let Fitted::Line {
+        midpoint: refsv,
+        slope: srsv,
+    } = a
+    else {
+        return refused(fitted_number(a));
+    };
+    let b = fit(&values.b);
+    let Fitted::Line {
+        midpoint: refsys,
+        slope: srsys,
+    } = b
+    else {
+        return refused(fitted_number(b));
+    };
+    with_delays(values, refsv, srsv, refsys, srsys)
 }
 
 // The answer for corrected values: 10 where one is outside ±2 × 10^12, else by their numbers.

@@ -2,13 +2,13 @@
 -- Assumes nothing.
 use mathlib.Core.Path.{_≡_, refl}
 use mathlib.Core.Bool.{Bool, true, false, _||_, true≢false}
-use Prim.Native.Nat.{ℕ, zero, suc, _≤_, _<_, suc-le-suc}
-use native.Mathlib.Nat.{suc-ne-zero, not-suc-le-zero}
+use Prim.Native.Nat.{ℕ, zero, suc, _≤_, _<_, zero-le, suc-le-suc}
+use native.Mathlib.Nat.{suc-ne-zero, not-suc-le-zero, le-of-suc-le-suc}
 use lib.IntN.{ℤ, pos, negsuc, natAbs}
 use lib.Dec.{ltb, eqb·suc-zero}
 use mir.Syntax.{w64}
 use mir.Val.{SFits}
-use borrow.Author.Tests.{ltb-false}
+use borrow.Author.Tests.{ltb-false, le-ltb}
 use Rattle.limits.specs.Refusal.{_when_, _then_}
 use Rattle.limits.specs.declared.Numbers.{Numbers}
 use Rattle.limits.specs.Limits.{outside, beyond, limitsRule, dsgRule}
@@ -50,6 +50,13 @@ magnitude-within zero (pos n) e = ltb-false 0 n (or-false (ltb n 0) (ltb 0 n) e 
 magnitude-within (suc limit) (pos n) e = ltb-false (suc limit) n e
 magnitude-within zero (negsuc n) e = absurd (true≢false e)
 magnitude-within (suc limit) (negsuc n) e = suc-le-suc (ltb-false limit n (or-false (ltb limit n) false e .0))
+
+pub within-magnitude : (limit : ℕ) (z : ℤ) → natAbs z ≤ limit → beyond limit z ≡ false
+unfolding outside
+within-magnitude zero (pos n) h = rw (le-ltb n 0 zero-le, le-ltb 0 n h)
+within-magnitude (suc limit) (pos n) h = le-ltb (suc limit) n h
+within-magnitude zero (negsuc n) h = absurd (not-suc-le-zero h)
+within-magnitude (suc limit) (negsuc n) h = rw (le-ltb limit n (le-of-suc-le-suc h))
 
 -- within two limits that are not below 0, the number is a natural one
 pub natural-within : (low high : ℕ) (z : ℤ) → outside (pos low) (pos high) z ≡ false → (pos (natAbs z) ≡ z) × (low ≤ natAbs z) × (natAbs z ≤ high)
