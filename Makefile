@@ -1,13 +1,24 @@
-# make run      proves and builds trackline and runs it on a hire block: make run BLOCK=examples/sample.blk
-# make test     every test, and last the proofs (rt ci): the last line is 'N passed, 0 failed'
-# make install  the program, the libraries, the header, the manual pages: make install PREFIX=/usr/local DESTDIR=
-# make speed    the proved library beside the plain Rust implementation, on the same blocks
-# make bench    the technician's cases and the published lines: what each gave and what it should be
-# make fuzz     a bounded fuzz run over the C boundary, with clang: make fuzz SECONDS=120
+# make help          what can be made; make alone says it too
+# make run           prove and build trackline and run it on a hire block: make run BLOCK=examples/sample.blk
+# make test          every test, and last the proofs (rt ci): the last line is 'N passed, 0 failed'
+# make beside        the tests without the proofs from nothing
+# make proofs        the proofs from nothing (rt ci)
+# make bench         the technician's cases and the published lines: what each gave and what it should be
+# make speed         the proved library beside the plain Rust implementation, on the same blocks
+# make instructions  the instructions of both, part by part, with valgrind
+# make fuzz          a bounded fuzz run over the C boundary, with clang: make fuzz SECONDS=120
+# make program       trackline, proved: target/bin/trackline
+# make programs      trackline and bench, proved: target/bin
+# make archive       the static library, proved: target/staticlib/libline.a
+# make shared        the shared library: target/libtrackline.so.1
+# make install       the programs, the libraries, the header, the manual pages: make install PREFIX=/usr/local DESTDIR=
+# make uninstall     remove what install put there, with the same PREFIX and DESTDIR; folders stay
+# make clean         remove target/, which holds everything that was built
 VERSION := 1.0.0
 BLOCK ?= examples/sample.blk
 PREFIX ?= /usr/local
 SECONDS ?= 120
+CASES ?= crates/bench/stdin
 CC ?= cc
 CFLAGS ?= -O2
 
@@ -22,9 +33,19 @@ INSTALLED := $(DESTDIR)$(abspath $(PREFIX))
 # What the archive is made of: every crate but the programs.
 SOURCES := crates.txt $(shell find crates -name must-fail -prune -o -path crates/trackline -prune -o -path crates/bench -prune -o -type f -print)
 
-.PHONY: run test beside proofs archive shared program bench install speed fuzz
+# What install puts below the prefix, and uninstall removes.
+PROGRAMS := target/bin/trackline tools/hireblock
+PAGES := $(wildcard man/*.[1-8])
+INSTALLS := $(addprefix bin/,$(notdir $(PROGRAMS))) include/trackline.h lib/libtrackline.a lib/$(SONAME) \
+	lib/libtrackline.so lib/pkgconfig/trackline.pc \
+	$(foreach page,$(PAGES),share/man/man$(subst .,,$(suffix $(page)))/$(notdir $(page)))
+
+.PHONY: help run test beside proofs bench speed instructions fuzz program programs archive shared install uninstall clean
 # rt ci clears target/, where everything else is built.
 .NOTPARALLEL:
+
+help:
+	@sed -n 's/^# make /make /p' Makefile
 
 # The line alone goes to standard output.
 run:
@@ -43,9 +64,12 @@ test: beside proofs
 proofs:
 	rt ci
 
-beside: archive program
+beside: archive programs
 	rt fmt --check
+	tests/make.sh
 	python3 tests/hireblock/test_hireblock.py
+	python3 tests/lastdigit/test_lastdigit.py
+	python3 tests/refusals/test_refusals.py
 	python3 tests/clauses/test_clauses.py
 	python3 tests/published/expected.py --check
 	$(CARGO) test --manifest-path tests/reference/Cargo.toml
@@ -66,8 +90,13 @@ beside: archive program
 
 bench:
 	@mkdir -p target
+	@echo "proving and building bench first; from nothing this takes two to three minutes (target/bench.log)"
 	@rt check bench > target/bench.log 2>&1 || { cat target/bench.log >&2; exit 1; }
-	@target/bin/bench < crates/bench/stdin
+	@tests/bench.sh target/bin/bench "$(CASES)"
+
+# Both at once, as rt check proves them side by side.
+programs:
+	rt check trackline bench
 
 archive: $(ARCHIVE)
 
@@ -83,20 +112,27 @@ $(SHARED): $(ARCHIVE) install/trackline.map
 		-Wl,--whole-archive $(ARCHIVE) -Wl,--no-whole-archive -o $@
 
 install: program $(ARCHIVE) $(SHARED)
-	install -d "$(INSTALLED)/bin" "$(INSTALLED)/include" "$(INSTALLED)/lib/pkgconfig" \
-		"$(INSTALLED)/share/man/man1" "$(INSTALLED)/share/man/man3"
-	install target/bin/trackline tools/hireblock "$(INSTALLED)/bin"
+	mkdir -p "$(INSTALLED)" && cd "$(INSTALLED)" && install -d $(sort $(dir $(INSTALLS)))
+	install $(PROGRAMS) "$(INSTALLED)/bin"
 	install -m 644 include/trackline.h "$(INSTALLED)/include"
 	install -m 644 $(ARCHIVE) "$(INSTALLED)/lib/libtrackline.a"
 	install $(SHARED) "$(INSTALLED)/lib"
 	ln -sf $(SONAME) "$(INSTALLED)/lib/libtrackline.so"
 	sed -e 's|@PREFIX@|$(abspath $(PREFIX))|' -e 's|@VERSION@|$(VERSION)|' install/trackline.pc.in > target/trackline.pc
 	install -m 644 target/trackline.pc "$(INSTALLED)/lib/pkgconfig"
-	install -m 644 man/trackline.1 "$(INSTALLED)/share/man/man1"
-	install -m 644 man/trackline.3 "$(INSTALLED)/share/man/man3"
+	for page in $(PAGES); do install -m 644 $$page "$(INSTALLED)/share/man/man$${page##*.}" || exit 1; done
+
+uninstall:
+	test ! -d "$(INSTALLED)" || { cd "$(INSTALLED)" && rm -f $(INSTALLS); }
+
+clean:
+	rm -rf target
 
 speed: archive
 	$(CARGO) run --release --manifest-path tests/speed/Cargo.toml
+
+instructions: archive
+	tests/speed/instructions.sh
 
 fuzz: archive
 	tests/fuzz/run.sh $(SECONDS)

@@ -3,8 +3,8 @@
 
     python3 tests/published/expected.py            print it
     python3 tests/published/expected.py --bench    write what the program bench reads and should print (crates/bench)
-    python3 tests/published/expected.py --check    compare it with expected.txt and with what stands in crates/bench, and
-                                                   test the checksums printed in 003
+    python3 tests/published/expected.py --check    compare it with expected.txt and with what stands in crates/bench, test
+                                                   the checksums printed in 003, and the counts in docs/TRUST.md
 
 A second way beside the plain Rust implementation, which is compared with expected.txt too (tests/reference).
 """
@@ -16,6 +16,7 @@ import bench  # noqa: E402
 
 HERE = pathlib.Path(__file__).resolve().parent
 BENCH = HERE.parent.parent / 'crates' / 'bench'
+TRUST = HERE.parent.parent / 'docs' / 'TRUST.md'
 NAMES = 'SAT CL MJD STTIME TRKL ELV AZTH REFSV SRSV REFSYS SRSYS DSG IOE MDTR SMDT MDIO SMDI FR HC FRC CK'.split()
 # how a field stands in our line
 OURS = dict(CL='{:02X}', MJD='{:05d}', STTIME='{:06d}', TRKL='{:04d}', ELV='{:03d}', AZTH='{:04d}', REFSV='{:+011d}',
@@ -87,15 +88,15 @@ def answer(fields):
 
 
 def forms():
-    """Name, fields as published, or None where the date is lost and they can't be judged, and fields with what is put in."""
+    """Name, fields as published and fields with what is put in."""
     for name, fields, put in read():
         published = completed(fields, put)
-        yield name, published if fields['MJD'] != '-' else None, {**published, **put}
+        yield name, published, {**published, **put}
 
 
 def expected():
     def row(fields):
-        return '%d  %s' % (answer(fields), text(fields)) if fields else '-'
+        return '%d  %s' % (answer(fields), text(fields))
 
     records = ['%s\n  published  %s\n  put in     %s\n' % (name, row(published), row(given))
                for name, published, given in forms()]
@@ -106,8 +107,7 @@ def lines():
     """The cases of Line for the program bench: name, line and answer."""
     for name, published, given in forms():
         for kind, fields in ('published', published), ('put in', given):
-            if fields:
-                yield '%s %s' % (name, kind), text(fields), answer(fields)
+            yield '%s %s' % (name, kind), text(fields), answer(fields)
 
 
 def bench_files():
@@ -125,14 +125,25 @@ def misfits():
                 yield name
 
 
+def counts():
+    """What docs/TRUST.md says of the published lines and of bench. A name that ends in a letter is a line once more."""
+    names, cases, technician = [name for name, _, _ in read()], len(list(lines())), len(bench.TECHNICIAN)
+    again = sum(name[-1].isalpha() for name in names)
+    assert cases == 2 * len(names) and again == 1
+    return ('%d lines, each as published and with a legal date, one of them with a legal length too: %d cases' % (
+                len(names) - again, cases),
+            '%d cases: %d of document 01, %d of published lines; 0 wrong' % (technician + cases, technician, cases))
+
+
 def check():
     bad = list(misfits())
     same = expected() == (HERE / 'expected.txt').read_text()
     differ = [path.name for path, content in bench_files().items() if path.read_bytes() != content]
-    print('published: %d lines, expected.txt %s, bench %s, checksums of 003 %s' % (
-        sum(1 for _ in read()), 'agrees' if same else 'DIFFERS', 'DIFFERS: %s' % differ if differ else 'agrees',
-        'do NOT fit: %s' % bad if bad else 'fit'))
-    return 0 if same and not differ and not bad else 1
+    missing = [count for count in counts() if count not in TRUST.read_text()]
+    print('published: expected.txt %s, bench %s, checksums of 003 %s, counts in docs/TRUST.md %s' % (
+        'agrees' if same else 'DIFFERS', 'DIFFERS: %s' % differ if differ else 'agrees',
+        'do NOT fit: %s' % bad if bad else 'fit', 'lack: %s' % missing if missing else 'agree'))
+    return 0 if same and not differ and not bad and not missing else 1
 
 
 def main():

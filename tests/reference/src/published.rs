@@ -9,10 +9,10 @@ const NAMES: [&str; 21] = [
     "SMDT", "MDIO", "SMDI", "FR", "HC", "FRC", "CK",
 ];
 
-/// A published line as printed, which is nothing where its date is lost, and with what is put in.
+/// A published line as printed and with what is put in.
 pub struct Published {
     pub name: &'static str,
-    pub printed: Option<(Labels, Numbers)>,
+    pub printed: (Labels, Numbers),
     pub put_in: (Labels, Numbers),
 }
 
@@ -28,10 +28,9 @@ fn read(row: &'static str) -> Published {
     let mut fields: Fields = NAMES.into_iter().zip(printed.split_whitespace()).collect();
     assert_eq!(fields.len(), NAMES.len(), "{row}");
     let put: Fields = put.split_whitespace().map(|word| word.split_once('=').expect("name=value")).collect();
-    let dated = fields["MJD"] != "-";
     let missing = put.iter().filter(|(name, _)| fields[*name] == "-" || **name == "SAT").collect::<Vec<_>>();
     fields.extend(missing);
-    let printed = dated.then(|| numbers_of(&fields));
+    let printed = numbers_of(&fields);
     fields.extend(put);
     Published { name, printed, put_in: numbers_of(&fields) }
 }

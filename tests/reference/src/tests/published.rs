@@ -6,11 +6,11 @@ use crate::{line, Labels, Numbers};
 const EXPECTED: &str = include_str!("../../../published/expected.txt");
 
 /// The answer and the columns that stand under a name, as published or with what is put in.
-fn expected(name: &str, which: &str) -> Option<(u32, &'static str)> {
+fn expected(name: &str, which: &str) -> (u32, &'static str) {
     let mut rows = EXPECTED.lines().skip_while(|row| *row != name);
     let row = rows.find_map(|row| row.trim_start().strip_prefix(which)).expect("a row");
-    let (answer, text) = row.trim().split_once("  ")?;
-    Some((answer.parse().expect("an answer"), text))
+    let (answer, text) = row.trim().split_once("  ").expect("an answer and a line");
+    (answer.parse().expect("an answer"), text)
 }
 
 /// The labels and numbers that stand in a line's columns.
@@ -62,14 +62,11 @@ fn published_lines() {
     let all = published();
     assert_eq!(all.len(), 45);
     for case in &all {
-        let (answer, text) = expected(case.name, "put in").expect("an answer");
+        let (answer, text) = expected(case.name, "put in");
         check(case.name, &case.put_in, answer, text);
         assert_eq!(answer, if case.name == "004.3" { 7 } else { 0 });
-        let printed = expected(case.name, "published");
-        assert_eq!(printed.is_some(), case.printed.is_some());
-        if let (Some((answer, text)), Some(given)) = (printed, &case.printed) {
-            check(case.name, given, answer, text);
-            assert_eq!(answer, if case.name.starts_with("004") { 7 } else { 8 });
-        }
+        let (answer, text) = expected(case.name, "published");
+        check(case.name, &case.printed, answer, text);
+        assert_eq!(answer, if case.name.starts_with("004") { 7 } else { 8 });
     }
 }

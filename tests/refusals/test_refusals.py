@@ -1,0 +1,164 @@
+#!/usr/bin/env python3
+"""What docs/REFUSALS.md says leads to a refusal, or to none, tried with the worked track and target/bin/trackline.
+
+    python3 tests/refusals/test_refusals.py
+"""
+import collections
+import copy
+import importlib.machinery
+import importlib.util
+import pathlib
+import subprocess
+import sys
+import unittest
+
+ROOT = pathlib.Path(__file__).resolve().parents[2]
+PROGRAM = ROOT / 'target' / 'bin' / 'trackline'
+
+sys.dont_write_bytecode = True
+LOADER = importlib.machinery.SourceFileLoader('hireblock', str(ROOT / 'tools' / 'hireblock'))
+SPEC = importlib.util.spec_from_loader('hireblock', LOADER)
+hireblock = importlib.util.module_from_spec(SPEC)
+LOADER.exec_module(hireblock)
+
+WORKED = hireblock.unpack((ROOT / 'examples' / 'worked.blk').read_bytes())
+COLUMNS, DELAYS = hireblock.COLUMNS, hireblock.DELAYS
+SECOND = 10 ** 12
+
+
+def answer(data):
+    """The number that the program refuses with, or 0."""
+    printed = subprocess.run([PROGRAM], input=data, stdout=subprocess.PIPE, check=True).stdout.decode().rstrip()
+    return int(printed[8:]) if printed.startswith('refused ') else 0
+
+
+def tried(**parts):
+    """The answer to the worked track with other parts."""
+    return answer(hireblock.pack({**copy.deepcopy(WORKED), **parts}))
+
+
+def measured(change):
+    return tried(measurements=[change(second, value) for second, value in enumerate(WORKED['measurements'])])
+
+
+def marked(marker, seconds):
+    return measured(lambda second, value: marker if second in seconds else value)
+
+
+def behind(ps):
+    return measured(lambda _, value: value - ps)
+
+
+def jumped(ps, first):
+    return measured(lambda second, value: value + ps * (second >= first))
+
+
+def scaled(names, times, over=1):
+    """The named parts in another unit."""
+    def scale(value):
+        return [scale(v) for v in value] if isinstance(value, list) else value * times // over
+
+    return tried(**{name: scale(WORKED[name]) for name in names})
+
+
+def exchanged(one, other):
+    return tried(**{one: WORKED[other], other: WORKED[one]})
+
+
+def negative(name):
+    return tried(**{name: -WORKED[name] if name in DELAYS else [-value for value in WORKED[name]]})
+
+
+class Card(unittest.TestCase):
+    def all_are(self, number, answers):
+        self.assertEqual(set(answers), {number})
+
+    def test_worked_track_is_accepted(self):
+        self.assertEqual(tried(), 0)
+
+    def test_2(self):
+        self.all_are(2, [marked(9999999999999, [second]) for second in (0, 400, 779)])
+        self.all_are(2, [exchanged('geometry', name) for name in COLUMNS[1:]])
+        rows = [value for name in COLUMNS for value in WORKED[name]]
+        self.assertEqual(tried(**{name: rows[k::5] for k, name in enumerate(COLUMNS)}), 2)
+        data = bytearray(hireblock.pack(WORKED))
+        for at in range(58, 8378, 8):
+            data[at:at + 8] = reversed(data[at:at + 8])
+        self.assertEqual(answer(bytes(data)), 2)
+        self.all_are(2, [scaled([name], 1000) for name in ('measurements', 'geometry', 'clock')])
+        self.all_are(2, [behind(-93 * SECOND // 100), behind(-SECOND), behind(-100 * SECOND)])
+
+    def test_3(self):
+        self.assertEqual(behind(SECOND), 3)
+        self.all_are(0, [behind(SECOND - 10 ** 6), behind(-92 * SECOND // 100), behind(SECOND // 2)])
+
+    def test_4(self):
+        self.all_are(4, [marked(marker, seconds) for marker in (0, 999999999999)
+                         for seconds in ([0], [400], [779], range(390, 450), range(390, 780), range(780))])
+        self.all_are(4, [scaled([name], 1, 1000) for name in ('measurements', 'geometry')])
+        self.all_are(4, [scaled([name], 1000) for name in ('troposphere', 'ionosphere')])
+        other = [75000000000 - 900000 * (7 + 15 * j) for j in range(52)]
+        self.all_are(4, [tried(geometry=[0] * 52), negative('geometry'), tried(geometry=other)])
+        self.all_are(4, [jumped(10 ** 7, 390), jumped(-10 ** 9, 390)])
+
+    def test_5(self):
+        for name in 'troposphere', 'ionosphere':
+            self.all_are(5, [negative(name), exchanged(name, 'clock')])
+
+    def test_6(self):
+        late = WORKED['geometry'][1:] + WORKED['geometry'][-1:]
+        self.all_are(6, [jumped(5 * 10 ** 6, 390), tried(geometry=late)])
+
+    def test_a_marker_in_each_second(self):
+        """12 of the 780 places of a lone 0 leave the slope as it is."""
+        places = range(330, 450)
+        count = collections.Counter(marked(0, [second]) for second in places)
+        self.assertEqual(count, {4: len(places) - 12, 6: 12})
+        self.all_are(4, [marked(0, [second]) for second in (*range(0, 330, 7), *range(450, 780, 7))])
+
+    def test_what_no_refusal_notices(self):
+        self.all_are(0, [exchanged('troposphere', 'ionosphere')])
+        self.all_are(0, [exchanged('relativity', name) for name in ('troposphere', 'ionosphere', 'clock')])
+        self.all_are(0, [exchanged(one, other) for one in DELAYS for other in DELAYS])
+        self.all_are(0, [scaled([name], 1, 1000) for name in COLUMNS[1:] + DELAYS])
+        self.all_are(0, [scaled(('measurements',) + COLUMNS + DELAYS, 1, 1000)])
+        self.all_are(0, [scaled([name], 1000) for name in ('relativity',) + DELAYS])
+        self.all_are(0, [negative(name) for name in ('relativity', 'clock') + DELAYS])
+
+    def test_exchanged_air_shows_in_its_own_figures_alone(self):
+        def line(**parts):
+            data = hireblock.pack({**WORKED, **parts})
+            return subprocess.run([PROGRAM], input=data, stdout=subprocess.PIPE, check=True).stdout.decode().split()
+
+        right = line()
+        wrong = line(troposphere=WORKED['ionosphere'], ionosphere=WORKED['troposphere'])
+        self.assertEqual(wrong[:13] + wrong[17:20], right[:13] + right[17:20])
+        self.assertEqual(wrong[13:17], right[15:17] + right[13:15])
+
+
+class Starts(unittest.TestCase):
+    def listed(self, mjd):
+        """The minutes at which the program lets a track start."""
+        return [minute for minute in range(1440) if tried(MJD=mjd, start=60 * minute) == 0]
+
+    def test_the_card_s_rule(self):
+        anchor = [2 + 16 * k for k in range(89)]
+        self.assertEqual(anchor[-1], 23 * 60 + 30)
+        self.assertEqual(self.listed(60802), anchor)
+        ten_days_later = self.listed(60812)
+        self.assertEqual(ten_days_later, sorted((minute - 40) % 1440 for minute in anchor))
+        gaps = [(b - a) % 1440 for a, b in zip(ten_days_later, ten_days_later[1:] + ten_days_later[:1])]
+        self.assertEqual(collections.Counter(gaps), {16: 88, 32: 1})
+        self.assertEqual(ten_days_later[(gaps.index(32) + 1) % 89], (2 - 40) % 1440)
+
+    def test_the_card_s_examples(self):
+        for mjd in 50722, 60442, 60802, 61162:
+            answers = [tried(MJD=mjd, start=60 * minute) for minute in (2, 18, 1410, 1426, 1438)]
+            self.assertEqual(answers, [0, 0, 0, 8, 8])
+        self.assertEqual([tried(MJD=60812, start=60 * (13 * 60 + minute)) for minute in (38, 30)], [8, 0])
+        self.assertEqual([tried(MJD=60600, start=start) for start in (48600, 133000)], [0, 8])
+        self.assertEqual(tried(MJD=60803, start=60 * (23 * 60 + 58)), 0)
+
+
+if __name__ == '__main__':
+    unittest.main()
