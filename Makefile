@@ -14,6 +14,8 @@ CFLAGS ?= -O2
 ARCHIVE := target/staticlib/libline.a
 SONAME := libtrackline.so.$(firstword $(subst ., ,$(VERSION)))
 SHARED := target/$(SONAME)
+CGGTTS := target/cggtts/cggtts
+CGGTTS_SOURCES := $(wildcard cggtts/*.c)
 STRICT := -std=c11 -Wall -Wextra -Werror -pedantic
 export CARGO_TARGET_DIR := $(CURDIR)/target/cargo
 export LINE_ARCHIVE := $(CURDIR)/$(ARCHIVE)
@@ -22,7 +24,7 @@ INSTALLED := $(DESTDIR)$(abspath $(PREFIX))
 # What the archive is made of: every crate but the programs.
 SOURCES := crates.txt $(shell find crates -name must-fail -prune -o -path crates/trackline -prune -o -path crates/bench -prune -o -type f -print)
 
-.PHONY: run test beside proofs archive shared program bench install speed fuzz
+.PHONY: run test beside proofs archive shared program cggtts bench install speed fuzz
 # rt ci clears target/, where everything else is built.
 .NOTPARALLEL:
 
@@ -79,6 +81,12 @@ shared: $(SHARED)
 $(SHARED): $(ARCHIVE) install/trackline.map
 	$(CC) -shared -Wl,-soname,$(SONAME) -Wl,--version-script=install/trackline.map -Wl,-z,defs -Wl,-z,now \
 		-Wl,--whole-archive $(ARCHIVE) -Wl,--no-whole-archive -o $@
+
+cggtts: $(CGGTTS)
+
+$(CGGTTS): $(CGGTTS_SOURCES) cggtts/cggtts.h include/trackline.h Makefile $(ARCHIVE)
+	@mkdir -p $(@D)
+	$(CC) $(CFLAGS) $(STRICT) -DVERSION='"$(VERSION)"' -Iinclude $(CGGTTS_SOURCES) $(ARCHIVE) -lm -o $@
 
 install: program $(ARCHIVE) $(SHARED)
 	install -d "$(INSTALLED)/bin" "$(INSTALLED)/include" "$(INSTALLED)/lib/pkgconfig" \
