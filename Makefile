@@ -1,6 +1,7 @@
 # make run      proves and builds trackline and runs it on a hire block: make run BLOCK=examples/sample.blk
 # make test     every test, and last the proofs (rt ci): the last line is 'N passed, 0 failed'
-# make install  the program, the libraries, the header, the manual pages: make install PREFIX=/usr/local DESTDIR=
+# make cggtts   the program cggtts: lines of hire blocks, and what a refused one is refused for
+# make install  the programs, the libraries, the header, the manual pages: make install PREFIX=/usr/local DESTDIR=
 # make speed    the proved library beside the plain Rust implementation, on the same blocks
 # make bench    the technician's cases and the published lines: what each gave and what it should be
 # make fuzz     a bounded fuzz run over the C boundary, with clang: make fuzz SECONDS=120
@@ -45,7 +46,7 @@ test: beside proofs
 proofs:
 	rt ci
 
-beside: archive program
+beside: archive program cggtts
 	rt fmt --check
 	python3 tests/hireblock/test_hireblock.py
 	python3 tests/published/expected.py --check
@@ -55,6 +56,11 @@ beside: archive program
 	target/boundary_test
 	$(CC) $(CFLAGS) $(STRICT) -Iinclude examples/receiver.c $(ARCHIVE) -o target/receiver
 	target/receiver | cmp - crates/trackline/stdout
+	$(CC) $(CFLAGS) $(STRICT) -Iinclude tests/c/stack.c $(ARCHIVE) -pthread -o target/stack
+	target/stack
+	python3 tests/layout.py
+	python3 tests/trackline/test_trackline.py
+	python3 tests/cggtts/test_cggtts.py
 	tools/hireblock pack examples/sample.txt | cmp - examples/sample.blk
 	tools/worked | cmp - examples/worked.txt
 	tools/hireblock pack examples/worked.txt | cmp - examples/worked.blk
@@ -88,18 +94,19 @@ $(CGGTTS): $(CGGTTS_SOURCES) cggtts/cggtts.h include/trackline.h Makefile $(ARCH
 	@mkdir -p $(@D)
 	$(CC) $(CFLAGS) $(STRICT) -DVERSION='"$(VERSION)"' -Iinclude $(CGGTTS_SOURCES) $(ARCHIVE) -lm -o $@
 
-install: program $(ARCHIVE) $(SHARED)
-	install -d "$(INSTALLED)/bin" "$(INSTALLED)/include" "$(INSTALLED)/lib/pkgconfig" \
-		"$(INSTALLED)/share/man/man1" "$(INSTALLED)/share/man/man3"
-	install target/bin/trackline tools/hireblock "$(INSTALLED)/bin"
+install: program $(ARCHIVE) $(SHARED) $(CGGTTS)
+	install -d $(foreach part,bin include lib/pkgconfig share/man/man1 share/man/man3 share/man/man5 \
+		share/doc/trackline share/trackline/examples,"$(INSTALLED)/$(part)")
+	install target/bin/trackline $(CGGTTS) tools/hireblock "$(INSTALLED)/bin"
 	install -m 644 include/trackline.h "$(INSTALLED)/include"
 	install -m 644 $(ARCHIVE) "$(INSTALLED)/lib/libtrackline.a"
 	install $(SHARED) "$(INSTALLED)/lib"
 	ln -sf $(SONAME) "$(INSTALLED)/lib/libtrackline.so"
 	sed -e 's|@PREFIX@|$(abspath $(PREFIX))|' -e 's|@VERSION@|$(VERSION)|' install/trackline.pc.in > target/trackline.pc
 	install -m 644 target/trackline.pc "$(INSTALLED)/lib/pkgconfig"
-	install -m 644 man/trackline.1 "$(INSTALLED)/share/man/man1"
-	install -m 644 man/trackline.3 "$(INSTALLED)/share/man/man3"
+	for section in 1 3 5; do install -m 644 man/*.$$section "$(INSTALLED)/share/man/man$$section" || exit 1; done
+	install -m 644 docs/REFUSALS.md docs/HIRE-BLOCK.md "$(INSTALLED)/share/doc/trackline"
+	install -m 644 examples/receiver.c examples/sample.txt examples/sample.blk "$(INSTALLED)/share/trackline/examples"
 
 speed: archive
 	$(CARGO) run --release --manifest-path tests/speed/Cargo.toml
