@@ -6,7 +6,7 @@ use lib.ListN.{take, drop, getD}
 use lib.IntN.{pos}
 use Rattle.fields.specs.Read.{readDecimal, readSigned, readHexadecimal}
 use Rattle.labels.specs.declared.Labels.{Labels}
-use Rattle.labels.specs.declared.Numbers.{Numbers}
+use Rattle.limits.specs.declared.Numbers.{Numbers}
 
 -- A column, and columns from a first to a last one, counted from 1.
 unfoldable pub byteIn : (column : ℕ) → List ℕ → ℕ

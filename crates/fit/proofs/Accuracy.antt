@@ -25,7 +25,7 @@ use Rattle.exact.specs.Scattering.{spread}
 use Rattle.series.specs.Smooth.{smoothed}
 use Rattle.series.specs.Fit.{total, moment, midpoint, slope}
 use Rattle.series.specs.Scatter.{residual, squares, threshold, dsg}
-use Rattle.fit.specs.Track.{smoothedAt, valueA, valueB, valueC, valueD, recordOf, results, figures, tracked, trackNumber, trackRule}
+use Rattle.fit.specs.Track.{smoothedAt, valueA, valueB, valueC, valueD, numbersWith, recordOf, results, tracked, trackNumber, trackRule}
 use Rattle.fit.specs.declared.Tracked.{Tracked}
 use Rattle.series.proofs.Thresholds.{Greatest, dsg-greatest}
 
@@ -105,11 +105,11 @@ is-D : (g : Given) (j : ℕ) → valueD g j ≡ at (g .ionosphere) j
 unfolding valueD
 is-D g j = refl
 
-pub results-accurate : (g : Given) → AccurateTrack 52 g (figures (results g))
-unfolding results recordOf
+pub results-accurate : (g : Given) → AccurateTrack 52 g (results g .numbers)
+unfolding results recordOf numbersWith
 results-accurate g =
     accurate-track 52 (lit≤ tt) g (smoothedAt g) (at (tabulate (valueA g) 52)) (at (tabulate (valueB g) 52))
-    (at (tabulate (valueC g) 52)) (at (tabulate (valueD g) 52)) (figures (results g))
+    (at (tabulate (valueC g) 52)) (at (tabulate (valueD g) 52)) (results g .numbers)
     (record {
       smoothed = λ j h. smoothed-rounded g j;
       isA = λ j h. tabulate-getD (valueA g) 52 j (pos 0) h ∙ is-A g j;
@@ -125,12 +125,12 @@ results-accurate g =
 
 -- so is an accepted answer
 accepted : (g : Given) (number : ℕ) → tracked number (results g) .refusal ≡ 0
-    → AccurateTrack 52 g (figures (tracked number (results g) .«record»))
+    → AccurateTrack 52 g (tracked number (results g) .«record» .numbers)
 unfolding tracked
 accepted g zero e = results-accurate g
 accepted g (suc number) e = absurd (omega arith)
 
-pub tracked-accurate : (g : Given) (t : Tracked) → t ≡ trackRule g → t .refusal ≡ 0 → AccurateTrack 52 g (figures (t .«record»))
+pub tracked-accurate : (g : Given) (t : Tracked) → t ≡ trackRule g → t .refusal ≡ 0 → AccurateTrack 52 g (t .«record» .numbers)
 unfolding trackRule
 tracked-accurate g t e =
-    subst (λ (t : Tracked). t .refusal ≡ 0 → AccurateTrack 52 g (figures (t .«record»))) (sym e) (accepted g (trackNumber g))
+    subst (λ (t : Tracked). t .refusal ≡ 0 → AccurateTrack 52 g (t .«record» .numbers)) (sym e) (accepted g (trackNumber g))

@@ -6,6 +6,7 @@ use mathlib.Core.Bool.{false, _||_}
 use mathlib.Core.List.{List}
 use Prim.Native.Nat.{ℕ, zero, suc, _*_, _^_, _≤_, _<_}
 use native.Mathlib.Nat.{not-suc-le-zero}
+use native.Mathlib.Omega.{arith}
 use borrow.Author.Tests.{eqb-true, not-false}
 use lib.Dec.{eqb}
 use lib.IntN.{ℤ, pos, natAbs, _+ℤ_, _-ℤ_}
@@ -17,10 +18,10 @@ use Rattle.limits.specs.Refusal.{_when_, _then_}
 use Rattle.limits.specs.Limits.{beyond}
 use Rattle.limits.proofs.Laws.{or-false, magnitude-within, then-zero, when-zero}
 use Rattle.fit.specs.declared.TrackRecord.{TrackRecord}
-use Rattle.fit.specs.declared.results.LineNumbers.{LineNumbers}
 use Rattle.exact.specs.Corrected.{Given, at, toA, toB}
 use Rattle.limits.specs.Lists.{miscounted, anyBeyond}
-use Rattle.series.specs.Answers.{Reply}
+use Rattle.series.specs.declared.Fitted.{Fitted}
+use Rattle.series.specs.Answers.{Reply, fitReply, fitNumbered}
 use Rattle.series.specs.Fit.{midpoint, slope, fitRule}
 use Rattle.series.proofs.Fitting.{fit-accepted}
 use Rattle.limits.proofs.Laws.{then-refused, then-assoc}
@@ -54,21 +55,14 @@ inside a b c d e =
     let one = or-false A B (ab .0) in
     record { in-a = one .0; in-b = one .1; in-c = ab .1; in-d = abc .1 }
 
--- the numbers of a line through values that are not refused, as Fit's reply gives them
-pub record LineOf (l : List ℤ) (n : LineNumbers) : Type 0 where
-  pub no-refusal : n .refusal ≡ 0
-  pub midpoint-is : n .midpoint ≡ midpoint 1 52 (at l)
-  pub slope-is : n .slope ≡ slope 1 52 (at l)
-
-pub line-of : (l : List ℤ) (n : LineNumbers) → length l ≡ 52 → anyBeyond (2 * 10 ^ 12) l ≡ false
-    → (n .refusal ≡ fitRule l .number) × (n .midpoint ≡ fitRule l .values .0) × (n .slope ≡ fitRule l .values .1) → LineOf l n
-line-of l n e h k =
-    let f = fit-accepted l e h in
-    record {
-      no-refusal = k .0 ∙ ap (λ (r : Reply (ℤ × ℤ)). r .number) f;
-      midpoint-is = k .1 ∙ ap (λ (r : Reply (ℤ × ℤ)). r .values .0) f;
-      slope-is = k .2 ∙ ap (λ (r : Reply (ℤ × ℤ)). r .values .1) f;
-    }
+-- Fit's answer to values that are not refused
+pub fit-value : (l : List ℤ) → length l ≡ 52 → anyBeyond (2 * 10 ^ 12) l ≡ false → (r : Fitted) → fitReply r ≡ fitRule l → fitNumbered r
+    → r ≡ Fitted.Line (midpoint 1 52 (at l)) (slope 1 52 (at l))
+fit-value l e h (Fitted.Line m s) a n = ap (λ (r : Reply (ℤ × ℤ)). Fitted.Line (r .values .0) (r .values .1)) (a ∙ fit-accepted l e h)
+fit-value l e h (Fitted.Refused k) a n = absurd (never (ap (λ (r : Reply (ℤ × ℤ)). r .number) (a ∙ fit-accepted l e h)) n)
+  where
+    never : k ≡ 0 → 0 < k → ⊥
+    never z p = omega arith
 
 -- ---- what it tells that a track's lists and numbers are not refused
 

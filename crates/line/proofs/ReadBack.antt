@@ -17,7 +17,7 @@ use Rattle.fields.specs.Text.{decimal, signed, hexadecimal, checksum}
 use Rattle.fields.specs.Read.{readDecimal, readSigned, readHexadecimal}
 use Rattle.fields.proofs.Laws.{read-decimal, read-signed, read-hexadecimal, length-decimal}
 use Rattle.labels.specs.declared.Labels.{Labels}
-use Rattle.labels.specs.declared.Numbers.{Numbers}
+use Rattle.limits.specs.declared.Numbers.{Numbers}
 use Rattle.labels.specs.Labels.{constellationFits, codeFits, labelsFit, trackLength}
 use Rattle.line.specs.Line.{lineAnswer, lineAfter}
 use Rattle.columns.specs.Text.{lineLength, clock, trackColumns, clockColumns, delayColumns, columns, spaced, lineText}
@@ -79,8 +79,8 @@ numbers-back l n bytes rest a =
       trkl = (ap pos (decimal-back l n rest 4 4 (natAbs (n .trkl)) (omega arith) refl (omega (arith, t))) ∙ t .0) i;
     }
   where
-    w : limits.InLimits (n .refsv) (n .srsv) (n .refsys) (n .srsys) (n .mdtr) (n .smdt) (n .mdio) (n .smdi)
-    w = limits.within _ _ _ _ _ _ _ _ (a .limits)
+    w : limits.InLimits n
+    w = limits.within n (a .limits)
 
     d : (pos (natAbs (n .dsg)) ≡ n .dsg) × (natAbs (n .dsg) ≤ 9999)
     d = limits.dsg-within (n .dsg) (a .dsg)
@@ -233,10 +233,13 @@ labels-back l n bytes rest a cl =
 
 -- ---- the lent line after an accepted call
 
+pub numbers-read : (l : Labels) (n : Numbers) (lent : List ℕ) → lineAnswer l n (length lent) ≡ 0 → readNumbers (lineAfter l n lent) ≡ n
+numbers-read l n lent e =
+    ap readNumbers (after-is l n lent e) ∙ numbers-back l n (length lent) (drop lineLength lent) (accepted l n (length lent) e)
+
 pub read-back : (l : Labels) (n : Numbers) (lent : List ℕ) → lineAnswer l n (length lent) ≡ 0 → l .cl < 256
     → (readLabels (lineAfter l n lent) ≡ l) × (readNumbers (lineAfter l n lent) ≡ n)
-read-back l n lent e cl =
-    let a = accepted l n (length lent) e in (
-      ap readLabels (after-is l n lent e) ∙ labels-back l n (length lent) (drop lineLength lent) a cl,
-      ap readNumbers (after-is l n lent e) ∙ numbers-back l n (length lent) (drop lineLength lent) a,
-    )
+read-back l n lent e cl = (
+  ap readLabels (after-is l n lent e) ∙ labels-back l n (length lent) (drop lineLength lent) (accepted l n (length lent) e) cl,
+  numbers-read l n lent e,
+)

@@ -12,7 +12,7 @@ use Rattle.limits.specs.Limits.{outside, limitsRule, dsgRule}
 use Rattle.schedule.specs.Schedule.{broughtIn, startMinute, some, isStart, startRule}
 use Rattle.fields.specs.Text.{decimal, sign, signed, hexDigit, hexadecimal, byteSum, checksum}
 use Rattle.labels.specs.declared.Labels.{Labels}
-use Rattle.labels.specs.declared.Numbers.{Numbers}
+use Rattle.limits.specs.declared.Numbers.{Numbers}
 use Rattle.labels.specs.Labels.{constellationFits, codeFits, labelsFit}
 use Rattle.labels.specs.Content.{contentRule}
 use Rattle.line.specs.Line.{lineAnswer}

@@ -8,10 +8,8 @@ use Prim.Native.Char.{code}
 use lib.ListN.{length, take}
 use lib.Dec.{ltb, eqb}
 use Rattle.fields.specs.Text.{decimal}
-use Rattle.fit.specs.Track.{results}
-use Rattle.columns.specs.Text.{lineLength, lineText}
-use Rattle.hire.specs.Hire.{blockLabels, blockGiven}
-use Rattle.line.specs.Block.{numbersIn, blockAnswer}
+use Rattle.columns.specs.Text.{lineLength}
+use Rattle.line.specs.Block.{blockLine, blockAnswer}
 
 -- `refused`, a space, and the number in one digit or two.
 unfoldable pub refusal : ℕ → List ℕ
@@ -22,8 +20,7 @@ refusal number =
 -- The block's line where Block accepts it with room for a line, else the refusal.
 unfoldable pub answer : List ℕ → List ℕ
 answer b =
-    cond (eqb (blockAnswer b lineLength) 0) (lineText (blockLabels b) (numbersIn (results (blockGiven b))))
-    (refusal (blockAnswer b lineLength))
+    cond (eqb (blockAnswer b lineLength) 0) (blockLine b) (refusal (blockAnswer b lineLength))
 
 -- Either, ended by carriage return (13) and line feed (10).
 unfoldable pub printed : List ℕ → List ℕ

@@ -11,7 +11,7 @@ use Rattle.exact.specs.Corrected.{Given}
 use Rattle.exact.specs.Accurate.{AccurateTrack}
 use Rattle.limits.specs.Lists.{miscounted}
 use Rattle.fit.specs.declared.Tracked.{Tracked}
-use Rattle.fit.specs.Track.{given, figures, wrongSizes, outOfLimits, trackRule}
+use Rattle.fit.specs.Track.{given, wrongSizes, outOfLimits, trackRule}
 use Rattle.fit.proofs.Accuracy.{tracked-accurate}
 use Rattle.fit.proofs.Tracks.{inputsNumber, inputs-accepted, track-refused}
 use borrow.Author.Needs.{needs}
@@ -73,7 +73,7 @@ refused-requires c κs = search needs
 
 -- both clauses, from the answer
 both : (s : tie.Start) (t : Tracked) → t ≡ trackRule (g s)
-    → (t ≡ trackRule (g s)) × (t .refusal ≡ 0 → AccurateTrack 52 (g s) (figures (t .«record»)))
+    → (t ≡ trackRule (g s)) × (t .refusal ≡ 0 → AccurateTrack 52 (g s) (t .«record» .numbers))
 both s t e = (e, tracked-accurate (g s) t e)
 
 returns : tie.Need-returns
