@@ -12,7 +12,8 @@ SECONDS ?= 120
 CC ?= cc
 CFLAGS ?= -O2
 
-ARCHIVE := target/staticlib/libline.a
+# The archive of crate boundary, which has every C function; it is installed as libtrackline.a.
+ARCHIVE := target/staticlib/libboundary.a
 SONAME := libtrackline.so.$(firstword $(subst ., ,$(VERSION)))
 SHARED := target/$(SONAME)
 CGGTTS := target/cggtts/cggtts
@@ -79,8 +80,9 @@ archive: $(ARCHIVE)
 
 # rt staticlib proves the crates below one at a time, rt check side by side.
 $(ARCHIVE): $(SOURCES)
-	rt check line
-	rt staticlib line
+	rt check boundary
+	rm -rf $(@D)
+	rt staticlib boundary
 
 shared: $(SHARED)
 
