@@ -69,6 +69,8 @@ beside: archive program cggtts
 	tools/lastdigit --program target/bin/trackline
 	tools/lastdigit --svg target/last-digit.svg && cmp target/last-digit.svg docs/last-digit.svg
 	tools/definitions --check docs/TRUST.md
+	tools/architecture --check docs/ARCHITECTURE.md
+	tools/architecture --svg target/architecture.svg && cmp target/architecture.svg docs/architecture.svg
 	tests/install.sh
 
 bench:
