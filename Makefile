@@ -50,6 +50,7 @@ proofs:
 beside: archive program cggtts
 	rt fmt --check
 	python3 tests/hireblock/test_hireblock.py
+	python3 tests/clauses/test_clauses.py
 	python3 tests/published/expected.py --check
 	$(CARGO) test --manifest-path tests/reference/Cargo.toml
 	$(CARGO) run --release --manifest-path tests/boundary/Cargo.toml
@@ -71,6 +72,7 @@ beside: archive program cggtts
 	tools/definitions --check docs/TRUST.md
 	tools/architecture --check docs/ARCHITECTURE.md
 	tools/architecture --svg target/architecture.svg && cmp target/architecture.svg docs/architecture.svg
+	tools/clauses docs/CLAUSES.md
 	tests/install.sh
 
 bench:

@@ -1,4 +1,4 @@
--- Laws of texts at the front of a buffer (specs/Printed.antt), and how long what is printed can be.
+-- Laws of texts at the front of a buffer (specs/Buffer.antt), and how long what is printed can be.
 -- Assumes nothing.
 use mathlib.Core.Path.{_≡_, refl, sym, ap, _∙_, subst}
 use mathlib.Core.List.{List, [], _∷_, _++_, append-assoc, append-nil}
@@ -15,7 +15,8 @@ use Rattle.columns.specs.Text.{lineLength}
 use Rattle.hire.specs.Hire.{blockLabels}
 use Rattle.line.specs.Block.{blockNumbers, blockLine, blockAnswer, blockAfter}
 use Rattle.columns.proofs.Widths.{line-width}
-use Rattle.trackline.specs.Printed.{refusal, answer, printed, Text, Pushed}
+use Rattle.trackline.specs.Printed.{refusal, answer, printed}
+use Rattle.trackline.specs.Buffer.{Text, Pushed}
 
 -- ---- texts
 

@@ -3,9 +3,9 @@
 use crate::blocks::any_lent;
 use crate::case::*;
 use crate::compare::Compare;
-use crate::faults::bring_a_near;
+use crate::faults::{bring_a_near, long_lent, BLOCK_ORDER};
 use reference::seeded::Seeded;
-use reference::{Delays, BLOCKS, WEIGHTS};
+use reference::{worst, Delays, BLOCKS, WEIGHTS};
 
 pub fn run(compare: &mut Compare, seeded: &mut Seeded) {
     on_edges(compare, seeded);
@@ -173,4 +173,17 @@ fn extremes(compare: &mut Compare, seeded: &mut Seeded) {
     }
     let lent = any_lent(seeded);
     compare.block("blocks with the largest values", Some(&case.bytes()), lent);
+}
+
+/// The track whose slopes lie 0.5192 of their unit from the exact ones, of either sign.
+pub fn far_slopes(compare: &mut Compare, seeded: &mut Seeded) {
+    for sign in [1, -1] {
+        let mut case = good(seeded);
+        case.delays = Delays::default();
+        case.columns.iter_mut().for_each(|column| column.fill(0));
+        case.measurements = worst::measurements(sign);
+        let lent = long_lent(seeded);
+        let answer = compare.block("blocks with slopes far from exact", Some(&case.bytes()), lent);
+        compare.faults("block", &BLOCK_ORDER, &[], answer);
+    }
 }
