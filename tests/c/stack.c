@@ -42,7 +42,7 @@ static struct measured {
     size_t most;  /* what trackline(3) says */
     size_t bytes; /* what it took; EDGE if it is no more than that */
 } MOST[] = {
-    {"trackline_block", call_block, 20000, 0}, {"trackline_line", call_line, 1000, 0}, {"trackline_start", call_start, 1000, 0}};
+    {"trackline_block", call_block, 24000, 0}, {"trackline_line", call_line, 1000, 0}, {"trackline_start", call_start, 1000, 0}};
 
 /* The thread. */
 static void *measure(void *which)
