@@ -9,6 +9,7 @@ that are made here.
 import os
 import pathlib
 import re
+import resource
 import stat
 import subprocess
 import sys
@@ -179,6 +180,39 @@ class LineToFile(Scratch):
         self.assertEqual(run('line', '-o', path, path),
                          (2, b'', 'cggtts: line: a block would be overwritten; try cggtts --help\n'))
         self.assertEqual(path.read_bytes(), block())
+
+
+# A close that fails, as on a network disk: put before the system's own.
+FAILING_CLOSE = '''
+#include <errno.h>
+int close(int file);
+int close(int file)
+{
+    errno = EIO;
+    return -(file > 2);
+}
+'''
+
+
+class System(Scratch):
+    def test_a_failed_close_is_noticed(self):
+        shim = self.folder / 'shim.so'
+        subprocess.run([os.environ.get('CC', 'cc'), '-shared', '-fPIC', '-xc', '-', '-o', shim], input=FAILING_CLOSE,
+                       text=True, check=True)
+        environment = dict(os.environ, LD_PRELOAD=str(shim))
+        self.assertEqual(run('line', SAMPLE, env=environment),
+                         (2, b'', 'cggtts: examples/sample.blk: Input/output error\n'))
+        out = self.kept('lines', b'as it was')
+        self.assertEqual(run('line', '-o', out, '-', data=block(), env=environment),
+                         (2, b'', 'cggtts: %s: Input/output error\n' % out))
+        self.assertEqual(out.read_bytes(), b'as it was')
+        self.assertEqual(sorted(os.listdir(self.folder)), ['lines', 'shim.so'])
+
+    def test_an_endless_file_is_given_up(self):
+        def little_memory():
+            resource.setrlimit(resource.RLIMIT_AS, (200 << 20, 200 << 20))
+        self.assertEqual(run('line', '/dev/zero', preexec_fn=little_memory),
+                         (2, b'', 'cggtts: /dev/zero: Cannot allocate memory\n'))
 
 
 class Check(Scratch):
