@@ -1,14 +1,25 @@
-# make run      proves and builds trackline and runs it on a hire block: make run BLOCK=examples/sample.blk
-# make test     every test, and last the proofs (rt ci): the last line is 'N passed, 0 failed'
-# make cggtts   the program cggtts: lines of hire blocks, and what a refused one is refused for
-# make install  the programs, the libraries, the header, the manual pages: make install PREFIX=/usr/local DESTDIR=
-# make speed    the proved library beside the plain Rust implementation, on the same blocks
-# make bench    the technician's cases and the published lines: what each gave and what it should be
-# make fuzz     a bounded fuzz run over the C boundary, with clang: make fuzz SECONDS=120
+# make help          what can be made; make alone says it too
+# make run           prove and build trackline and run it on a hire block: make run BLOCK=examples/sample.blk
+# make test          every test, and last the proofs (rt ci): the last line is 'N passed, 0 failed'
+# make beside        the tests without the proofs from nothing
+# make proofs        the proofs from nothing (rt ci)
+# make bench         the technician's cases and the published lines: what each gave and what it should be
+# make speed         the proved library beside the plain Rust implementation, on the same blocks
+# make instructions  the instructions of both, part by part, with valgrind
+# make fuzz          a bounded fuzz run over the C boundary, with clang: make fuzz SECONDS=120
+# make program       trackline, proved: target/bin/trackline
+# make programs      trackline and bench, proved: target/bin
+# make cggtts        lines of hire blocks, and what a refused one is refused for: target/cggtts/cggtts
+# make archive       the static library, proved: target/staticlib/libboundary.a
+# make shared        the shared library: target/libtrackline.so.1
+# make install       the programs, the libraries, the header, the manual pages: make install PREFIX=/usr/local DESTDIR=
+# make uninstall     remove what install put there, with the same PREFIX and DESTDIR; folders stay
+# make clean         remove target/, which holds everything that was built
 VERSION := 1.0.0
 BLOCK ?= examples/sample.blk
 PREFIX ?= /usr/local
 SECONDS ?= 120
+CASES ?= crates/bench/stdin
 CC ?= cc
 CFLAGS ?= -O2
 
@@ -26,9 +37,22 @@ INSTALLED := $(DESTDIR)$(abspath $(PREFIX))
 # What the archive is made of: every crate but the programs.
 SOURCES := crates.txt $(shell find crates -name must-fail -prune -o -path crates/trackline -prune -o -path crates/bench -prune -o -type f -print)
 
-.PHONY: run test beside proofs archive shared program cggtts bench install speed fuzz
+# What install puts below the prefix, and uninstall removes.
+PROGRAMS := target/bin/trackline $(CGGTTS) tools/hireblock
+PAGES := $(wildcard man/*.[1-8])
+DOCUMENTS := docs/REFUSALS.md docs/HIRE-BLOCK.md
+EXAMPLES := examples/receiver.c examples/sample.txt examples/sample.blk
+INSTALLS := $(addprefix bin/,$(notdir $(PROGRAMS))) include/trackline.h lib/libtrackline.a lib/$(SONAME) \
+	lib/libtrackline.so lib/pkgconfig/trackline.pc \
+	$(foreach page,$(PAGES),share/man/man$(subst .,,$(suffix $(page)))/$(notdir $(page))) \
+	$(addprefix share/doc/trackline/,$(notdir $(DOCUMENTS))) $(addprefix share/trackline/examples/,$(notdir $(EXAMPLES)))
+
+.PHONY: help run test beside proofs bench speed instructions fuzz program programs cggtts archive shared install uninstall clean
 # rt ci clears target/, where everything else is built.
 .NOTPARALLEL:
+
+help:
+	@sed -n 's/^# make /make /p' Makefile
 
 # The line alone goes to standard output.
 run:
@@ -47,9 +71,11 @@ test: beside proofs
 proofs:
 	rt ci
 
-beside: archive program cggtts
+beside: archive programs cggtts
 	rt fmt --check
+	tests/make.sh
 	python3 tests/hireblock/test_hireblock.py
+	python3 tests/lastdigit/test_lastdigit.py
 	python3 tests/clauses/test_clauses.py
 	python3 tests/published/expected.py --check
 	$(CARGO) test --manifest-path tests/reference/Cargo.toml
@@ -77,8 +103,13 @@ beside: archive program cggtts
 
 bench:
 	@mkdir -p target
+	@echo "proving and building bench first; from nothing this takes two to three minutes (target/bench.log)"
 	@rt check bench > target/bench.log 2>&1 || { cat target/bench.log >&2; exit 1; }
-	@target/bin/bench < crates/bench/stdin
+	@tests/bench.sh target/bin/bench "$(CASES)"
+
+# Both at once, as rt check proves them side by side.
+programs:
+	rt check trackline bench
 
 archive: $(ARCHIVE)
 
@@ -101,21 +132,29 @@ $(CGGTTS): $(CGGTTS_SOURCES) cggtts/cggtts.h include/trackline.h Makefile $(ARCH
 	$(CC) $(CFLAGS) $(STRICT) -DVERSION='"$(VERSION)"' -Iinclude $(CGGTTS_SOURCES) $(ARCHIVE) -lm -o $@
 
 install: program $(ARCHIVE) $(SHARED) $(CGGTTS)
-	install -d $(foreach part,bin include lib/pkgconfig share/man/man1 share/man/man3 share/man/man5 \
-		share/doc/trackline share/trackline/examples,"$(INSTALLED)/$(part)")
-	install target/bin/trackline $(CGGTTS) tools/hireblock "$(INSTALLED)/bin"
+	mkdir -p "$(INSTALLED)" && cd "$(INSTALLED)" && install -d $(sort $(dir $(INSTALLS)))
+	install $(PROGRAMS) "$(INSTALLED)/bin"
 	install -m 644 include/trackline.h "$(INSTALLED)/include"
 	install -m 644 $(ARCHIVE) "$(INSTALLED)/lib/libtrackline.a"
 	install $(SHARED) "$(INSTALLED)/lib"
 	ln -sf $(SONAME) "$(INSTALLED)/lib/libtrackline.so"
 	sed -e 's|@PREFIX@|$(abspath $(PREFIX))|' -e 's|@VERSION@|$(VERSION)|' install/trackline.pc.in > target/trackline.pc
 	install -m 644 target/trackline.pc "$(INSTALLED)/lib/pkgconfig"
-	for section in 1 3 5; do install -m 644 man/*.$$section "$(INSTALLED)/share/man/man$$section" || exit 1; done
-	install -m 644 docs/REFUSALS.md docs/HIRE-BLOCK.md "$(INSTALLED)/share/doc/trackline"
-	install -m 644 examples/receiver.c examples/sample.txt examples/sample.blk "$(INSTALLED)/share/trackline/examples"
+	for page in $(PAGES); do install -m 644 $$page "$(INSTALLED)/share/man/man$${page##*.}" || exit 1; done
+	install -m 644 $(DOCUMENTS) "$(INSTALLED)/share/doc/trackline"
+	install -m 644 $(EXAMPLES) "$(INSTALLED)/share/trackline/examples"
+
+uninstall:
+	test ! -d "$(INSTALLED)" || { cd "$(INSTALLED)" && rm -f $(INSTALLS); }
+
+clean:
+	rm -rf target
 
 speed: archive
 	$(CARGO) run --release --manifest-path tests/speed/Cargo.toml
+
+instructions: archive
+	tests/speed/instructions.sh
 
 fuzz: archive
 	tests/fuzz/run.sh $(SECONDS)

@@ -69,18 +69,36 @@ exports=$(nm -D --defined-only "$prefix/lib/libtrackline.so" | awk '{print $3}' 
 needs=$(ldd "$prefix/lib/libtrackline.so" | awk '{print $1}' | grep -vE '^(linux-vdso|libc|/lib.*/ld-linux|statically)' || true)
 [ -z "$needs" ] || fail "the shared library needs: $needs"
 
-# the manual pages
-if command -v man >/dev/null; then
-    for page in man1/trackline.1 man1/cggtts.1 man3/trackline.3 man5/hireblock.5; do
-        MANWIDTH=80 man --warnings -l "$prefix/share/man/$page" >"$scratch/page" 2>"$scratch/warnings"
-        [ ! -s "$scratch/warnings" ] || fail "$page: $(cat "$scratch/warnings")"
-        grep -q trackline "$scratch/page" || fail "$page is empty"
-    done
-fi
+# the manual pages: every one is installed, and none has a fault
+for source in man/*.[1-8]; do
+    page=man${source##*.}/$(basename "$source")
+    cmp "$source" "$prefix/share/man/$page" || fail "$page is not installed"
+    command -v man >/dev/null || continue
+    MANWIDTH=80 man --warnings -l "$prefix/share/man/$page" >"$scratch/page" 2>"$scratch/warnings"
+    [ ! -s "$scratch/warnings" ] || fail "$page: $(cat "$scratch/warnings")"
+    grep -q "$(basename "$source" | sed 's/\..*//')" "$scratch/page" || fail "$page is empty"
+done
+for program in "$prefix"/bin/*; do
+    [ -f "$prefix/share/man/man1/$(basename "$program").1" ] || fail "$(basename "$program") has no manual page"
+done
 
 # a package is staged under DESTDIR and speaks of its own prefix
 "$make" --no-print-directory install PREFIX=/usr DESTDIR="$scratch/stage" >"$scratch/log" 2>&1
 (cd "$prefix" && find . -type f -o -type l) | sort >"$scratch/installed"
 (cd "$scratch/stage/usr" && find . -type f -o -type l) | sort | diff "$scratch/installed" - || fail 'DESTDIR'
 grep -qx 'prefix=/usr' "$scratch/stage/usr/lib/pkgconfig/trackline.pc" || fail 'the prefix in trackline.pc'
-echo "install: $(wc -l <"$scratch/installed") files, and all of them work"
+
+# uninstall removes what was installed and nothing else, and may be called again
+foreign='./bin/other ./lib/libtrackline.so.2 ./share/man/man1/other.1'
+(cd "$prefix" && touch $foreign && find . -type d | sort >"$scratch/folders")
+for _ in 1 2; do
+    "$make" --no-print-directory uninstall PREFIX="$prefix" DESTDIR= >"$scratch/log" 2>&1 || fail 'make uninstall'
+    left=$(cd "$prefix" && find . -type f -o -type l | sort | xargs)
+    [ "$left" = "$foreign" ] || fail "uninstall leaves $left"
+    (cd "$prefix" && find . -type d | sort) | cmp - "$scratch/folders" || fail 'uninstall removes a folder'
+done
+"$make" --no-print-directory uninstall PREFIX=/usr DESTDIR="$scratch/stage" >"$scratch/log" 2>&1 || fail 'make uninstall'
+left=$(find "$scratch/stage" -type f -o -type l)
+[ -z "$left" ] || fail "uninstall leaves $left"
+"$make" --no-print-directory uninstall PREFIX="$scratch/never" DESTDIR= >"$scratch/log" 2>&1 || fail 'make uninstall of nothing'
+echo "install: $(wc -l <"$scratch/installed") files, all of them work, and uninstall removes them"

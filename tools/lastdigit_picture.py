@@ -5,7 +5,7 @@ REFSYS and DSG lie next to a tie.
 """
 from fractions import Fraction
 
-WIDTH, HEIGHT = 960, 1130
+WIDTH, HEIGHT = 960, 1152
 LEFT, RIGHT = 90, 930
 BLUE, RED, GREY, PALE = '#0057a8', '#c8400a', '#9a9a9a', '#f1e3d6'
 STYLE = ('text{font-family:Helvetica,Arial,"Liberation Sans","DejaVu Sans",sans-serif;font-size:14px;fill:#000}'
@@ -49,7 +49,7 @@ class Axes:
     def y(self, value):
         return self.bottom - (self.bottom - self.top) * float(value - self.low) / (self.high - self.low)
 
-    def draw(self, unit, label_seconds):
+    def draw(self, unit):
         yield box(LEFT, self.top, RIGHT, self.bottom, 'none', '#000')
         for value in range(self.low, self.high + 1, self.step):
             yield stroke(LEFT - 5, self.y(value), LEFT, self.y(value))
@@ -60,8 +60,7 @@ class Axes:
                 yield text(self.x(second), self.bottom + 20, str(second))
         middle = (self.top + self.bottom) / 2
         yield '<g transform="rotate(-90 28 %.1f)">%s</g>' % (middle, words(28, middle, unit, 'middle'))
-        if label_seconds:
-            yield words((LEFT + RIGHT) / 2, self.bottom + 40, 'second of the track', 'middle')
+        yield words((LEFT + RIGHT) / 2, self.bottom + 40, 'second of the track', 'middle')
 
 
 def correction(track, j):
@@ -83,7 +82,7 @@ def values_panel(track, exact):
     low, high = int(min(points) // 1), int(-(-max(points) // 1))
     axes = Axes(52, 400, low, high, 1)
     yield words(LEFT, 38, 'Measurements, smoothed values and the least line', kind='head')
-    yield from axes.draw('B in ns', False)
+    yield from axes.draw('B in ns')
     yield from (dot(axes.x(second), axes.y(point), 1.3, GREY) for second, point in enumerate(points))
     ends = [(t, (exact.p + exact.q * t) / 1000) for t in (Fraction(-779, 2), Fraction(781, 2))]
     (t1, y1), (t2, y2) = ends
@@ -112,18 +111,18 @@ def legend(x, y):
 
 def residuals_panel(fit, exact):
     reach = 300 * (1 + max(abs(r) for r in fit.residuals) // 300)
-    axes = Axes(472, 622, -reach, reach, 300)
-    yield words(LEFT, 458, 'Residuals of B from the line, enlarged', kind='head')
+    axes = Axes(494, 644, -reach, reach, 300)
+    yield words(LEFT, 480, 'Residuals of B from the line, enlarged', kind='head')
     for sign in (1, -1):
         y = axes.y(sign * exact.root)
         yield stroke(LEFT, y, RIGHT, y, RED, 1.2, '6 4')
-    yield from axes.draw('residual in ps', True)
+    yield from axes.draw('residual in ps')
     yield stroke(LEFT, axes.y(0), RIGHT, axes.y(0))
     for j, r in enumerate(fit.residuals):
         x = axes.x(7 + 15 * j)
         yield stroke(x, axes.y(0), x, axes.y(r), BLUE, 2)
         yield dot(x, axes.y(r), 2.6, BLUE)
-    yield words(RIGHT, 458, 'dashed: plus and minus the root mean square', 'end')
+    yield words(RIGHT, 480, 'dashed: plus and minus the root mean square', 'end')
 
 
 class Strip:
@@ -193,7 +192,7 @@ def nearest_tie(value, unit):
 def refsys_panel(fit, exact):
     decides, tie = Fraction(fit.s, 5200), nearest_tie(exact.midpoint, Fraction(1))
     labels = ('S / 5200 = %.6f' % float(decides), 'exact: %.6f' % float(exact.midpoint))
-    yield from digit_panel(704, 'REFSYS', fit.midpoint, tie, Fraction(1), Fraction(1, 200), (decides, exact.midpoint),
+    yield from digit_panel(726, 'REFSYS', fit.midpoint, tie, Fraction(1), Fraction(1, 200), (decides, exact.midpoint),
                            labels, '%.4f', '0.1 ns')
 
 
@@ -201,12 +200,12 @@ def dsg_panel(fit, exact):
     decides, root = Fraction((fit.q / 52) ** 0.5), Fraction(exact.root)
     tie = nearest_tie(root, Fraction(100))
     labels = ('root of Q / 52 = %.4f' % float(decides), 'exact root mean square: %.4f' % float(root))
-    yield from digit_panel(908, 'DSG', fit.dsg, tie, Fraction(100), Fraction(1), (decides, root), labels, '%.1f', 'ps')
+    yield from digit_panel(930, 'DSG', fit.dsg, tie, Fraction(100), Fraction(1), (decides, root), labels, '%.1f', 'ps')
 
 
 def note():
-    yield box(LEFT, 1093, LEFT + 26, 1109, PALE)
-    yield words(LEFT + 34, 1106, 'As far as the roundings before the last can move the figure: '
+    yield box(LEFT, 1115, LEFT + 26, 1131, PALE)
+    yield words(LEFT + 34, 1128, 'As far as the roundings before the last can move the figure: '
                 'an exact figure in here may be written either way.')
 
 

@@ -5,9 +5,11 @@
 """
 import importlib.machinery
 import importlib.util
+import os
 import pathlib
 import random
 import re
+import resource
 import struct
 import subprocess
 import sys
@@ -83,14 +85,14 @@ class Packing(unittest.TestCase):
 
     def test_ways_to_write(self):
         wanted = sample_bytes()
-        self.assertEqual(packed(self.changed('CL', '255')), wanted)
-        self.assertEqual(packed(self.changed('CL', '0xff')), wanted)
+        self.assertEqual(packed(self.changed('CL', '+0255')), wanted)
         self.assertEqual(packed(self.changed('start', '120')), wanted)
         self.assertEqual(packed(self.changed('satellite', '+05')), wanted)
         self.assertEqual(packed(self.changed('FRC', r'\x4C1\x43')), wanted)
         self.assertEqual(packed(self.changed('measurements', '1000x700 1000 x 80')), wanted)
         self.assertEqual(packed(self.changed('measurements', '\n 1000 X 15 # a\n\n(1000 1000x2)x255')), wanted)
-        self.assertEqual(packed(self.changed('geometry', '0x52')), wanted)
+        self.assertEqual(packed(self.changed('geometry', '0 x52')), wanted)
+        self.assertEqual(packed(self.changed('geometry', '0x 52')), wanted)
         self.assertEqual(packed(self.text.replace('satellite', 'SATELLITE').replace('\n', '\r\n')), wanted)
         self.assertEqual(packed('sizes = 780 52\n' + self.text), wanted)
 
@@ -104,49 +106,130 @@ class Packing(unittest.TestCase):
         self.assertEqual(data[:5], struct.pack('<HH', 779, 0) + b'\0')
         self.assertEqual(data[9:12], b' e\xff')
 
-    def refused(self, text, message, line=None, column=None):
-        with self.assertRaises(hireblock.Bad) as caught:
-            packed(text)
-        self.assertIn(message, str(caught.exception))
-        self.assertEqual((caught.exception.line, caught.exception.column), (line, column))
+def faults(text, spoilt=()):
+    """Line, column and message of every fault but what is missing."""
+    try:
+        hireblock.parse(text, spoilt)
+    except hireblock.Bad as bad:
+        return [tuple(fault) for fault in bad.faults if not fault.message.startswith('missing: ')]
+    return []
 
-    def test_messages_and_places(self):
-        self.refused('', 'missing: constellation, satellite, CL')
-        self.refused(re.sub(r'(?m)^IOE.*$', '', self.text), 'missing: IOE')
-        self.refused('satelite = 5', 'did you mean satellite?', 1, 1)
-        self.refused('\nqqqq = 5', 'the names are sizes constellation', 2, 1)
+
+class Messages(unittest.TestCase):
+    def refused(self, text, message, line, column):
+        """The text has this fault and no other."""
+        self.assertEqual(faults(text), [(line, column, message)])
+
+    def test_names(self):
+        self.refused('satelite = 5', "unknown name 'satelite', did you mean satellite?", 1, 1)
+        self.refused('\n qqqq = 5', "unknown name 'qqqq'; the names are " + ' '.join(hireblock.NAMES), 2, 2)
+        self.refused('= 5', "no name stands before '='", 1, 1)
         self.refused('HC = 1\nHC = 2', 'HC stands twice, first in line 1', 2, 6)
-        self.refused('HC = 256', 'the block holds 0 to 255', 1, 6)
-        self.refused('HC = -1', 'the block holds 0 to 255', 1, 6)
-        self.refused('IOE=  65536', 'the block holds 0 to 65535', 1, 7)
-        self.refused('INT = 9223372036854775808', 'does not fit', 1, 7)
-        self.refused('INT = -9223372036854775809', 'does not fit', 1, 7)
+        self.refused('MJD = 50722\n  7\n 8', "'7' has no name: write name = value", 2, 3)
+        self.refused('12 13', "'12 13' has no name: write name = value", 1, 1)
+
+    def test_missing_equals(self):
+        self.refused('MJD 50722', "'=' is missing after MJD", 1, 1)
+        self.refused('geometry = 0 x 52\n clock 0 x 52', "'=' is missing after clock", 2, 2)
+        self.refused('start: 00:02:00', "'=' is missing after start", 1, 1)
+        self.assertEqual(faults('mjd 5x'), [(1, 1, "'=' is missing after MJD"), (1, 5, "'5x' is no whole number")])
+
+    def test_missing_parts(self):
+        for text, line in ('', 1), ('HC = 1\nFR = 0\n', 2):
+            with self.assertRaises(hireblock.Bad) as caught:
+                hireblock.parse(text)
+            fault = caught.exception.faults[-1]
+            self.assertEqual((fault.line, fault.column), (line, None))
+            self.assertTrue(fault.message.startswith('missing: constellation, satellite, CL, F'))
+        with self.assertRaises(hireblock.Bad) as caught:
+            hireblock.parse(re.sub(r'(?m)^IOE.*$', '', SAMPLE.read_text()))
+        lines = len(SAMPLE.read_text().splitlines())
+        self.assertEqual(caught.exception.faults, [(lines, None, 'missing: IOE')])
+
+    def test_numbers(self):
+        self.refused('HC = 256', '256 does not fit: the block holds 0 to 255', 1, 6)
+        self.refused('HC = -1', '-1 does not fit: the block holds 0 to 255', 1, 6)
+        self.refused('IOE=  65536', '65536 does not fit: the block holds 0 to 65535', 1, 7)
+        whole = 'the block holds -9223372036854775808 to 9223372036854775807'
+        for value in ('9223372036854775808', '-9223372036854775809'):
+            self.refused('INT = ' + value, '%s does not fit: %s' % (value, whole), 1, 7)
         self.refused('INT = 1.5', "'1.5' is no whole number", 1, 7)
-        self.refused('INT = ' + '9' * 5000, 'is no whole number', 1, 7)
+        self.refused('INT = ' + 'q' * 50, "'%s...' is no whole number" % ('q' * 37), 1, 7)
+        for digits in 41, 5000:
+            self.refused('INT = ' + '9' * digits, 'a number of %d digits does not fit: %s' % (digits, whole), 1, 7)
+        self.assertEqual(faults('INT = -' + '0' * 41 + '5'), [])
         self.refused('MJD =  # later', 'MJD has no value', 1, 6)
         self.refused('MJD = 50 722', "'722' is one word too many for MJD", 1, 10)
-        self.refused('MJD = 50722\n 7', "'7' has no name", 2, 1)
-        self.refused('12 13', 'has no name', 1, 1)
-        self.refused('FRC = L1', "'L1' has 2 characters, FRC has 3", 1, 7)
-        self.refused('FRC = L1\u00c9', 'two hexadecimal digits', 1, 7)
-        self.refused('FRC = L1\\', 'two hexadecimal digits', 1, 7)
-        self.refused('start = 24:00:00', 'no time of the day', 1, 9)
-        self.refused('start = 00:60:00', 'no time of the day', 1, 9)
 
-    def test_messages_of_lists(self):
+    def test_hexadecimal_is_refused_everywhere(self):
+        decimal = 'and numbers are decimal here: write'
+        self.refused('CL = 0xFF', "'0xFF' is hexadecimal, %s 255" % decimal, 1, 6)
+        self.refused('INT = -0X10', "'-0X10' is hexadecimal, %s -16" % decimal, 1, 7)
+        self.refused('INT = 0x' + 'F' * 99, "'0x%s...' is hexadecimal, %s it in decimal" % ('F' * 35, decimal), 1, 7)
+        self.refused('CL = fF', "'fF' is no whole number: numbers are decimal here, 255 for fF", 1, 6)
+        self.refused('HC = FF', "'FF' is no whole number", 1, 6)
+        self.refused('clock = 0x3E8 0 x 51', "'0x3E8' is hexadecimal, %s 1000" % decimal, 1, 9)
+        self.refused('clock = 0x52', "'0x52' may be hexadecimal, %s '0 x 52' to repeat 0" % decimal, 1, 9)
+        self.refused('clock = (-0x26) x 2', "'-0x26' may be hexadecimal, %s '-0 x 26' to repeat -0" % decimal, 1, 10)
+
+    def test_start(self):
+        zeros = "'%s' has the line's leading zeros, but start is a second of the day: write %s"
+        self.refused('start = 000200', zeros % ('000200', '00:02:00 or 120'), 1, 9)
+        self.refused('start = +090000', zeros % ('+090000', '09:00:00 or 32400'), 1, 9)
+        for word in '0120', '006100', '00', '0000200':
+            self.refused('start = ' + word, zeros % (word, 'hh:mm:ss, or no leading zeros'), 1, 9)
+        for time in '24:00:00', '00:60:00', '00:00:60':
+            self.refused('start = ' + time, '%s is no time of the day' % time, 1, 9)
+        self.refused('start = 0:02:00', "'0:02:00' is no whole number", 1, 9)
+        self.assertEqual(faults('start = 0'), [])
+        self.assertEqual(faults('start = 133000'), [])
+
+    def test_characters(self):
+        self.refused('FRC = L1', "'L1' has 2 characters, FRC has 3", 1, 7)
+        for code in 'L1\u00c9', 'L1\\':
+            self.refused('FRC = ' + code, "'%s': write other characters as \\x and two hexadecimal digits" % code, 1, 7)
+
+    def test_lists(self):
         self.refused('geometry = 0', "geometry needs 52 numbers and has 1; write '0 x 52' to repeat it", 1, 12)
         self.refused('clock =', 'clock needs 52 numbers and has 0', 1, 8)
         self.refused('measurements = 1 x 779', 'measurements needs 780 numbers and has 779', 1, 16)
-        self.refused('clock = 1 2\n  3 four', "'four' is no whole number", 2, 5)
-        self.refused('clock = 1 x', "'x' without a count", 1, 11)
-        self.refused('clock = 1 x 0', 'does not fit', 1, 13)
-        self.refused('clock = x 3', "'x' is no whole number", 1, 9)
+        self.refused('clock = 1 2\n  3 four (0) x 48', "'four' is no whole number", 2, 5)
+        self.refused('sizes = 780 65536', '65536 does not fit: the block holds 0 to 65535', 1, 13)
         self.refused('clock = (1 2', "'(' without ')'", 1, 9)
-        self.refused('clock = 1) x 2', "')' without '('", 1, 10)
-        self.refused('clock = ((1) x 2)', "'(' is no whole number", 1, 10)
-        self.refused('clock = 1 x 100000 2', 'far more than 52', 1, 9)
-        self.refused('clock = (1 x 1000) x 1000', 'far too many', 1, 9)
-        self.refused('sizes = 780 65536', 'the block holds 0 to 65535', 1, 13)
+        self.refused('clock = 1 )', "')' without '('", 1, 11)
+        self.refused('clock = ((1) x 2)', "'(' inside brackets", 1, 10)
+
+    def test_counts(self):
+        self.refused('clock = 1 x', "'x' without a count", 1, 11)
+        self.refused('clock = 1 x 0', 'a count of 0 leaves no number: a count is 1 or more', 1, 13)
+        self.refused('clock = (1) x -2', 'a count of -2 leaves no number: a count is 1 or more', 1, 15)
+        self.refused('clock = 1 x four', "'four' is no count", 1, 13)
+        many = 'a count of %s makes far too many numbers: clock needs 52'
+        self.refused('clock = 1 x 100001', many % '100001', 1, 13)
+        self.refused('clock = (1 x 1000) x 1000', many % '1000', 1, 22)
+        self.refused('clock = 1 x ' + '9' * 30, many % ('9' * 30), 1, 13)
+        self.refused('clock = 1 x 100000 2', 'clock has far more than 52 numbers', 1, 9)
+
+    def test_a_short_row_is_named_by_its_own_line(self):
+        rows = [' '.join(['7'] * 15)] * 52
+        rows[17] = ' '.join(['7'] * 14)
+        self.refused('measurements =\n' + '\n'.join(rows),
+                     'this row has 14 numbers, the others 15: measurements needs 780 numbers and has 779', 19, 1)
+        rows[30] = '\t' + ' '.join(['7'] * 17)
+        self.assertEqual([fault[:2] for fault in faults('measurements =\n' + '\n'.join(rows))], [(19, 1), (32, 2)])
+        self.refused('measurements = ' + '\n'.join(['7 x 16'] * 47 + ['7 x 15', '7 x 12']),
+                     'this row has 15 numbers, the others 16: measurements needs 780 numbers and has 779', 48, 1)
+        self.refused('clock = 1 x 25\n1 x 26',
+                     'this row has 25 numbers, the others 26: clock needs 52 numbers and has 51', 1, 9)
+        self.refused('clock = 1 x 26\n1 x 27',
+                     'this row has 27 numbers, the others 26: clock needs 52 numbers and has 53', 2, 1)
+        self.refused('clock =\n' + '1 x 13\n' * 3, 'clock needs 52 numbers and has 39, in 3 rows of 13', 2, 1)
+        self.refused('clock =\n' + '1 x 13\n' * 5, 'clock needs 52 numbers and has 65, in 5 rows of 13', 2, 1)
+
+    def test_all_faults_are_named_in_order(self):
+        text = 'HC = 256\nclock = 1 two 3 x 0\nFRC = L1\nclock = five\nMJD 1.5\nrelativity = 0x52'
+        places = [(1, 6), (2, 11), (2, 19), (3, 7), (4, 9), (4, 9), (4, 9), (5, 1), (5, 5), (6, 14)]
+        self.assertEqual([fault[:2] for fault in faults(text)], places)
 
 
 class RoundTrip(unittest.TestCase):
@@ -177,54 +260,134 @@ class RoundTrip(unittest.TestCase):
 
     def test_wrong_length(self):
         for length in (0, 8377, 8379):
-            with self.assertRaisesRegex(hireblock.Bad, '%d bytes; a hire block has 8378' % length):
+            with self.assertRaises(hireblock.Bad) as caught:
                 hireblock.unpack(bytes(length))
+            self.assertEqual(caught.exception.faults, [(None, None, '%d bytes; a hire block has 8378' % length)])
+
+
+class Encoding(unittest.TestCase):
+    def spoilt(self, data, *wanted):
+        """The bytes have these faults, and what is missing."""
+        with self.assertRaises(hireblock.Bad) as caught:
+            hireblock.parse(*hireblock.decoded(data))
+        found = [fault for fault in caught.exception.faults if not fault.message.startswith('missing: ')]
+        self.assertEqual(found, list(wanted))
+
+    def test_utf8_is_taken(self):
+        text = '\ufeff' + SAMPLE.read_text().replace('# class', '# Ger\u00e4t')
+        self.assertEqual(hireblock.pack(hireblock.parse(*hireblock.decoded(text.encode()))), sample_bytes())
+
+    def test_not_utf8(self):
+        message = 'not UTF-8 (byte %02X): save the text as UTF-8'
+        self.spoilt(b'HC = 1\n# Ger\xe4t\n', (2, 6, message % 0xE4))
+        self.spoilt(b'HC = 1.5 # Ger\xe4t', (1, 6, "'1.5' is no whole number"), (1, 15, message % 0xE4))
+        self.spoilt(b'HC = 1\xff5\nFR = x\n\xe9', (1, 7, message % 0xFF), (2, 6, "'x' is no whole number"),
+                    (3, 1, message % 0xE9))
+        for text in 'HC = 1', 'HC = 1\n':
+            for form in 'utf-16', 'utf-16-be':
+                with self.assertRaises(hireblock.Bad) as caught:
+                    hireblock.decoded(('\ufeff' * (form == 'utf-16-be') + text).encode(form))
+                self.assertEqual(caught.exception.faults, [(1, 1, 'not UTF-8 but UTF-16: save the text as UTF-8')])
+
+    def test_no_text(self):
+        self.spoilt(b'HC = 1\nFR\0', (2, 3, 'no text: it has bytes of 0'))
+        shown = ": this may be a block, which 'hireblock show' shows"
+        self.spoilt(sample_bytes(), (1, 4, 'no text: it has bytes of 0' + shown))
 
 
 class CommandLine(unittest.TestCase):
-    def run_tool(self, *arguments, data=b''):
-        return subprocess.run([sys.executable, str(TOOL), *map(str, arguments)], input=data, capture_output=True)
+    def setUp(self):
+        folder = tempfile.TemporaryDirectory()
+        self.addCleanup(folder.cleanup)
+        self.folder = pathlib.Path(folder.name)
+
+    def run_tool(self, *arguments, data=b'', **more):
+        more = {'stdout': subprocess.PIPE, **more}
+        command = [sys.executable, str(TOOL), *map(str, arguments)]
+        return subprocess.run(command, input=data, stderr=subprocess.PIPE, **more)
+
+    def ends(self, result, status, *messages):
+        """The status and all that is written to standard error."""
+        lines = ''.join('hireblock: %s\n' % message for message in messages)
+        self.assertEqual((result.returncode, result.stderr.decode()), (status, lines))
 
     def test_pack_and_show(self):
-        with tempfile.TemporaryDirectory() as folder:
-            block, text = pathlib.Path(folder, 'a.blk'), pathlib.Path(folder, 'a.txt')
-            self.assertEqual(self.run_tool('pack', SAMPLE, '-o', block).returncode, 0)
-            self.assertEqual(block.read_bytes(), sample_bytes())
-            self.assertEqual(self.run_tool('show', block, '-o', text).returncode, 0)
-            self.assertEqual(self.run_tool('pack', text).stdout, sample_bytes())
-            self.assertEqual(self.run_tool('show', '-', data=sample_bytes()).stdout, text.read_bytes())
+        block, text = self.folder / 'a.blk', self.folder / 'a.txt'
+        self.ends(self.run_tool('pack', SAMPLE, '-o', block), 0)
+        self.assertEqual(block.read_bytes(), sample_bytes())
+        self.ends(self.run_tool('show', block, '-o', text), 0)
+        self.assertEqual(self.run_tool('pack', text).stdout, sample_bytes())
+        self.assertEqual(self.run_tool('show', '-', data=sample_bytes()).stdout, text.read_bytes())
+        self.assertEqual(self.run_tool('show', block, '-o', '-').stdout, text.read_bytes())
 
-    def test_bad_input_names_the_place_and_writes_nothing(self):
-        with tempfile.TemporaryDirectory() as folder:
-            text, block = pathlib.Path(folder, 'bad.txt'), pathlib.Path(folder, 'bad.blk')
-            text.write_text('HC = 1\nMJD = fifty\n')
-            result = self.run_tool('pack', text, '-o', block)
-            self.assertEqual(result.returncode, 1)
-            self.assertEqual(result.stderr.decode(), "hireblock: %s:2:7: 'fifty' is no whole number\n" % text)
-            self.assertFalse(block.exists())
+    def test_faults_are_1_and_nothing_is_written(self):
+        text, block = self.folder / 'bad.txt', self.folder / 'bad.blk'
+        content = SAMPLE.read_text().replace('= 50722', '= fifty')
+        lines = content.splitlines()
+        mjd, hc = (1 + next(k for k, row in enumerate(lines) if row.startswith(name)) for name in ('MJD', 'HC'))
+        text.write_text(content)
+        fifty = "%s:%d:17: 'fifty' is no whole number" % (text, mjd)
+        self.ends(self.run_tool('pack', text, '-o', block), 1, fifty)
+        text.write_text(content + 'HC = 300\n')
+        self.ends(self.run_tool('pack', text, '-o', block), 1, fifty,
+                  '%s:%d:6: HC stands twice, first in line %d' % (text, len(lines) + 1, hc),
+                  '%s:%d:6: 300 does not fit: the block holds 0 to 255' % (text, len(lines) + 1),
+                  '%s: 3 faults; no block is made' % text)
+        self.assertFalse(block.exists())
+        self.ends(self.run_tool('show', '-', data=b'x'), 1, '-: 1 bytes; a hire block has 8378')
+        self.ends(self.run_tool('show', SAMPLE), 1, "%s: %d bytes; a hire block has 8378: this may be a text, which "
+                  "'hireblock pack' packs" % (SAMPLE, SAMPLE.stat().st_size))
 
-    def test_other_messages(self):
-        result = self.run_tool('show', '-', data=b'x')
-        self.assertEqual((result.returncode, result.stderr), (1, b'hireblock: -: 1 bytes; a hire block has 8378\n'))
-        result = self.run_tool('show', '/no/such/file')
-        self.assertEqual(result.returncode, 1)
-        self.assertEqual(result.stderr, b'hireblock: /no/such/file: No such file or directory\n')
-        result = self.run_tool('pack', '-', data=b'HC = 1\n\xff\n')
-        self.assertEqual((result.returncode, result.stderr), (1, b'hireblock: -:2:1: not a text file\n'))
-        with tempfile.TemporaryDirectory() as folder:
-            text = pathlib.Path(folder, 'a.txt')
-            text.write_bytes(SAMPLE.read_bytes())
-            result = self.run_tool('pack', text, '-o', text)
-            self.assertEqual(result.returncode, 1)
-            self.assertIn(b'would be overwritten', result.stderr)
-            self.assertEqual(text.read_bytes(), SAMPLE.read_bytes())
+    def test_unreadable_is_2(self):
+        self.ends(self.run_tool('show', '/no/such/file'), 2, "can't read /no/such/file: No such file or directory")
+        self.ends(self.run_tool('pack', self.folder), 2, "can't read %s: Is a directory" % self.folder)
 
-    def test_help_and_usage(self):
+    def test_unwritable_is_2(self):
+        here = self.folder / 'none' / 'a.blk'
+        self.ends(self.run_tool('pack', SAMPLE, '-o', here), 2, "can't write %s: No such file or directory" % here)
+        self.ends(self.run_tool('pack', SAMPLE, '-o', '/dev/full'), 2, "can't write /dev/full: No space left on device")
+        self.assertTrue(pathlib.Path('/dev/full').exists())
+        with open('/dev/full', 'wb') as full:
+            result = self.run_tool('pack', SAMPLE, stdout=full)
+        self.ends(result, 2, "can't write standard output: No space left on device")
+
+    def test_no_cut_block_stays(self):
+        def small():
+            resource.setrlimit(resource.RLIMIT_FSIZE, (4096, 4096))
+
+        block = self.folder / 'a.blk'
+        result = self.run_tool('pack', SAMPLE, '-o', block, preexec_fn=small)
+        self.ends(result, 2, "can't write %s: File too large" % block)
+        self.assertFalse(block.exists())
+
+    def test_a_closed_pipe_is_2_without_a_word(self):
+        reader, writer = os.pipe()
+        os.close(reader)
+        with open(writer, 'wb') as pipe:
+            self.ends(self.run_tool('show', ROOT / 'examples' / 'sample.blk', stdout=pipe), 2)
+
+    def test_wrong_use_is_2(self):
+        text = self.folder / 'a.txt'
+        text.write_bytes(SAMPLE.read_bytes())
+        self.ends(self.run_tool('pack', text, '-o', text), 2, '%s would be overwritten: give another -o' % text)
+        self.assertEqual(text.read_bytes(), SAMPLE.read_bytes())
+        for arguments in (), ('burn', 'x'), ('pack',), ('show', 'x', 'y'):
+            result = self.run_tool(*arguments)
+            self.assertEqual(result.returncode, 2)
+            self.assertTrue(result.stderr.startswith(b'usage: hireblock'))
+
+    def test_a_terminal_gets_no_block(self):
+        ours, theirs = os.openpty()
+        result = self.run_tool('pack', SAMPLE, stdout=theirs)
+        self.ends(result, 2, 'a block is no text for the terminal: give -o FILE.blk')
+        self.ends(self.run_tool('show', ROOT / 'examples' / 'sample.blk', stdout=theirs), 0)
+        os.close(ours)
+        os.close(theirs)
+
+    def test_help(self):
         result = self.run_tool('--help')
         self.assertEqual(result.returncode, 0)
         self.assertIn(b'measurements = 1000 x 780', result.stdout)
-        self.assertEqual(self.run_tool().returncode, 2)
-        self.assertEqual(self.run_tool('burn', 'x').returncode, 2)
 
 
 if __name__ == '__main__':

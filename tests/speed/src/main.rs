@@ -1,6 +1,7 @@
 //! Times the archive's trackline_block beside the plain Rust implementation: same blocks, same process, in turns.
 //!
 //!     speed [ROUNDS [BLOCKS [SEED]]]
+//!     speed once PART            one call of each on one block that is refused behind a part, for instructions.sh
 //!
 //! First 10,000 full blocks that are accepted. Then the same blocks, each spoilt so that it is refused at one stage:
 //! what one stage costs more than the stage before it is the cost of the work between them. No time fails this
@@ -22,11 +23,16 @@ use std::time::Duration;
 
 type Block = fn(&[u8], &mut [u8]) -> u32;
 
-fn proved(block: &[u8], lent: &mut [u8]) -> u32 {
+// Never inlined and with plain names, so that valgrind can count what is inside.
+#[inline(never)]
+#[no_mangle]
+fn speed_proved(block: &[u8], lent: &mut [u8]) -> u32 {
     library::block(Some(block), Some(lent))
 }
 
-fn plain(block: &[u8], lent: &mut [u8]) -> u32 {
+#[inline(never)]
+#[no_mangle]
+fn speed_plain(block: &[u8], lent: &mut [u8]) -> u32 {
     reference::block(block, lent)
 }
 
@@ -48,11 +54,11 @@ fn processor_time() -> Duration {
 }
 
 /// Nanoseconds a block of one pass over all of them.
-fn pass(of: Block, blocks: &[Vec<u8>], lent: usize) -> f64 {
+fn pass(of: Block, blocks: &[Vec<u8>]) -> f64 {
     let mut line = [0; LINE_BYTES];
     let start = processor_time();
     for block in blocks {
-        black_box(of(black_box(block), black_box(&mut line[..lent])));
+        black_box(of(black_box(block), black_box(&mut line)));
     }
     (processor_time() - start).as_nanos() as f64 / blocks.len() as f64
 }
@@ -71,32 +77,32 @@ fn spread(values: impl Iterator<Item = f64>) -> Spread {
 }
 
 /// One pass of each a round, the proved library first in every other round, after one round that is not counted.
-fn rounds(count: usize, blocks: &[Vec<u8>], lent: usize) -> Vec<(f64, f64)> {
+fn rounds(count: usize, blocks: &[Vec<u8>]) -> Vec<(f64, f64)> {
     let round = |i: usize| {
         if i % 2 == 0 {
-            let first = pass(proved, blocks, lent);
-            (first, pass(plain, blocks, lent))
+            let first = pass(speed_proved, blocks);
+            (first, pass(speed_plain, blocks))
         } else {
-            let first = pass(plain, blocks, lent);
-            (pass(proved, blocks, lent), first)
+            let first = pass(speed_plain, blocks);
+            (pass(speed_proved, blocks), first)
         }
     };
     (0..=count).map(round).skip(1).collect()
 }
 
 /// Both must give this answer to every block, and the same line.
-fn agree(blocks: &[Vec<u8>], lent: usize, answer: u32) {
+fn agree(blocks: &[Vec<u8>], answer: u32) {
     for block in blocks {
         let (mut ours, mut theirs) = ([0; LINE_BYTES], [0; LINE_BYTES]);
-        assert_eq!(proved(block, &mut ours[..lent]), answer);
-        assert_eq!(plain(block, &mut theirs[..lent]), answer);
+        assert_eq!(speed_proved(block, &mut ours), answer);
+        assert_eq!(speed_plain(block, &mut theirs), answer);
         assert_eq!(ours, theirs);
     }
 }
 
 fn whole(count: usize, blocks: &[Vec<u8>]) {
-    agree(blocks, LINE_BYTES, 0);
-    let times = rounds(count, blocks, LINE_BYTES);
+    agree(blocks, 0);
+    let times = rounds(count, blocks);
     println!("{} accepted blocks, {count} rounds: least, median, greatest", blocks.len());
     let (proved, plain) = (spread(times.iter().map(|t| t.0)), spread(times.iter().map(|t| t.1)));
     for (name, s) in [("proved", proved), ("plain Rust", plain)] {
@@ -115,14 +121,14 @@ fn split(count: usize, blocks: &[Vec<u8>]) {
     let spoilt = STAGES.map(|stage| {
         let mut spoilt = blocks.to_vec();
         spoilt.iter_mut().for_each(stage.spoil);
-        agree(&spoilt, stage.lent, stage.answer);
+        agree(&spoilt, stage.answer);
         spoilt
     });
     let mut least = [(f64::INFINITY, f64::INFINITY); STAGES.len()];
     for _ in 0..count {
-        for (i, stage) in STAGES.iter().enumerate() {
-            least[i].0 = pass(proved, &spoilt[i], stage.lent).min(least[i].0);
-            least[i].1 = pass(plain, &spoilt[i], stage.lent).min(least[i].1);
+        for (least, spoilt) in least.iter_mut().zip(&spoilt) {
+            least.0 = pass(speed_proved, spoilt).min(least.0);
+            least.1 = pass(speed_plain, spoilt).min(least.1);
         }
     }
     println!("the cost of each part, by {} blocks that are refused behind it: ns a block", blocks.len());
@@ -135,8 +141,22 @@ fn split(count: usize, blocks: &[Vec<u8>]) {
     println!("  {:42} {:8.0} {:10.0}", "all", before.0, before.1);
 }
 
+/// One call of each on the first block of seed 1, refused behind the named part.
+fn once(part: &str) {
+    let stage = STAGES.iter().find(|stage| stage.part == part).expect("a part of docs/SPEED.md");
+    let mut block = case::good(&mut Seeded::new(1)).bytes();
+    (stage.spoil)(&mut block);
+    agree(&[block], stage.answer);
+}
+
 fn main() {
-    let given: Vec<u64> = std::env::args().skip(1).map(|a| a.parse().expect("a number")).collect();
+    let words: Vec<String> = std::env::args().skip(1).collect();
+    if let [word, part] = &words[..] {
+        if word == "once" {
+            return once(part);
+        }
+    }
+    let given: Vec<u64> = words.iter().map(|a| a.parse().expect("a number")).collect();
     let or = |i: usize, default: u64| given.get(i).copied().unwrap_or(default);
     let count = or(0, 15).max(1) as usize;
     let mut seeded = Seeded::new(or(2, 1));

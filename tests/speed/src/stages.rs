@@ -1,31 +1,27 @@
 //! Where an accepted block is spoilt so that it is refused after a known part of the work.
 
 use crate::case::{CLOCK, TROPOSPHERE};
-use reference::{BLOCKS, LINE_BYTES};
+use reference::BLOCKS;
 
 pub struct Stage {
     /// the work between the refusal before and this one
     pub part: &'static str,
     pub answer: u32,
-    /// bytes of the lent line
-    pub lent: usize,
     pub spoil: fn(&mut Vec<u8>),
 }
 
-const fn stage(part: &'static str, answer: u32, lent: usize, spoil: fn(&mut Vec<u8>)) -> Stage {
-    Stage { part, answer, lent, spoil }
+const fn stage(part: &'static str, answer: u32, spoil: fn(&mut Vec<u8>)) -> Stage {
+    Stage { part, answer, spoil }
 }
 
-/// In the order of the refusals.
-pub const STAGES: [Stage; 8] = [
-    stage("call and length", 11, LINE_BYTES, |block| block.truncate(8377)),
-    stage("sizes", 1, LINE_BYTES, |block| block[2] = 51),
-    stage("decoding", 2, LINE_BYTES, |block| put(block, 58, i64::MAX)),
-    stage("limits", 2, LINE_BYTES, |block| put(block, column(CLOCK, BLOCKS - 1), i64::MAX)),
-    stage("smoothing, correcting, fits", 5, LINE_BYTES, negative_troposphere),
-    stage("scatter", 7, LINE_BYTES, |block| block[5] = 0),
-    stage("labels, start and limits of the numbers", 9, LINE_BYTES - 1, |_| {}),
-    stage("text", 0, LINE_BYTES, |_| {}),
+/// In the order of the refusals, named as in the table of docs/SPEED.md.
+pub const STAGES: [Stage; 6] = [
+    stage("length and sizes", 1, |block| block[2] = 51),
+    stage("decoding", 2, |block| put(block, 58, i64::MAX)),
+    stage("limits", 2, |block| put(block, column(CLOCK, BLOCKS - 1), i64::MAX)),
+    stage("smoothing, correcting, four fits", 5, negative_troposphere),
+    stage("scatter", 7, |block| block[5] = 0),
+    stage("labels and start, text", 0, |_| {}),
 ];
 
 fn put(block: &mut [u8], at: usize, value: i64) {
