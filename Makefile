@@ -9,7 +9,8 @@
 # make fuzz          a bounded fuzz run over the C boundary, with clang: make fuzz SECONDS=120
 # make program       trackline, proved: target/bin/trackline
 # make programs      trackline and bench, proved: target/bin
-# make archive       the static library, proved: target/staticlib/libline.a
+# make cggtts        lines of hire blocks, and what a refused one is refused for: target/cggtts/cggtts
+# make archive       the static library, proved: target/staticlib/libboundary.a
 # make shared        the shared library: target/libtrackline.so.1
 # make install       the programs, the libraries, the header, the manual pages: make install PREFIX=/usr/local DESTDIR=
 # make uninstall     remove what install put there, with the same PREFIX and DESTDIR; folders stay
@@ -22,9 +23,12 @@ CASES ?= crates/bench/stdin
 CC ?= cc
 CFLAGS ?= -O2
 
-ARCHIVE := target/staticlib/libline.a
+# The archive of crate boundary, which has every C function; it is installed as libtrackline.a.
+ARCHIVE := target/staticlib/libboundary.a
 SONAME := libtrackline.so.$(firstword $(subst ., ,$(VERSION)))
 SHARED := target/$(SONAME)
+CGGTTS := target/cggtts/cggtts
+CGGTTS_SOURCES := $(wildcard cggtts/*.c)
 STRICT := -std=c11 -Wall -Wextra -Werror -pedantic
 export CARGO_TARGET_DIR := $(CURDIR)/target/cargo
 export LINE_ARCHIVE := $(CURDIR)/$(ARCHIVE)
@@ -34,13 +38,16 @@ INSTALLED := $(DESTDIR)$(abspath $(PREFIX))
 SOURCES := crates.txt $(shell find crates -name must-fail -prune -o -path crates/trackline -prune -o -path crates/bench -prune -o -type f -print)
 
 # What install puts below the prefix, and uninstall removes.
-PROGRAMS := target/bin/trackline tools/hireblock
+PROGRAMS := target/bin/trackline $(CGGTTS) tools/hireblock
 PAGES := $(wildcard man/*.[1-8])
+DOCUMENTS := docs/REFUSALS.md docs/HIRE-BLOCK.md
+EXAMPLES := examples/receiver.c examples/sample.txt examples/sample.blk
 INSTALLS := $(addprefix bin/,$(notdir $(PROGRAMS))) include/trackline.h lib/libtrackline.a lib/$(SONAME) \
 	lib/libtrackline.so lib/pkgconfig/trackline.pc \
-	$(foreach page,$(PAGES),share/man/man$(subst .,,$(suffix $(page)))/$(notdir $(page)))
+	$(foreach page,$(PAGES),share/man/man$(subst .,,$(suffix $(page)))/$(notdir $(page))) \
+	$(addprefix share/doc/trackline/,$(notdir $(DOCUMENTS))) $(addprefix share/trackline/examples/,$(notdir $(EXAMPLES)))
 
-.PHONY: help run test beside proofs bench speed instructions fuzz program programs archive shared install uninstall clean
+.PHONY: help run test beside proofs bench speed instructions fuzz program programs cggtts archive shared install uninstall clean
 # rt ci clears target/, where everything else is built.
 .NOTPARALLEL:
 
@@ -64,7 +71,7 @@ test: beside proofs
 proofs:
 	rt ci
 
-beside: archive programs
+beside: archive programs cggtts
 	rt fmt --check
 	tests/make.sh
 	python3 tests/hireblock/test_hireblock.py
@@ -78,6 +85,11 @@ beside: archive programs
 	target/boundary_test
 	$(CC) $(CFLAGS) $(STRICT) -Iinclude examples/receiver.c $(ARCHIVE) -o target/receiver
 	target/receiver | cmp - crates/trackline/stdout
+	$(CC) $(CFLAGS) $(STRICT) -Iinclude tests/c/stack.c $(ARCHIVE) -pthread -o target/stack
+	target/stack
+	python3 tests/layout.py
+	python3 tests/trackline/test_trackline.py
+	python3 tests/cggtts/test_cggtts.py
 	tools/hireblock pack examples/sample.txt | cmp - examples/sample.blk
 	tools/worked | cmp - examples/worked.txt
 	tools/hireblock pack examples/worked.txt | cmp - examples/worked.blk
@@ -85,6 +97,8 @@ beside: archive programs
 	tools/lastdigit --program target/bin/trackline
 	tools/lastdigit --svg target/last-digit.svg && cmp target/last-digit.svg docs/last-digit.svg
 	tools/definitions --check docs/TRUST.md
+	tools/architecture --check docs/ARCHITECTURE.md
+	tools/architecture --svg target/architecture.svg && cmp target/architecture.svg docs/architecture.svg
 	tools/clauses docs/CLAUSES.md
 	tests/install.sh
 
@@ -102,8 +116,9 @@ archive: $(ARCHIVE)
 
 # rt staticlib proves the crates below one at a time, rt check side by side.
 $(ARCHIVE): $(SOURCES)
-	rt check line
-	rt staticlib line
+	rt check boundary
+	rm -rf $(@D)
+	rt staticlib boundary
 
 shared: $(SHARED)
 
@@ -111,7 +126,13 @@ $(SHARED): $(ARCHIVE) install/trackline.map
 	$(CC) -shared -Wl,-soname,$(SONAME) -Wl,--version-script=install/trackline.map -Wl,-z,defs -Wl,-z,now \
 		-Wl,--whole-archive $(ARCHIVE) -Wl,--no-whole-archive -o $@
 
-install: program $(ARCHIVE) $(SHARED)
+cggtts: $(CGGTTS)
+
+$(CGGTTS): $(CGGTTS_SOURCES) cggtts/cggtts.h include/trackline.h Makefile $(ARCHIVE)
+	@mkdir -p $(@D)
+	$(CC) $(CFLAGS) $(STRICT) -DVERSION='"$(VERSION)"' -Iinclude $(CGGTTS_SOURCES) $(ARCHIVE) -lm -o $@
+
+install: program $(ARCHIVE) $(SHARED) $(CGGTTS)
 	mkdir -p "$(INSTALLED)" && cd "$(INSTALLED)" && install -d $(sort $(dir $(INSTALLS)))
 	install $(PROGRAMS) "$(INSTALLED)/bin"
 	install -m 644 include/trackline.h "$(INSTALLED)/include"
@@ -121,6 +142,8 @@ install: program $(ARCHIVE) $(SHARED)
 	sed -e 's|@PREFIX@|$(abspath $(PREFIX))|' -e 's|@VERSION@|$(VERSION)|' install/trackline.pc.in > target/trackline.pc
 	install -m 644 target/trackline.pc "$(INSTALLED)/lib/pkgconfig"
 	for page in $(PAGES); do install -m 644 $$page "$(INSTALLED)/share/man/man$${page##*.}" || exit 1; done
+	install -m 644 $(DOCUMENTS) "$(INSTALLED)/share/doc/trackline"
+	install -m 644 $(EXAMPLES) "$(INSTALLED)/share/trackline/examples"
 
 uninstall:
 	test ! -d "$(INSTALLED)" || { cd "$(INSTALLED)" && rm -f $(INSTALLS); }

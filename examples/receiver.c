@@ -1,8 +1,9 @@
 /*
  * How a receiver's control program gets the data line of a track: it packs what it measured into a hire block, hands
- * the block over, and sends the line on. Copy what you need.
+ * the block over, and sends the line on. Copy what you need. With the library installed (pkg-config may have to be told
+ * where, by PKG_CONFIG_PATH=PREFIX/lib/pkgconfig):
  *
- *     cc -std=c11 -Iinclude examples/receiver.c target/staticlib/libline.a -o receiver
+ *     cc -std=c11 receiver.c $(pkg-config --cflags --libs trackline) -o receiver
  *
  * The track here is the sample: every measurement 1000 ps, no corrections.
  */
@@ -10,9 +11,7 @@
 #include <stdio.h>
 #include <string.h>
 
-#include "trackline.h"
-
-enum { SECONDS = 780, BLOCKS = 52 };
+#include <trackline.h>
 
 /* One smoothed value's corrections, in ps. */
 struct corrections {
@@ -35,79 +34,76 @@ struct track {
     uint16_t elv, azth;  /* 0.1 degree */
     uint16_t ioe;
     int64_t int_dly, cab_dly, ref_dly, gd; /* ps */
-    int64_t measurements[SECONDS];         /* ps, one a second */
-    struct corrections corrections[BLOCKS];
+    int64_t measurements[TRACKLINE_MEASUREMENTS]; /* ps, one a second */
+    struct corrections corrections[TRACKLINE_GROUPS];
 };
 
-/* Puts a number of so many bytes, the lowest first, and gives the place after it. */
-static uint8_t *put(uint8_t *to, uint64_t value, int bytes)
+/* Puts a number of so many bytes into the block, the lowest first. */
+static void put(uint8_t *block, size_t at, size_t width, uint64_t value)
 {
-    for (int i = 0; i < bytes; i++) {
-        *to++ = (uint8_t)(value >> (8 * i));
+    for (size_t i = 0; i < width; i++) {
+        block[at + i] = (uint8_t)(value >> (8 * i));
     }
-    return to;
 }
 
-static uint8_t *put_ps(uint8_t *to, int64_t value)
+static void put_ps(uint8_t *block, size_t at, int64_t value)
 {
-    return put(to, (uint64_t)value, 8);
+    put(block, at, TRACKLINE_WIDTH_PS, (uint64_t)value);
 }
 
-static uint8_t *put_labels(uint8_t *to, const struct track *t)
+static void put_labels(uint8_t *block, const struct track *t)
 {
-    to = put(to, (uint8_t)t->constellation, 1);
-    to = put(to, t->satellite, 1);
-    to = put(to, t->cl, 1);
-    to = put(to, t->fr, 1);
-    to = put(to, t->hc, 1);
-    for (int i = 0; i < 3; i++) {
-        to = put(to, (uint8_t)t->frc[i], 1);
-    }
-    to = put(to, t->mjd, 4);
-    to = put(to, t->start, 4);
-    to = put(to, t->elv, 2);
-    to = put(to, t->azth, 2);
-    return put(to, t->ioe, 2);
+    put(block, TRACKLINE_AT_CONSTELLATION, TRACKLINE_WIDTH_CONSTELLATION, (uint8_t)t->constellation);
+    put(block, TRACKLINE_AT_SATELLITE, TRACKLINE_WIDTH_SATELLITE, t->satellite);
+    put(block, TRACKLINE_AT_CL, TRACKLINE_WIDTH_CL, t->cl);
+    put(block, TRACKLINE_AT_FR, TRACKLINE_WIDTH_FR, t->fr);
+    put(block, TRACKLINE_AT_HC, TRACKLINE_WIDTH_HC, t->hc);
+    memcpy(block + TRACKLINE_AT_FRC, t->frc, TRACKLINE_WIDTH_FRC);
+    put(block, TRACKLINE_AT_MJD, TRACKLINE_WIDTH_MJD, t->mjd);
+    put(block, TRACKLINE_AT_START, TRACKLINE_WIDTH_START, t->start);
+    put(block, TRACKLINE_AT_ELV, TRACKLINE_WIDTH_ELV, t->elv);
+    put(block, TRACKLINE_AT_AZTH, TRACKLINE_WIDTH_AZTH, t->azth);
+    put(block, TRACKLINE_AT_IOE, TRACKLINE_WIDTH_IOE, t->ioe);
+}
+
+static void put_corrections(uint8_t *group, const struct corrections *c)
+{
+    put_ps(group, TRACKLINE_IN_GROUP_GEOMETRY, c->geometry);
+    put_ps(group, TRACKLINE_IN_GROUP_RELATIVITY, c->relativity);
+    put_ps(group, TRACKLINE_IN_GROUP_IONOSPHERE, c->ionosphere);
+    put_ps(group, TRACKLINE_IN_GROUP_TROPOSPHERE, c->troposphere);
+    put_ps(group, TRACKLINE_IN_GROUP_CLOCK, c->clock);
 }
 
 /* Packs a track into a hire block of TRACKLINE_BLOCK_BYTES bytes. */
 static void pack(uint8_t *block, const struct track *t)
 {
-    uint8_t *to = put(block, SECONDS, 2);
-    to = put(to, BLOCKS, 2);
-    to = put_labels(to, t);
-    to = put_ps(to, t->int_dly);
-    to = put_ps(to, t->cab_dly);
-    to = put_ps(to, t->ref_dly);
-    to = put_ps(to, t->gd);
-    for (int i = 0; i < SECONDS; i++) {
-        to = put_ps(to, t->measurements[i]);
+    put(block, TRACKLINE_AT_MEASUREMENTS_SIZE, TRACKLINE_WIDTH_MEASUREMENTS_SIZE, TRACKLINE_MEASUREMENTS);
+    put(block, TRACKLINE_AT_GROUPS_SIZE, TRACKLINE_WIDTH_GROUPS_SIZE, TRACKLINE_GROUPS);
+    put_labels(block, t);
+    put_ps(block, TRACKLINE_AT_INT, t->int_dly);
+    put_ps(block, TRACKLINE_AT_CAB, t->cab_dly);
+    put_ps(block, TRACKLINE_AT_REF, t->ref_dly);
+    put_ps(block, TRACKLINE_AT_GD, t->gd);
+    for (size_t i = 0; i < TRACKLINE_MEASUREMENTS; i++) {
+        put_ps(block, TRACKLINE_AT_MEASUREMENTS + TRACKLINE_WIDTH_PS * i, t->measurements[i]);
     }
-    for (int j = 0; j < BLOCKS; j++) {
-        const struct corrections *c = &t->corrections[j];
-        to = put_ps(to, c->geometry);
-        to = put_ps(to, c->relativity);
-        to = put_ps(to, c->ionosphere);
-        to = put_ps(to, c->troposphere);
-        to = put_ps(to, c->clock);
+    for (size_t j = 0; j < TRACKLINE_GROUPS; j++) {
+        put_corrections(block + TRACKLINE_AT_GROUPS + TRACKLINE_WIDTH_GROUP * j, &t->corrections[j]);
     }
 }
 
+/* The refusals' texts come from the header. */
 static const char *meaning(uint32_t refusal)
 {
     switch (refusal) {
-    case TRACKLINE_COUNT: return "the sizes are not 780 and 52";
-    case TRACKLINE_LIMIT: return "a measurement, a correction or a delay is beyond its limit";
-    case TRACKLINE_MIDPOINT: return "REFSV or REFSYS does not fit its columns";
-    case TRACKLINE_SLOPE: return "a slope does not fit its columns";
-    case TRACKLINE_DELAY: return "MDTR or MDIO does not fit its columns";
-    case TRACKLINE_SCATTER: return "DSG does not fit its columns";
-    case TRACKLINE_LABEL: return "a label is out of its range";
-    case TRACKLINE_START: return "no track of that day starts at that second";
-    case TRACKLINE_LENT: return "the lent line is under 113 bytes";
-    case TRACKLINE_CORRECTED: return "a corrected value is beyond its limit";
-    case TRACKLINE_LENGTH: return "the block is not 8378 bytes";
-    default: return "a number that this program does not know";
+#define MEANING(number, name, text) \
+    case name:                      \
+        return text;
+        TRACKLINE_REFUSALS(MEANING)
+#undef MEANING
+    default:
+        return "a number that this program does not know";
     }
 }
 
@@ -123,7 +119,7 @@ static void sample(struct track *t)
     t->elv = 450;
     t->azth = 1800;
     t->ioe = 7;
-    for (int i = 0; i < SECONDS; i++) {
+    for (size_t i = 0; i < TRACKLINE_MEASUREMENTS; i++) {
         t->measurements[i] = 1000;
     }
 }

@@ -20,19 +20,78 @@ extern "C" {
 #define TRACKLINE_LINE_BYTES 113
 #define TRACKLINE_BLOCK_BYTES 8378
 
-/* Refusals. docs/REFUSALS.md says what to do about each. */
-#define TRACKLINE_ACCEPTED 0   /* the line is written */
-#define TRACKLINE_COUNT 1      /* the block's two sizes are not 780 and 52 */
-#define TRACKLINE_LIMIT 2      /* a measurement, a correction or a delay is beyond its limit */
-#define TRACKLINE_MIDPOINT 3   /* REFSV or REFSYS has more than ten digits */
-#define TRACKLINE_SLOPE 4      /* SRSV or SRSYS has more than five digits, SMDT or SMDI more than three */
-#define TRACKLINE_DELAY 5      /* MDTR or MDIO is below 0 or has more than four digits */
-#define TRACKLINE_SCATTER 6    /* DSG is below 0 or has more than four digits */
-#define TRACKLINE_LABEL 7      /* a label is out of its range, or the track length is not 780 */
-#define TRACKLINE_START 8      /* no track of that day starts at that second */
-#define TRACKLINE_LENT 9       /* the lent line is under 113 bytes */
-#define TRACKLINE_CORRECTED 10 /* a corrected value is beyond its limit; the other limits keep it from arising */
-#define TRACKLINE_LENGTH 11    /* the block is not 8378 bytes */
+/*
+ * The hire block: little-endian; hireblock(5) tells it whole. AT is the first byte, counted from 0, and WIDTH how many
+ * there are. Numbers of eight bytes are ps, signed, two's complement; the others are unsigned.
+ */
+#define TRACKLINE_MEASUREMENTS 780 /* what the first size says: one-second measurements */
+#define TRACKLINE_GROUPS 52        /* what the second size says: groups of five corrections */
+
+#define TRACKLINE_AT_MEASUREMENTS_SIZE 0
+#define TRACKLINE_WIDTH_MEASUREMENTS_SIZE 2
+#define TRACKLINE_AT_GROUPS_SIZE 2
+#define TRACKLINE_WIDTH_GROUPS_SIZE 2
+#define TRACKLINE_AT_CONSTELLATION 4
+#define TRACKLINE_WIDTH_CONSTELLATION 1
+#define TRACKLINE_AT_SATELLITE 5
+#define TRACKLINE_WIDTH_SATELLITE 1
+#define TRACKLINE_AT_CL 6
+#define TRACKLINE_WIDTH_CL 1
+#define TRACKLINE_AT_FR 7
+#define TRACKLINE_WIDTH_FR 1
+#define TRACKLINE_AT_HC 8
+#define TRACKLINE_WIDTH_HC 1
+#define TRACKLINE_AT_FRC 9
+#define TRACKLINE_WIDTH_FRC 3
+#define TRACKLINE_AT_MJD 12
+#define TRACKLINE_WIDTH_MJD 4
+#define TRACKLINE_AT_START 16
+#define TRACKLINE_WIDTH_START 4
+#define TRACKLINE_AT_ELV 20
+#define TRACKLINE_WIDTH_ELV 2
+#define TRACKLINE_AT_AZTH 22
+#define TRACKLINE_WIDTH_AZTH 2
+#define TRACKLINE_AT_IOE 24
+#define TRACKLINE_WIDTH_IOE 2
+#define TRACKLINE_AT_INT 26
+#define TRACKLINE_AT_CAB 34
+#define TRACKLINE_AT_REF 42
+#define TRACKLINE_AT_GD 50
+#define TRACKLINE_AT_MEASUREMENTS 58 /* measurement i, from 0, at 58 + 8 i */
+#define TRACKLINE_AT_GROUPS 6298     /* group j, from 0, at 6298 + 40 j */
+#define TRACKLINE_WIDTH_PS 8         /* each delay, measurement and correction */
+#define TRACKLINE_WIDTH_GROUP 40
+
+/* Where a correction stands in its group. */
+#define TRACKLINE_IN_GROUP_GEOMETRY 0
+#define TRACKLINE_IN_GROUP_RELATIVITY 8
+#define TRACKLINE_IN_GROUP_IONOSPHERE 16
+#define TRACKLINE_IN_GROUP_TROPOSPHERE 24
+#define TRACKLINE_IN_GROUP_CLOCK 32
+
+/*
+ * Refusals: X(number, name, text) for each, so that a program's messages come from here. docs/REFUSALS.md says what to do
+ * about each. 10 does not arise, as the other limits leave no room for it.
+ */
+#define TRACKLINE_REFUSALS(X)                                                                         \
+    X(1, TRACKLINE_COUNT, "the block's two sizes are not 780 and 52")                                 \
+    X(2, TRACKLINE_LIMIT, "a measurement, a correction or a delay is beyond its limit")               \
+    X(3, TRACKLINE_MIDPOINT, "REFSV or REFSYS has more than ten digits")                              \
+    X(4, TRACKLINE_SLOPE, "SRSV or SRSYS has more than five digits, or SMDT or SMDI more than three") \
+    X(5, TRACKLINE_DELAY, "MDTR or MDIO is below 0 or has more than four digits")                     \
+    X(6, TRACKLINE_SCATTER, "DSG is below 0 or has more than four digits")                            \
+    X(7, TRACKLINE_LABEL, "a label is out of its range, or the track length is not 780")              \
+    X(8, TRACKLINE_START, "no track of that day starts at that second")                               \
+    X(9, TRACKLINE_LENT, "the lent line is under 113 bytes")                                          \
+    X(10, TRACKLINE_CORRECTED, "a corrected value is beyond its limit")                               \
+    X(11, TRACKLINE_LENGTH, "the block is not 8378 bytes long")
+
+#define TRACKLINE_NUMBER(number, name, text) name = number,
+enum trackline_refusal {
+    TRACKLINE_ACCEPTED = 0, /* the line is written */
+    TRACKLINE_REFUSALS(TRACKLINE_NUMBER)
+};
+#undef TRACKLINE_NUMBER
 
 /*
  * The line of a hire block. Tried in this order: 11, 1, 2, 10, 3, 4, 5, 6, then the labels' 7 and 8, then 9.

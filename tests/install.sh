@@ -22,6 +22,32 @@ fail() {
 # the program and the tool
 "$prefix/bin/hireblock" pack examples/sample.txt | "$prefix/bin/trackline" | cmp - "$expected"
 "$prefix/bin/hireblock" show examples/sample.blk >"$scratch/sample.txt"
+"$prefix/bin/cggtts" line "$prefix/share/trackline/examples/sample.blk" | cmp - "$expected"
+CGGTTS=$prefix/bin/cggtts python3 tests/cggtts/test_cggtts.py >"$scratch/log" 2>&1 || {
+    cat "$scratch/log" >&2
+    fail 'the installed cggtts'
+}
+cmp docs/REFUSALS.md "$prefix/share/doc/trackline/REFUSALS.md"
+cmp docs/HIRE-BLOCK.md "$prefix/share/doc/trackline/HIRE-BLOCK.md"
+
+# each command of the README's "From C", as it is written, in a home of its own
+sed -n '/^## From C/,/^## For files/p' README.md | sed -n '/make install/,$ s/^    //p' >"$scratch/commands"
+[ "$(wc -l <"$scratch/commands")" -eq 9 ] || fail "the README's commands"
+mkdir "$scratch/home"
+HOME=$scratch/home bash -eu "$scratch/commands" >"$scratch/log" 2>&1 || {
+    cat "$scratch/log" >&2
+    fail "the README's commands"
+}
+[ "$(grep -cxF "$(cat "$expected")" "$scratch/log")" -eq 2 ] || fail "the README's commands do not print the sample line twice"
+
+# the command in the example's own head
+(
+    cd "$prefix/share/trackline/examples"
+    sed -n 's/^ \*     cc /cc /p' receiver.c >"$scratch/commands"
+    PKG_CONFIG_PATH=$prefix/lib/pkgconfig bash -eu "$scratch/commands"
+    LD_LIBRARY_PATH=$prefix/lib ./receiver | cmp - "$expected"
+    rm receiver
+) || fail "the command in the head of receiver.c"
 
 # the libraries: first the shared one, then the archive
 export PKG_CONFIG_PATH=$prefix/lib/pkgconfig

@@ -1,4 +1,4 @@
-//! Links the archive that LINE_ARCHIVE names, or the one that `rt staticlib line` writes.
+//! Links the archive that LINE_ARCHIVE names, or the one that `make archive` writes.
 
 use std::path::{Path, PathBuf};
 
@@ -6,10 +6,10 @@ fn main() {
     println!("cargo:rerun-if-env-changed=LINE_ARCHIVE");
     let root = Path::new(env!("CARGO_MANIFEST_DIR")).join("../..");
     let archive =
-        std::env::var_os("LINE_ARCHIVE").map(PathBuf::from).unwrap_or_else(|| root.join("target/staticlib/libline.a"));
+        std::env::var_os("LINE_ARCHIVE").map(PathBuf::from).unwrap_or_else(|| root.join("target/staticlib/libboundary.a"));
     println!("cargo:rerun-if-changed={}", archive.display());
     let Ok(archive) = archive.canonicalize() else {
-        eprintln!("no archive at {}: run `rt staticlib line`, or set LINE_ARCHIVE to its path", archive.display());
+        eprintln!("no archive at {}: run `make archive`, or set LINE_ARCHIVE to its path", archive.display());
         std::process::exit(1);
     };
     let folder = archive.parent().expect("a file has a folder");

@@ -3,7 +3,7 @@
  * of two faults, and every byte of lent lines of all the lengths that matter. Expected answers and lines are written
  * out here and come from the paper or were worked out by hand.
  *
- *     cc -std=c11 -Wall -Wextra -Werror -pedantic -Iinclude tests/c/boundary_test.c libline.a && ./a.out
+ *     cc -std=c11 -Wall -Wextra -Werror -pedantic -Iinclude tests/c/boundary_test.c libtrackline.a && ./a.out
  */
 #include <inttypes.h>
 #include <stdio.h>

@@ -4,7 +4,7 @@
 set -eu
 cd "$(dirname "$0")/../.."
 seconds=${1:-120}
-archive=${LINE_ARCHIVE:-$PWD/target/staticlib/libline.a}
+archive=${LINE_ARCHIVE:-$PWD/target/staticlib/libboundary.a}
 clang=${CLANG:-clang}
 command -v "$clang" >/dev/null || {
     echo "make fuzz: needs clang with libFuzzer (Debian: apt-get install clang)" >&2

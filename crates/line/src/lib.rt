@@ -15,8 +15,6 @@ pub use labels::Numbers;
 use limits::then;
 use limits::when;
 
-pub mod exports;
-
 const LINE_LENGTH: usize = 113;
 
 // Line of document 01. It answers 0 with the line in the first 113 bytes of the lent one, or the number of the first refusal.

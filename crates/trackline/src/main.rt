@@ -1,5 +1,6 @@
 // trackline: all of standard input is one hire block. It prints the block's line, or `refused` with a space and the number; either ends
-// with carriage return and line feed. What it prints of a block is `printed`; that the system reads and writes it is not proved.
+// with carriage return and line feed. `printed` is proved of what is put into the output for the bytes that were read; that these are all of
+// standard input, and that the output arrives, is not: a read that fails counts as the end, and a write that fails goes unnoticed.
 ghost use mathlib.Core.Path.{_≡_};
 ghost use Prim.Native.Nat.{_+_, _≤_, _<_};
 ghost use lib.ListN.{length, take};

@@ -1,9 +1,9 @@
--- `line::exports::trackline_line` meets its contract, by that of `line`: each number reads back from its bits.
+-- `boundary::trackline_line` meets its contract, by that of `line::line`: each number reads back from its bits.
 -- Assumes nothing.
 use mir.Facts.{toZ-ofZ}
 use borrow.Author.Needs.{needs}
-use Rattle.line.proofs.exports.trackline_line.Statement.{statement}
-use Rattle.line.proofs.exports.trackline_line.Tie as tie
+use Rattle.boundary.proofs.trackline_line.Statement.{statement}
+use Rattle.boundary.proofs.trackline_line.Tie as tie
 
 line-requires : tie.Need-line-requires
 line-requires c κs = search needs

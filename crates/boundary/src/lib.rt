@@ -1,16 +1,16 @@
-// What C calls: the start test, Line and Block, with numbers and byte slices. include/trackline.h declares them.
+// Every function that C calls, with numbers and byte slices, and nothing else: the start test, Line and Block. Each is one call, and its
+// contract is that call's. include/trackline.h declares them; the archive is made of this crate.
 ghost use mathlib.Core.Path.{_≡_};
 ghost use lib.ListN.{length};
 ghost use Rattle.schedule.specs.Schedule.{startRule};
 ghost use Rattle.exact.specs.Accurate.{AccurateTrack};
 ghost use Rattle.columns.specs.Columns.{readNumbers};
 ghost use Rattle.line.specs.Line.{lineAnswer, lineAfter};
 ghost use Rattle.hire.specs.Hire.{blockGiven};
 ghost use Rattle.line.specs.Block.{blockAnswer, blockAfter};
 ghost use Rattle.labels.specs.Given.{labelsOf, numbersOf};
-use crate::Labels;
-use crate::Numbers;
-use crate::line;
+use line::Labels;
+use line::Numbers;
 
 #[no_mangle]
 pub extern "C" fn trackline_start(mjd: u32, second: u32) -> u32
@@ -25,7 +25,7 @@ pub extern "C" fn trackline_block(block: &[u8], lent: &mut [u8]) -> u32
     ensures written { λ _. ⌜ now (lent .exit) ≡ blockAfter (now (block .entry)) (now (lent .entry)) ⌝ }
     ensures accurate { λ r. ⌜ (r ≡ 0 → AccurateTrack 52 (blockGiven (now (block .entry))) (readNumbers (now (lent .exit)))) ⌝ }
 {
-    crate::block(block, lent)
+    line::block(block, lent)
 }
 
 #[no_mangle]
@@ -93,5 +93,5 @@ pub extern "C" fn trackline_line(
         dsg,
         trkl,
     };
-    line(labels, numbers, lent)
+    line::line(labels, numbers, lent)
 }

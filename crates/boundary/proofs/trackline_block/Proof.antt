@@ -1,8 +1,8 @@
--- `line::exports::trackline_block` meets its contract, by that of `block`.
+-- `boundary::trackline_block` meets its contract, by that of `line::block`.
 -- Assumes nothing.
 use borrow.Author.Needs.{needs}
-use Rattle.line.proofs.exports.trackline_block.Statement.{statement}
-use Rattle.line.proofs.exports.trackline_block.Tie as tie
+use Rattle.boundary.proofs.trackline_block.Statement.{statement}
+use Rattle.boundary.proofs.trackline_block.Tie as tie
 
 block-requires : tie.Need-block-requires
 block-requires c κs = search needs

@@ -1,8 +1,8 @@
--- `line::exports::trackline_start` meets its contract, by that of `schedule::start`.
+-- `boundary::trackline_start` meets its contract, by that of `schedule::start`.
 -- Assumes nothing.
 use borrow.Author.Needs.{needs}
-use Rattle.line.proofs.exports.trackline_start.Statement.{statement}
-use Rattle.line.proofs.exports.trackline_start.Tie as tie
+use Rattle.boundary.proofs.trackline_start.Statement.{statement}
+use Rattle.boundary.proofs.trackline_start.Tie as tie
 
 start-requires : tie.Need-start-requires
 start-requires c κs = search needs

@@ -1,0 +1,62 @@
+/*
+ * What the parts of cggtts share. Everything that decides is in the library; this program reads and writes files, and
+ * says in words what the library answered.
+ *
+ * A subcommand is a file with one function, declared at the end, and a row of the table in main.c.
+ */
+#ifndef CGGTTS_H
+#define CGGTTS_H
+
+#define _POSIX_C_SOURCE 200809L
+
+#include <stddef.h>
+#include <stdint.h>
+
+#include "trackline.h"
+
+/* Exit statuses. Of several files the greatest counts. */
+enum { ACCEPTED = 0, REFUSED = 1, FAILED = 2 };
+
+/* The bytes of a file. */
+struct bytes {
+    uint8_t *at;
+    size_t length;
+    size_t room;
+};
+
+/* files.c: each answers ACCEPTED, or FAILED after a message. A file named - is standard input or output. */
+int read_file(const char *name, struct bytes *bytes);
+int write_file(const char *name, const struct bytes *bytes);
+int append_bytes(struct bytes *bytes, const void *more, size_t length);
+int same_file(const char *one, const char *other);
+void free_bytes(struct bytes *bytes);
+
+/* output.c: standard output, and what goes wrong with it, which is told once, at the end. */
+void print_bytes(const void *bytes, size_t length);
+void print_text(const char *text);
+int close_output(void);
+
+/* messages.c: all on standard error. */
+void complain(const char *file, const char *reason);
+void complain_of_error(const char *file, int error);
+void report_refusal(const char *file, uint32_t number);
+void explain(const char *form, ...);
+int wrong_use(const char *form, ...);
+
+/* block.c: the numbers in a hire block. */
+uint64_t unsigned_at(const uint8_t *block, size_t at, size_t width);
+int64_t ps_at(const uint8_t *block, size_t at);
+int64_t measurement_at(const uint8_t *block, size_t i);
+int64_t correction_at(const uint8_t *block, size_t j, size_t in_group);
+
+/* labels.c, limits.c, figures.c, starts.c: each explains what a block is refused for. */
+void explain_labels(const uint8_t *block);
+void explain_limits(const uint8_t *block);
+void explain_figures(const uint8_t *block, uint32_t number);
+void explain_start(const uint8_t *block);
+
+/* The subcommands. Each takes what main was given from its own name on, and answers the exit status. */
+int line_command(int argc, char **argv);
+int check_command(int argc, char **argv);
+
+#endif

@@ -1,0 +1,123 @@
+/*
+ * Refusals 3 to 6: which of the figures does not fit. The library answers the number alone, so the figures are worked
+ * out here once more, by the rules of the paper and for the message only; nothing here is proved. The limits on the
+ * block's numbers are known to hold, so everything but the sum of squares fits 64 bits.
+ */
+#include "cggtts.h"
+
+#include <inttypes.h>
+#include <math.h>
+
+enum { COUNT = TRACKLINE_GROUPS, SPAN = TRACKLINE_MEASUREMENTS / TRACKLINE_GROUPS };
+
+static const int64_t WEIGHTS[SPAN] = {-78, -13, 42, 87, 122, 147, 162, 167, 162, 147, 122, 87, 42, -13, -78};
+
+/* The nearest whole number to numerator / divisor, a tie going up. */
+static int64_t nearest(int64_t numerator, int64_t divisor)
+{
+    int64_t doubled = 2 * numerator + divisor;
+    int64_t quotient = doubled / (2 * divisor);
+    return quotient - (doubled % (2 * divisor) < 0);
+}
+
+static int64_t smoothed(const uint8_t *block, size_t j)
+{
+    int64_t sum = 0;
+    for (size_t i = 0; i < SPAN; i++) {
+        sum += WEIGHTS[i] * measurement_at(block, SPAN * j + i);
+    }
+    return nearest(sum, 1105);
+}
+
+/* The corrected values of each kind. */
+struct values {
+    int64_t a[COUNT], b[COUNT], c[COUNT], d[COUNT];
+};
+
+static void correct(const uint8_t *block, struct values *values)
+{
+    int64_t delays = ps_at(block, TRACKLINE_AT_INT) + ps_at(block, TRACKLINE_AT_CAB) - ps_at(block, TRACKLINE_AT_REF)
+        + ps_at(block, TRACKLINE_AT_GD);
+    for (size_t j = 0; j < COUNT; j++) {
+        values->c[j] = correction_at(block, j, TRACKLINE_IN_GROUP_TROPOSPHERE);
+        values->d[j] = correction_at(block, j, TRACKLINE_IN_GROUP_IONOSPHERE);
+        values->a[j] = smoothed(block, j) - delays - correction_at(block, j, TRACKLINE_IN_GROUP_GEOMETRY)
+            + correction_at(block, j, TRACKLINE_IN_GROUP_RELATIVITY) - values->d[j] - values->c[j];
+        values->b[j] = values->a[j] + correction_at(block, j, TRACKLINE_IN_GROUP_CLOCK);
+    }
+}
+
+/* 2j - 51. */
+static int64_t place(size_t j)
+{
+    return 2 * (int64_t)j - (COUNT - 1);
+}
+
+/* S and T of the paper. */
+static void sum_up(const int64_t *values, int64_t *total, int64_t *moment)
+{
+    *total = *moment = 0;
+    for (size_t j = 0; j < COUNT; j++) {
+        *total += values[j];
+        *moment += place(j) * values[j];
+    }
+}
+
+/* DSG in floating point: exact for the root mean square of anything that is a track, near for what is none. */
+static double scatter(const int64_t *values)
+{
+    int64_t total, moment;
+    double squares = 0;
+    sum_up(values, &total, &moment);
+    for (size_t j = 0; j < COUNT; j++) {
+        double residual = (double)nearest(46852 * values[j] - 901 * total - place(j) * moment, 46852);
+        squares += residual * residual;
+    }
+    return floor((sqrt(squares / COUNT) + 50) / 100);
+}
+
+static void judge(const char *name, int64_t figure, int64_t low, int64_t high)
+{
+    if (figure < low || figure > high) {
+        explain("%s is %" PRId64 ", not %" PRId64 " to %" PRId64 " (worked out by cggtts, not by the library)",
+                name, figure, low, high);
+    }
+}
+
+static int64_t midpoint(const int64_t *values)
+{
+    int64_t total, moment;
+    sum_up(values, &total, &moment);
+    return nearest(total, 5200);
+}
+
+static int64_t slope(const int64_t *values)
+{
+    int64_t total, moment;
+    sum_up(values, &total, &moment);
+    return nearest(moment, 35139);
+}
+
+void explain_figures(const uint8_t *block, uint32_t number)
+{
+    struct values values;
+    correct(block, &values);
+    switch (number) {
+    case TRACKLINE_MIDPOINT:
+        judge("REFSV", midpoint(values.a), -9999999999, 9999999999);
+        judge("REFSYS", midpoint(values.b), -9999999999, 9999999999);
+        break;
+    case TRACKLINE_SLOPE:
+        judge("SRSV", slope(values.a), -99999, 99999);
+        judge("SRSYS", slope(values.b), -99999, 99999);
+        judge("SMDT", slope(values.c), -999, 999);
+        judge("SMDI", slope(values.d), -999, 999);
+        break;
+    case TRACKLINE_DELAY:
+        judge("MDTR", midpoint(values.c), 0, 9999);
+        judge("MDIO", midpoint(values.d), 0, 9999);
+        break;
+    default:
+        explain("DSG is about %.0f, not 0 to 9999 (worked out by cggtts, not by the library)", scatter(values.b));
+    }
+}

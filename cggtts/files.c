@@ -1,0 +1,173 @@
+/* Whole files: read at once, and written whole or not at all. */
+#include "cggtts.h"
+
+#include <errno.h>
+#include <fcntl.h>
+#include <stdio.h>
+#include <stdlib.h>
+#include <string.h>
+#include <sys/stat.h>
+#include <unistd.h>
+
+/* No file of blocks or lines is as long; a device that never ends is. */
+static const size_t MOST = (size_t)1 << 30;
+
+void free_bytes(struct bytes *bytes)
+{
+    free(bytes->at);
+    memset(bytes, 0, sizeof *bytes);
+}
+
+/* Makes room for so many bytes more. */
+static int grow(struct bytes *bytes, size_t more)
+{
+    if (more > MOST - bytes->length) {
+        errno = EFBIG;
+        return -1;
+    }
+    size_t room = bytes->room < 16384 ? 16384 : bytes->room;
+    while (room - bytes->length < more) {
+        room *= 2;
+    }
+    if (room != bytes->room) {
+        uint8_t *at = realloc(bytes->at, room);
+        if (at == NULL) {
+            return -1;
+        }
+        bytes->at = at;
+        bytes->room = room;
+    }
+    return 0;
+}
+
+int append_bytes(struct bytes *bytes, const void *more, size_t length)
+{
+    if (grow(bytes, length) != 0) {
+        complain_of_error("output", errno);
+        return FAILED;
+    }
+    memcpy(bytes->at + bytes->length, more, length);
+    bytes->length += length;
+    return ACCEPTED;
+}
+
+static int read_all(int file, struct bytes *bytes)
+{
+    for (;;) {
+        if (grow(bytes, 4096) != 0) {
+            return -1;
+        }
+        ssize_t got = read(file, bytes->at + bytes->length, bytes->room - bytes->length);
+        if (got < 0 && errno != EINTR) {
+            return -1;
+        }
+        if (got == 0) {
+            return 0;
+        }
+        bytes->length += got > 0 ? (size_t)got : 0;
+    }
+}
+
+int read_file(const char *name, struct bytes *bytes)
+{
+    static int input_read;
+    int standard = strcmp(name, "-") == 0;
+    memset(bytes, 0, sizeof *bytes);
+    if (standard && input_read) {
+        complain(name, "standard input can be read only once");
+        return FAILED;
+    }
+    input_read |= standard;
+    int file = standard ? STDIN_FILENO : open(name, O_RDONLY | O_CLOEXEC);
+    int failed = file < 0 || read_all(file, bytes) != 0;
+    int error = errno;
+    if (file >= 0 && close(file) != 0 && !failed) {
+        failed = 1;
+        error = errno;
+    }
+    if (failed) {
+        complain_of_error(name, error);
+        free_bytes(bytes);
+        return FAILED;
+    }
+    return ACCEPTED;
+}
+
+/* Whether two names are of one file that stands. */
+int same_file(const char *one, const char *other)
+{
+    struct stat a, b;
+    return stat(one, &a) == 0 && stat(other, &b) == 0 && a.st_dev == b.st_dev && a.st_ino == b.st_ino;
+}
+
+/* Writes all of it and closes the file, whatever happens. */
+static int write_all(int file, const struct bytes *bytes)
+{
+    size_t done = 0;
+    while (done < bytes->length) {
+        ssize_t put = write(file, bytes->at + done, bytes->length - done);
+        if (put < 0 && errno != EINTR) {
+            int error = errno;
+            close(file);
+            errno = error;
+            return -1;
+        }
+        done += put > 0 ? (size_t)put : 0;
+    }
+    return close(file);
+}
+
+/* Writes beside the file and then puts it in its place, with the mode that the file had. */
+static int replace(const char *name, const char *beside, const struct stat *old, const struct bytes *bytes)
+{
+    int file = open(beside, O_WRONLY | O_CREAT | O_EXCL | O_CLOEXEC, 0666);
+    if (file < 0) {
+        return -1;
+    }
+    if (old != NULL) {
+        /* a mode that can't be kept is no reason to write nothing */
+        (void)fchmod(file, old->st_mode & 07777);
+    }
+    if (write_all(file, bytes) != 0 || rename(beside, name) != 0) {
+        int error = errno;
+        unlink(beside);
+        errno = error;
+        return -1;
+    }
+    return 0;
+}
+
+/* A device, a pipe or a link can't be put in place, so it is written to. */
+static int write_whole(const char *name, const struct bytes *bytes)
+{
+    struct stat old;
+    int stands = lstat(name, &old) == 0;
+    if (stands && !S_ISREG(old.st_mode)) {
+        int file = open(name, O_WRONLY | O_TRUNC | O_CLOEXEC);
+        return file < 0 ? -1 : write_all(file, bytes);
+    }
+    size_t room = strlen(name) + 32;
+    char *beside = malloc(room);
+    if (beside == NULL) {
+        return -1;
+    }
+    snprintf(beside, room, "%s.%ld.part", name, (long)getpid());
+    int answer = replace(name, beside, stands ? &old : NULL, bytes);
+    int error = errno;
+    free(beside);
+    errno = error;
+    return answer;
+}
+
+int write_file(const char *name, const struct bytes *bytes)
+{
+    if (strcmp(name, "-") == 0) {
+        print_bytes(bytes->at, bytes->length);
+        return ACCEPTED;
+    }
+    if (write_whole(name, bytes) != 0) {
+        complain_of_error(name, errno);
+        return FAILED;
+    }
+    return ACCEPTED;
+}

@@ -1,0 +1,83 @@
+/*
+ * cggtts: files of CGGTTS data lines and of what they are made from, for people at a keyboard. The work is done by the
+ * library trackline.
+ */
+#include "cggtts.h"
+
+#include <stdio.h>
+#include <string.h>
+
+#ifndef VERSION
+#define VERSION "unknown"
+#endif
+
+static const struct command {
+    const char *name;
+    const char *arguments;
+    const char *purpose;
+    int (*run)(int argc, char **argv);
+} COMMANDS[] = {
+    {"line", "[-o OUT] FILE..", "print the data line of each hire block, or write them to OUT", line_command},
+    {"check", "FILE..", "say whether each hire block is accepted, and what is to blame if not", check_command},
+};
+
+enum { COUNT = sizeof COMMANDS / sizeof COMMANDS[0] };
+
+static void print_usage(const struct command *command)
+{
+    char text[256];
+    snprintf(text, sizeof text, "    cggtts %s %s\n        %s\n", command->name, command->arguments, command->purpose);
+    print_text(text);
+}
+
+static int print_help(const struct command *only)
+{
+    print_text("usage:\n");
+    for (int i = 0; i < COUNT; i++) {
+        if (only == NULL || only == &COMMANDS[i]) {
+            print_usage(&COMMANDS[i]);
+        }
+    }
+    print_text("A FILE named - is standard input. Exit status: 0 accepted, 1 refused, 2 wrong use or a file that can't be\n"
+               "read or written. See cggtts(1).\n");
+    return ACCEPTED;
+}
+
+static const struct command *command_named(const char *name)
+{
+    for (int i = 0; i < COUNT; i++) {
+        if (strcmp(COMMANDS[i].name, name) == 0) {
+            return &COMMANDS[i];
+        }
+    }
+    return NULL;
+}
+
+static int run(int argc, char **argv)
+{
+    if (argc < 2) {
+        return wrong_use("a subcommand is missing");
+    }
+    if (strcmp(argv[1], "--help") == 0) {
+        return print_help(NULL);
+    }
+    if (strcmp(argv[1], "--version") == 0) {
+        print_text("cggtts " VERSION "\n");
+        return ACCEPTED;
+    }
+    const struct command *command = command_named(argv[1]);
+    if (command == NULL) {
+        return wrong_use("no subcommand '%s'", argv[1]);
+    }
+    if (argc > 2 && strcmp(argv[2], "--help") == 0) {
+        return print_help(command);
+    }
+    return command->run(argc - 1, argv + 1);
+}
+
+int main(int argc, char **argv)
+{
+    int status = run(argc, argv);
+    int closed = close_output();
+    return closed > status ? closed : status;
+}

@@ -1,0 +1,39 @@
+/* Standard output. A disk may be full and a close may fail: the first error is kept and told at the end. */
+#include "cggtts.h"
+
+#include <errno.h>
+#include <stdio.h>
+#include <string.h>
+
+static int first_error;
+
+static void note(int failed)
+{
+    if (failed && first_error == 0) {
+        first_error = errno != 0 ? errno : EIO;
+    }
+}
+
+void print_bytes(const void *bytes, size_t length)
+{
+    errno = 0;
+    note(fwrite(bytes, 1, length, stdout) != length);
+}
+
+void print_text(const char *text)
+{
+    print_bytes(text, strlen(text));
+}
+
+int close_output(void)
+{
+    errno = 0;
+    note(fflush(stdout) != 0);
+    note(ferror(stdout));
+    note(fclose(stdout) != 0);
+    if (first_error == 0) {
+        return ACCEPTED;
+    }
+    fprintf(stderr, "cggtts: standard output: %s\n", strerror(first_error));
+    return FAILED;
+}

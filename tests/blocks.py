@@ -1,0 +1,59 @@
+"""Hire blocks for tests, byte by byte from the layout in the paper; nothing here is shared with the tools."""
+import struct
+
+LENGTH = 8378
+# where each part stands, and how many bytes it has
+AT = {'measurements size': (0, 2), 'groups size': (2, 2), 'constellation': (4, 1), 'satellite': (5, 1), 'CL': (6, 1),
+      'FR': (7, 1), 'HC': (8, 1), 'FRC 0': (9, 1), 'FRC 1': (10, 1), 'FRC 2': (11, 1), 'MJD': (12, 4), 'start': (16, 4),
+      'ELV': (20, 2), 'AZTH': (22, 2), 'IOE': (24, 2)}
+DELAYS = {'INT': 26, 'CAB': 34, 'REF': 42, 'GD': 50}
+COLUMNS = {'geometry': 0, 'relativity': 8, 'ionosphere': 16, 'troposphere': 24, 'clock': 32}
+
+SAMPLE_LINE = (b'G05 FF 50722 000200 0780 450 1800 +0000000010 +00000 +0000000010 +00000 0000 007 0000 +000 0000 +000 '
+               b'00 00 L1C 26\r\n')
+
+
+def put(block, part, value):
+    """A part of the block: a label or a size by its name, a delay, `measurement i`, or a column and its group."""
+    if part in AT:
+        at, width = AT[part]
+        block[at:at + width] = value.to_bytes(width, 'little')
+        return
+    name, _, place = part.partition(' ')
+    if part in DELAYS:
+        at = DELAYS[part]
+    elif name == 'measurement':
+        at = 58 + 8 * int(place)
+    else:
+        at = 6298 + 40 * int(place) + COLUMNS[name]
+    struct.pack_into('<q', block, at, value)
+
+
+def block(changes=(), **lists):
+    """The sample's block: every measurement 1000, no corrections. Then whole lists, then single parts are changed."""
+    made = bytearray(LENGTH)
+    labels = {'measurements size': 780, 'groups size': 52, 'constellation': ord('G'), 'satellite': 5, 'CL': 255,
+              'FRC 0': ord('L'), 'FRC 1': ord('1'), 'FRC 2': ord('C'), 'MJD': 50722, 'start': 120, 'ELV': 450,
+              'AZTH': 1800, 'IOE': 7}
+    for part, value in labels.items():
+        put(made, part, value)
+    for i, value in enumerate(lists.pop('measurements', [1000] * 780)):
+        put(made, 'measurement %d' % i, value)
+    for name, values in lists.items():
+        for j, value in enumerate(values):
+            put(made, '%s %d' % (name, j), value)
+    for part, value in dict(changes).items():
+        put(made, part, value)
+    return bytes(made)
+
+
+def line(columns):
+    """A line as it is printed: 111 columns, a space among them at the end, the checksum and the line end."""
+    text = columns.encode() + b' '
+    assert len(text) == 111, len(text)
+    return text + b'%02X\r\n' % (sum(text) % 256)
+
+
+def scattered(size):
+    """52 values size, -size, -size, size, .. whose mean and slope are 0."""
+    return [size, -size, -size, size] * 13

@@ -1,0 +1,97 @@
+/*
+ * How much stack each function takes, measured. A thread on a stack of our own fills what lies below its frame with one
+ * byte, calls, and looks for the lowest byte that has changed. The manual page trackline(3) gives the figures in MOST; the
+ * test fails if a call takes more.
+ *
+ *     cc -std=c11 -Iinclude tests/c/stack.c libtrackline.a -pthread -o stack && ./stack
+ */
+#define _POSIX_C_SOURCE 200809L
+
+#include <pthread.h>
+#include <stdio.h>
+#include <stdlib.h>
+
+#include "trackline.h"
+
+/* EDGE: bytes below the frame that are left alone, so that the frame itself is not filled. */
+enum { STACK = 1 << 20, FILL = 0xA5, EDGE = 256 };
+
+static uint8_t block[TRACKLINE_BLOCK_BYTES];
+static uint8_t line[TRACKLINE_LINE_BYTES];
+static uint8_t *stack;
+
+static uint32_t call_block(void)
+{
+    return trackline_block(block, sizeof block, line, sizeof line);
+}
+
+static uint32_t call_line(void)
+{
+    return trackline_line('G', 5, 255, 0, 0, 'L', '1', 'C', 50722, 120, 450, 1800, 7, 10, 0, 10, 0, 0, 0, 0, 0, 0, 780,
+                          line, sizeof line);
+}
+
+static uint32_t call_start(void)
+{
+    return trackline_start(50722, 120);
+}
+
+static struct measured {
+    const char *name;
+    uint32_t (*call)(void);
+    size_t most;  /* what trackline(3) says */
+    size_t bytes; /* what it took; EDGE if it is no more than that */
+} MOST[] = {
+    {"trackline_block", call_block, 24000, 0}, {"trackline_line", call_line, 1000, 0}, {"trackline_start", call_start, 1000, 0}};
+
+/* The thread. */
+static void *measure(void *which)
+{
+    struct measured *m = which;
+    volatile uint8_t frame = 0;
+    size_t below = (size_t)((volatile uint8_t *)&frame - stack) - EDGE, lowest = 0;
+    volatile uint8_t *bytes = stack;
+    for (size_t i = 0; i < below; i++) {
+        bytes[i] = FILL;
+    }
+    uint32_t answer = m->call();
+    while (lowest < below && bytes[lowest] == FILL) {
+        lowest++;
+    }
+    m->bytes = below - lowest + EDGE;
+    return answer == TRACKLINE_ACCEPTED ? which : NULL;
+}
+
+static int measured(struct measured *m)
+{
+    pthread_attr_t with_stack;
+    pthread_t thread;
+    void *back = NULL;
+    pthread_attr_init(&with_stack);
+    pthread_attr_setstack(&with_stack, stack, STACK);
+    int made = pthread_create(&thread, &with_stack, measure, m) == 0 && pthread_join(thread, &back) == 0;
+    pthread_attr_destroy(&with_stack);
+    return made && back == m;
+}
+
+int main(int argc, char **argv)
+{
+    FILE *file = fopen(argc > 1 ? argv[1] : "examples/worked.blk", "rb");
+    if (file == NULL || fread(block, 1, sizeof block, file) != sizeof block) {
+        fputs("stack: no block to call with\n", stderr);
+        return 2;
+    }
+    fclose(file);
+    void *room;
+    if (posix_memalign(&room, 4096, STACK) != 0) {
+        return 2;
+    }
+    stack = room;
+    int failed = 0;
+    for (size_t i = 0; i < sizeof MOST / sizeof MOST[0]; i++) {
+        failed |= !measured(&MOST[i]) || MOST[i].bytes > MOST[i].most;
+        printf("stack: %s takes %zu bytes, %zu at most\n", MOST[i].name, MOST[i].bytes, MOST[i].most);
+    }
+    free(room);
+    return failed;
+}

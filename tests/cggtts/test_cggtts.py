@@ -1,0 +1,362 @@
+#!/usr/bin/env python3
+"""Runs the program cggtts: its lines, its messages and its exit statuses, byte for byte.
+
+    python3 tests/cggtts/test_cggtts.py
+
+Expected lines and messages are written out by hand; the numbers that a refusal is explained with are those of the blocks
+that are made here.
+"""
+import os
+import pathlib
+import re
+import resource
+import stat
+import subprocess
+import sys
+import tempfile
+import unittest
+
+ROOT = pathlib.Path(__file__).resolve().parent.parent.parent
+sys.path.insert(0, str(ROOT / 'tests'))
+from blocks import SAMPLE_LINE, block, scattered  # noqa: E402
+
+PROGRAM = os.environ.get('CGGTTS', str(ROOT / 'target' / 'cggtts' / 'cggtts'))
+SAMPLE, WORKED = 'examples/sample.blk', 'examples/worked.blk'
+WORKED_LINE = (b'G17 FF 60600 133000 0780 583 2145 +0001233431 +00009 -0000000315 -00041 0003 087 0097 +005 0202 -021 '
+               b'00 05 L1C 8C\r\n')
+MEANINGS = {1: "the block's two sizes are not 780 and 52",
+            2: 'a measurement, a correction or a delay is beyond its limit',
+            3: 'REFSV or REFSYS has more than ten digits',
+            4: 'SRSV or SRSYS has more than five digits, or SMDT or SMDI more than three',
+            5: 'MDTR or MDIO is below 0 or has more than four digits',
+            6: 'DSG is below 0 or has more than four digits',
+            7: 'a label is out of its range, or the track length is not 780',
+            8: 'no track of that day starts at that second',
+            11: 'the block is not 8378 bytes long'}
+OWN = ' (worked out by cggtts, not by the library)'
+
+
+def run(*arguments, data=b'', **more):
+    more.setdefault('stdout', subprocess.PIPE)
+    result = subprocess.run([PROGRAM, *map(str, arguments)], input=data, stderr=subprocess.PIPE, cwd=ROOT, check=False,
+                            **more)
+    return result.returncode, result.stdout, result.stderr.decode()
+
+
+class Scratch(unittest.TestCase):
+    def setUp(self):
+        folder = tempfile.TemporaryDirectory()
+        self.addCleanup(folder.cleanup)
+        self.folder = pathlib.Path(folder.name)
+
+    def kept(self, name, data):
+        path = self.folder / name
+        path.write_bytes(data)
+        return path
+
+
+class Use(Scratch):
+    def test_help(self):
+        status, output, errors = run('--help')
+        self.assertEqual((status, errors), (0, ''))
+        for words in (b'cggtts line [-o OUT] FILE..', b'cggtts check FILE..', b'Exit status: 0 accepted'):
+            self.assertIn(words, output)
+        status, output, errors = run('line', '--help')
+        self.assertEqual((status, errors), (0, ''))
+        self.assertIn(b'cggtts line [-o OUT] FILE..', output)
+        self.assertNotIn(b'cggtts check', output)
+
+    def test_version(self):
+        version = re.search(r'(?m)^VERSION := (.*)$', (ROOT / 'Makefile').read_text()).group(1)
+        self.assertEqual(run('--version'), (0, b'cggtts %s\n' % version.encode(), ''))
+
+    def test_wrong_use(self):
+        for arguments, reason in (((), 'a subcommand is missing'), (('burn', 'x'), "no subcommand 'burn'"),
+                                  (('-x',), "no subcommand '-x'"), (('line',), 'line: no file'),
+                                  (('line', '-x', SAMPLE), 'line: an option that it does not have'),
+                                  (('line', '-o'), 'line: -o without a file'), (('line', '-o', 'x'), 'line: no file'),
+                                  (('check',), 'check: no file'),
+                                  (('check', '-o', 'x', SAMPLE), 'check: an option that it does not have')):
+            self.assertEqual(run(*arguments), (2, b'', 'cggtts: %s; try cggtts --help\n' % reason), arguments)
+
+
+class Line(Scratch):
+    def test_lines(self):
+        self.assertEqual(run('line', SAMPLE), (0, SAMPLE_LINE, ''))
+        self.assertEqual(run('line', SAMPLE, WORKED, SAMPLE), (0, SAMPLE_LINE + WORKED_LINE + SAMPLE_LINE, ''))
+        self.assertEqual(run('line', '-', data=block()), (0, SAMPLE_LINE, ''))
+        self.assertEqual(run('line', WORKED, '-', data=block()), (0, WORKED_LINE + SAMPLE_LINE, ''))
+        self.assertEqual(run('line', '--', SAMPLE), (0, SAMPLE_LINE, ''))
+
+    def test_lengths(self):
+        for data in (b'', b'G', block()[:8377], block() + b'\0', (block() * 12)[:100000]):
+            path = self.kept('a.blk', data)
+            message = '%s: refused 11: the block is not 8378 bytes long\n'
+            self.assertEqual(run('line', path), (1, b'', message % path))
+            self.assertEqual(run('line', '-', data=data), (1, b'', message % '-'))
+
+    def test_refused_among_others(self):
+        path = self.kept('bad.blk', block({'HC': 100}))
+        message = '%s: refused 7: %s\n' % (path, MEANINGS[7])
+        self.assertEqual(run('line', SAMPLE, path, WORKED), (1, SAMPLE_LINE + WORKED_LINE, message))
+
+    def test_files_that_can_not_be_read(self):
+        message = 'cggtts: no/such.blk: No such file or directory\n'
+        self.assertEqual(run('line', 'no/such.blk'), (2, b'', message))
+        self.assertEqual(run('line', SAMPLE, 'no/such.blk', WORKED), (2, SAMPLE_LINE + WORKED_LINE, message))
+        self.assertEqual(run('line', 'docs'), (2, b'', 'cggtts: docs: Is a directory\n'))
+        self.assertEqual(run('line', ''), (2, b'', 'cggtts: : No such file or directory\n'))
+        path = self.kept('bad.blk', block({'HC': 100}))
+        self.assertEqual(run('line', path, 'docs')[0], 2)
+        self.assertEqual(run('line', 'docs', path)[0], 2)
+
+    def test_standard_input_is_read_once(self):
+        message = 'cggtts: -: standard input can be read only once\n'
+        self.assertEqual(run('line', '-', '-', data=block()), (2, SAMPLE_LINE, message))
+
+    def test_closed_input_and_folder_as_input(self):
+        closed = subprocess.run(['/bin/sh', '-c', '"$0" line - <&-', PROGRAM], capture_output=True, check=False)
+        self.assertEqual((closed.returncode, closed.stdout), (2, b''))
+        self.assertEqual(closed.stderr, b'cggtts: -: Bad file descriptor\n')
+        folder = subprocess.run(['/bin/sh', '-c', '"$0" line - </', PROGRAM], capture_output=True, check=False)
+        self.assertEqual((folder.returncode, folder.stdout, folder.stderr), (2, b'', b'cggtts: -: Is a directory\n'))
+
+    def test_output_that_can_not_be_written(self):
+        message = 'cggtts: standard output: No space left on device\n'
+        many = [SAMPLE] * 1000
+        for arguments in (['line', SAMPLE], ['line', *many], ['check', SAMPLE], ['check', *many], ['--help'],
+                          ['--version'], ['line', '-o', '-', SAMPLE]):
+            with open('/dev/full', 'wb') as full:
+                self.assertEqual(run(*arguments, stdout=full), (2, None, message), arguments[:2])
+        closed = subprocess.run(['/bin/sh', '-c', '"$0" line "$1" >&-', PROGRAM, ROOT / SAMPLE], capture_output=True,
+                                check=False)
+        self.assertEqual((closed.returncode, closed.stderr), (2, b'cggtts: standard output: Bad file descriptor\n'))
+
+
+class LineToFile(Scratch):
+    def test_lines(self):
+        out = self.folder / 'lines'
+        self.assertEqual(run('line', '-o', out, SAMPLE, WORKED), (0, b'', ''))
+        self.assertEqual(out.read_bytes(), SAMPLE_LINE + WORKED_LINE)
+        self.assertEqual(run('line', '-o', out, SAMPLE), (0, b'', ''))
+        self.assertEqual(out.read_bytes(), SAMPLE_LINE)
+        self.assertEqual(os.listdir(self.folder), ['lines'])
+        self.assertEqual(run('line', '-o', '-', SAMPLE), (0, SAMPLE_LINE, ''))
+
+    def test_mode(self):
+        out = self.folder / 'lines'
+        run('line', '-o', out, SAMPLE, umask=0o027)
+        self.assertEqual(stat.S_IMODE(out.stat().st_mode), 0o640)
+        out.chmod(0o604)
+        run('line', '-o', out, SAMPLE)
+        self.assertEqual(stat.S_IMODE(out.stat().st_mode), 0o604)
+
+    def test_a_refusal_or_a_failure_writes_nothing(self):
+        out = self.kept('lines', b'as it was')
+        bad = self.kept('bad.blk', block({'HC': 100}))
+        self.assertEqual(run('line', '-o', out, SAMPLE, bad)[:2], (1, b''))
+        self.assertEqual(run('line', '-o', out, SAMPLE, 'no/such.blk')[:2], (2, b''))
+        self.assertEqual(out.read_bytes(), b'as it was')
+        self.assertEqual(sorted(os.listdir(self.folder)), ['bad.blk', 'lines'])
+
+    def test_a_link_is_written_through(self):
+        out, link = self.kept('lines', b'as it was'), self.folder / 'link'
+        link.symlink_to(out)
+        self.assertEqual(run('line', '-o', link, SAMPLE), (0, b'', ''))
+        self.assertTrue(link.is_symlink())
+        self.assertEqual(out.read_bytes(), SAMPLE_LINE)
+
+    def test_files_that_can_not_be_written(self):
+        self.assertEqual(run('line', '-o', 'no/such/folder', SAMPLE),
+                         (2, b'', 'cggtts: no/such/folder: No such file or directory\n'))
+        self.assertEqual(run('line', '-o', self.folder, SAMPLE), (2, b'', 'cggtts: %s: Is a directory\n' % self.folder))
+        self.assertEqual(run('line', '-o', '/dev/full', SAMPLE),
+                         (2, b'', 'cggtts: /dev/full: No space left on device\n'))
+        self.assertTrue(pathlib.Path('/dev/full').is_char_device())
+        self.assertEqual(os.listdir(self.folder), [])
+
+    def test_a_block_is_not_overwritten(self):
+        path = self.kept('a.blk', block())
+        self.assertEqual(run('line', '-o', path, path),
+                         (2, b'', 'cggtts: line: a block would be overwritten; try cggtts --help\n'))
+        self.assertEqual(path.read_bytes(), block())
+
+
+# A close that fails, as on a network disk: put before the system's own.
+FAILING_CLOSE = '''
+#include <errno.h>
+int close(int file);
+int close(int file)
+{
+    errno = EIO;
+    return -(file > 2);
+}
+'''
+
+
+class System(Scratch):
+    def test_a_failed_close_is_noticed(self):
+        shim = self.folder / 'shim.so'
+        subprocess.run([os.environ.get('CC', 'cc'), '-shared', '-fPIC', '-xc', '-', '-o', shim], input=FAILING_CLOSE,
+                       text=True, check=True)
+        environment = dict(os.environ, LD_PRELOAD=str(shim))
+        self.assertEqual(run('line', SAMPLE, env=environment),
+                         (2, b'', 'cggtts: examples/sample.blk: Input/output error\n'))
+        out = self.kept('lines', b'as it was')
+        self.assertEqual(run('line', '-o', out, '-', data=block(), env=environment),
+                         (2, b'', 'cggtts: %s: Input/output error\n' % out))
+        self.assertEqual(out.read_bytes(), b'as it was')
+        self.assertEqual(sorted(os.listdir(self.folder)), ['lines', 'shim.so'])
+
+    def test_an_endless_file_is_given_up(self):
+        def little_memory():
+            resource.setrlimit(resource.RLIMIT_AS, (200 << 20, 200 << 20))
+        self.assertEqual(run('line', '/dev/zero', preexec_fn=little_memory),
+                         (2, b'', 'cggtts: /dev/zero: Cannot allocate memory\n'))
+
+
+class Check(Scratch):
+    def explained(self, number, data, *explanations):
+        """The block is refused with this number, and these lines say why."""
+        wanted = '-: refused %d: %s\n' % (number, MEANINGS[number]) + ''.join('  %s\n' % line for line in explanations)
+        self.assertEqual(run('check', '-', data=data), (1, b'', wanted))
+
+    def test_accepted(self):
+        self.assertEqual(run('check', SAMPLE), (0, b'examples/sample.blk: accepted\n', ''))
+        self.assertEqual(run('check', SAMPLE, '-', WORKED, data=block()),
+                         (0, b'examples/sample.blk: accepted\n-: accepted\nexamples/worked.blk: accepted\n', ''))
+
+    def test_several_files(self):
+        path = self.kept('bad.blk', block({'HC': 100}))
+        refusal = '%s: refused 7: %s\n  HC is 100, not 0 to 99\n' % (path, MEANINGS[7])
+        accepted = b'examples/sample.blk: accepted\nexamples/worked.blk: accepted\n'
+        self.assertEqual(run('check', SAMPLE, path, WORKED), (1, accepted, refusal))
+        failure = 'cggtts: no/such.blk: No such file or directory\n'
+        self.assertEqual(run('check', 'no/such.blk', SAMPLE, path, WORKED), (2, accepted, failure + refusal))
+
+    def test_messages_stand_in_order(self):
+        path = self.kept('bad.blk', block()[:1])
+        result = subprocess.run([PROGRAM, 'check', SAMPLE, path, SAMPLE], cwd=ROOT, stdout=subprocess.PIPE,
+                                stderr=subprocess.STDOUT, check=False)
+        self.assertEqual([text.rsplit(b':')[-1] for text in result.stdout.splitlines()],
+                         [b' accepted', b' the block is not 8378 bytes long', b'  it has 1 bytes', b' accepted'])
+
+    def test_length(self):
+        for length in (0, 1, 8377, 8379, 100000):
+            self.explained(11, (block() * 12)[:length], 'it has %d bytes' % length)
+
+    def test_sizes(self):
+        self.explained(1, block({'measurements size': 779}), 'the sizes are 779 and 52')
+        self.explained(1, block({'groups size': 65535}), 'the sizes are 780 and 65535')
+        self.explained(1, bytes(8378), 'the sizes are 0 and 0')
+
+    def test_limits(self):
+        self.explained(2, block({'measurement 17': 10 ** 12 + 1}),
+                       'measurement 17: 1000000000001 ps is beyond 1000000000000')
+        self.explained(2, block({'measurement 0': -2 ** 63}),
+                       'measurement 0: -9223372036854775808 ps is beyond -1000000000000')
+        self.explained(2, block({'measurement 779': 2 ** 63 - 1}),
+                       'measurement 779: 9223372036854775807 ps is beyond 1000000000000')
+        for name in ('INT', 'CAB', 'REF', 'GD', 'relativity 0', 'ionosphere 7', 'troposphere 50', 'clock 51'):
+            self.explained(2, block({name: 10 ** 10 + 1}), name + ': 10000000001 ps is beyond 10000000000')
+            self.explained(2, block({name: -10 ** 10 - 1}), name + ': -10000000001 ps is beyond -10000000000')
+        self.explained(2, block({'geometry 3': 2 * 10 ** 11 + 1}), 'geometry 3: 200000000001 ps is beyond 200000000000')
+
+    def test_first_of_several_beyond_their_limits(self):
+        faults = {'clock 4': 10 ** 11, 'geometry 5': 10 ** 12, 'measurement 700': -10 ** 13}
+        self.explained(2, block(faults), 'measurement 700: -10000000000000 ps is beyond -1000000000000', 'and 2 more')
+        self.explained(2, block({**faults, 'GD': 10 ** 11}), 'GD: 100000000000 ps is beyond 10000000000', 'and 3 more')
+        del faults['measurement 700']
+        self.explained(2, block(faults), 'clock 4: 100000000000 ps is beyond 10000000000', 'and 1 more')
+
+    def test_midpoints(self):
+        limits = ', not -9999999999 to 9999999999' + OWN
+        self.explained(3, block(measurements=[10 ** 12] * 780), 'REFSV is 10000000000' + limits,
+                       'REFSYS is 10000000000' + limits)
+        self.explained(3, block(measurements=[-10 ** 12] * 780, clock=[51] * 52), 'REFSV is -10000000000' + limits)
+        self.explained(3, block(measurements=[999999999949] * 780, clock=[1] * 52), 'REFSYS is 10000000000' + limits)
+        # 1000 - (INT + CAB - REF) - geometry + relativity - ionosphere - troposphere - GD, in all 1100000000000 ps
+        delays = {'INT': -10 ** 10, 'CAB': -2 * 10 ** 9, 'REF': 3 * 10 ** 9, 'GD': -10 ** 9}
+        self.explained(3, block(delays, measurements=[10 ** 12] * 780, geometry=[-8 * 10 ** 10] * 52,
+                                relativity=[10 ** 9] * 52, ionosphere=[-2 * 10 ** 9] * 52,
+                                troposphere=[-10 ** 9] * 52, clock=[-10 ** 10] * 52),
+                       'REFSV is 11000000000' + limits, 'REFSYS is 10900000000' + limits)
+
+    def test_slopes(self):
+        wide, narrow = ', not -99999 to 99999' + OWN, ', not -999 to 999' + OWN
+        self.explained(4, block(measurements=[10000 * t for t in range(780)]), 'SRSV is 100000' + wide,
+                       'SRSYS is 100000' + wide)
+        self.explained(4, block(clock=[-150000 * j for j in range(52)]), 'SRSYS is -100000' + wide)
+        self.explained(4, block(troposphere=[1500 * j for j in range(52)]), 'SMDT is 1000' + narrow)
+        self.explained(4, block(ionosphere=[76500 - 1500 * j for j in range(52)]), 'SMDI is -1000' + narrow)
+
+    def test_delays(self):
+        limits = ', not 0 to 9999' + OWN
+        self.explained(5, block(troposphere=[-51] * 52), 'MDTR is -1' + limits)
+        self.explained(5, block(ionosphere=[999950] * 52), 'MDIO is 10000' + limits)
+        self.explained(5, block(troposphere=[-10000] * 52, ionosphere=[-20000] * 52), 'MDTR is -100' + limits,
+                       'MDIO is -200' + limits)
+
+    def test_scatter(self):
+        self.explained(6, block(clock=scattered(999950)), 'DSG is about 10000, not 0 to 9999' + OWN)
+        self.explained(6, block(clock=scattered(1234567)), 'DSG is about 12346, not 0 to 9999' + OWN)
+        self.explained(6, block(clock=scattered(2 ** 32)), 'DSG is about 42949673, not 0 to 9999' + OWN)
+
+    def test_labels(self):
+        for part, value, explanation in (
+                ('constellation', ord('S'), 'constellation is S, not G, R, E, C or J'),
+                ('constellation', 0, r'constellation is \x00, not G, R, E, C or J'),
+                ('constellation', ord(' '), r'constellation is \x20, not G, R, E, C or J'),
+                ('satellite', 0, 'satellite is 0, not 1 to 99'), ('satellite', 100, 'satellite is 100, not 1 to 99'),
+                ('FR', 1, 'FR is 1, not 0 for G'), ('HC', 100, 'HC is 100, not 0 to 99'),
+                ('FRC 0', ord('l'), 'FRC is l1C, not three of A to Z and 0 to 9'),
+                ('FRC 1', ord('/'), 'FRC is L/C, not three of A to Z and 0 to 9'),
+                ('FRC 2', 255, r'FRC is L1\xFF, not three of A to Z and 0 to 9'),
+                ('FRC 2', ord('\\'), r'FRC is L1\x5C, not three of A to Z and 0 to 9'),
+                ('MJD', 50721, 'MJD is 50721, not 50722 to 99999'),
+                ('MJD', 2 ** 32 - 1, 'MJD is 4294967295, not 50722 to 99999'),
+                ('ELV', 901, 'ELV is 901, not 0 to 900'), ('AZTH', 3600, 'AZTH is 3600, not 0 to 3599'),
+                ('IOE', 256, 'IOE is 256, not 0 to 255 for G')):
+            self.explained(7, block({part: value}), explanation)
+
+    def test_labels_by_the_constellation(self):
+        for letter, ioe, fr, explanation in (
+                ('J', 256, 0, 'IOE is 256, not 0 to 255 for J'), ('E', 1000, 0, 'IOE is 1000, not 0 to 999 for E'),
+                ('C', 24, 0, 'IOE is 24, not 0 to 23 for C'), ('R', 0, 24, 'IOE is 0, not 1 to 96 for R'),
+                ('R', 97, 1, 'IOE is 97, not 1 to 96 for R'), ('R', 1, 0, 'FR is 0, not 1 to 24 for R'),
+                ('R', 96, 25, 'FR is 25, not 1 to 24 for R'), ('J', 0, 24, 'FR is 24, not 0 for J'),
+                ('E', 999, 1, 'FR is 1, not 0 for E'), ('C', 23, 255, 'FR is 255, not 0 for C')):
+            self.explained(7, block({'constellation': ord(letter), 'IOE': ioe, 'FR': fr}), explanation)
+
+    def test_ranges_are_those_of_the_library(self):
+        """The last values within each range are accepted, so the messages' ranges are not too wide."""
+        for letter, ioe, fr in (('G', 255, 0), ('G', 0, 0), ('J', 255, 0), ('E', 999, 0), ('C', 23, 0), ('R', 1, 1),
+                                ('R', 96, 24)):
+            self.assertEqual(run('check', '-', data=block({'constellation': ord(letter), 'IOE': ioe, 'FR': fr}))[0], 0)
+        for part, value in (('satellite', 1), ('satellite', 99), ('HC', 99), ('ELV', 900), ('ELV', 0), ('AZTH', 3599),
+                            ('FRC 0', ord('A')), ('FRC 1', ord('Z')), ('FRC 2', ord('9')), ('CL', 0)):
+            self.assertEqual(run('check', '-', data=block({part: value}))[0], 0)
+        self.assertEqual(run('check', '-', data=block({'MJD': 99999, 'start': 840}))[0], 0)
+
+    def test_all_labels_are_named(self):
+        self.explained(7, block({'constellation': ord('x'), 'FRC 0': 0, 'satellite': 0, 'HC': 255, 'MJD': 0, 'ELV': 65535,
+                                 'AZTH': 65535, 'IOE': 65535, 'FR': 255}),
+                       'constellation is x, not G, R, E, C or J', r'FRC is \x001C, not three of A to Z and 0 to 9',
+                       'satellite is 0, not 1 to 99', 'HC is 255, not 0 to 99', 'MJD is 0, not 50722 to 99999',
+                       'ELV is 65535, not 0 to 900', 'AZTH is 65535, not 0 to 3599')
+
+    def test_starts(self):
+        nearest = 'nearest starts of MJD 50722: before it %s, after it %s'
+        first, second, last = '120 (00:02:00)', '1080 (00:18:00)', '84600 (23:30:00)'
+        self.explained(8, block({'start': 121}), 'start is 121 (00:02:01)', nearest % (first, second))
+        self.explained(8, block({'start': 1079}), 'start is 1079 (00:17:59)', nearest % (first, second))
+        self.explained(8, block({'start': 0}), 'start is 0 (00:00:00)', nearest % ('none', first))
+        self.explained(8, block({'start': 85560}), 'start is 85560 (23:46:00)', nearest % (last, 'none'))
+        self.explained(8, block({'start': 86399}), 'start is 86399 (23:59:59)', nearest % (last, 'none'))
+        for far in (86400, 2 ** 32 - 1):
+            self.explained(8, block({'start': far}), 'start is %d, and a day has 86400 seconds' % far,
+                           nearest % (last, 'none'))
+
+
+if __name__ == '__main__':
+    unittest.main()
