@@ -59,7 +59,7 @@ fn silent(a: u8) -> u8 {
     'docs/REFUSALS.md': 'text\n',
 }
 GOOD = ['`def fit/Track trackRule`', '`def fit/Track Given`', '`def fit/Track clock`', '`def fit/Track tabulate`',
-        '`def fit/Deep/Inside deep`', '`law fit/Laws sum-place²`', '`law fit/Laws inner`', '`law fit/Track trackRule`',
+        '`def fit/Deep/Inside deep`', '`law fit/Laws sum-place²`', '`law fit/Laws inner`',
         '`fn fit::track answer`', '`fn fit::track accurate`', '`fn fit::place`', '`fn fit::sums::place`',
         '`item fit::WEIGHTS` reader', '`code fit/lib.rt let Fitted::Line` reader',
         '`def fit/Track trackRule` `edit fit/length_779`', '`test reference within` test only',
@@ -72,7 +72,7 @@ BAD = [
     ('`fn fit::track answer` test only', 'beside a definition'), ('test only', 'without a test'),
     ('`def fit/Track trackRul`', 'no trackRul in module fit/Track'), ('`def fit/Track`', 'no name in module'),
     ('`def fit/Track tracked`', 'no tracked in module'), ('`def fit/Trace trackRule`', 'no module fit/Trace'),
-    ('`def fit/Laws inner`', 'no module fit/Laws'), ('`law fit/Laws local`', 'no local in module'),
+    ('`def fit/Laws inner`', 'no module fit/Laws'), ('`law fit/Track trackRule`', 'no module fit/Track'), ('`law fit/Laws local`', 'no local in module'),
     ('`law fit/Laws named`', 'no named in module'), ('`law fit/Laws hidden`', 'no hidden in module'),
     ('`law fit/Laws uses-hidden`', 'no uses-hidden in module'),
     ('`fn fit::track`', 'no clause without a name'), ('`fn fit::track written`', 'no clause written'),

@@ -18,7 +18,7 @@ use Rattle.fit.proofs.Arrays.{table-bound}
 use Rattle.fit.proofs.Tracks.{limited}
 
 -- The smoothed value of a block, and its four corrected values, with measurements within 10^12, geometry within 2 × 10^11 and all else
--- within 10^10. Smoothing magnifies by at most 1469 / 1105, and all else is added or taken off; each bound is reached by some track.
+-- within 10^10. Smoothing magnifies by at most 1469 / 1105, and all else is added or taken off. (That some track reaches each bound is not proved here.)
 module _ (g : Given) (e : outOfLimits g ≡ false) (j : ℕ) where
   pub smoothed-within : natAbs (smoothedAt g j) ≤ 1329411764706
   unfolding smoothedAt block

@@ -60,8 +60,11 @@ inside a b c d e =
     record { in-a = one .0; in-b = one .1; in-c = ab .1; in-d = abc .1 }
 
 -- Fit's answer to values that are not refused
+abbrev pub lineThrough : List ℤ → Fitted
+lineThrough l = Fitted.Line (midpoint 1 52 (at l)) (slope 1 52 (at l))
+
 pub fit-value : (l : List ℤ) → length l ≡ 52 → anyBeyond (2 * 10 ^ 12) l ≡ false → (r : Fitted) → fitReply r ≡ fitRule l → fitNumbered r
-    → r ≡ Fitted.Line (midpoint 1 52 (at l)) (slope 1 52 (at l))
+    → r ≡ lineThrough l
 fit-value l e h (Fitted.Line m s) a n = ap (λ (r : Reply (ℤ × ℤ)). Fitted.Line (r .values .0) (r .values .1)) (a ∙ fit-accepted l e h)
 fit-value l e h (Fitted.Refused k) a n = absurd (never (ap (λ (r : Reply (ℤ × ℤ)). r .number) (a ∙ fit-accepted l e h)) n)
   where

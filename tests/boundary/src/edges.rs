@@ -9,7 +9,7 @@ use reference::{worst, Delays, BLOCKS, WEIGHTS};
 
 pub fn run(compare: &mut Compare, seeded: &mut Seeded) {
     on_edges(compare, seeded);
-    on_scatter_edges(compare, seeded);
+    on_thresholds(compare, seeded);
     if seeded.below(8) == 0 {
         squares_that_wrap(compare, seeded);
         extremes(compare, seeded);
@@ -122,8 +122,8 @@ fn ripple(seeded: &mut Seeded) -> Vec<i64> {
     add
 }
 
-/// B is a line plus waves whose squares sum to an edge of DSG, or nearly.
-fn on_scatter_edges(compare: &mut Compare, seeded: &mut Seeded) {
+/// B is a line plus waves whose squares sum to a threshold of DSG, or nearly.
+fn on_thresholds(compare: &mut Compare, seeded: &mut Seeded) {
     let mut case = good(seeded);
     let values = corrected(&case);
     let (s, t) = sums(&values);
@@ -136,7 +136,7 @@ fn on_scatter_edges(compare: &mut Compare, seeded: &mut Seeded) {
     let ripple = ripple(seeded);
     case.columns[CLOCK] = (0..BLOCKS).map(|j| level + tilt * place(j) + waves[j] + ripple[j] - values[j]).collect();
     let lent = any_lent(seeded);
-    compare.block("blocks on an edge of DSG", Some(&case.bytes()), lent);
+    compare.block("blocks on a threshold of DSG", Some(&case.bytes()), lent);
 }
 
 /// Waves about multiples of 2^31: the sum of their squares is near a multiple of 2^64.

@@ -66,11 +66,11 @@ fn smooth_fit_and_scatter_by_their_definitions() {
                 r * r
             })
             .sum();
-        let edge = |d: i128| 52 * (100 * d - 50) * (100 * d - 50);
+        let threshold = |d: i128| 52 * (100 * d - 50) * (100 * d - 50);
         match scatter(&v) {
-            Err(refusal) => assert!(refusal == 6 && edge(10_000) <= q),
+            Err(refusal) => assert!(refusal == 6 && threshold(10_000) <= q),
             Ok(0) => assert!(q < 130_000),
-            Ok(d) => assert!(edge(d.into()) <= q && q < edge(i128::from(d) + 1)),
+            Ok(d) => assert!(threshold(d.into()) <= q && q < threshold(i128::from(d) + 1)),
         }
     }
 }

@@ -1,14 +1,10 @@
 -- `fit::results::with_delays` meets its contract: Fit refuses none of the values, which are inside their limit.
 -- Assumes nothing.
 use mathlib.Core.Path.{_≡_, _∙_}
-use mathlib.Core.List.{List}
-use lib.IntN.{ℤ, pos}
-use Rattle.exact.specs.Corrected.{at}
-use Rattle.series.specs.declared.Fitted.{Fitted}
-use Rattle.series.specs.Fit.{midpoint, slope}
+use lib.IntN.{pos}
 use mir.Facts.{toZ-ofZ}
 use Rattle.fit.specs.Track.{numbersWith}
-use Rattle.fit.proofs.Tracks.{Inside, inside, fit-value, fit-never, fit-numbers}
+use Rattle.fit.proofs.Tracks.{Inside, inside, lineThrough, fit-value, fit-never, fit-numbers}
 use borrow.Author.Needs.{needs}
 use Rattle.fit.proofs.results.with_delays.Statement.{statement}
 use Rattle.fit.proofs.results.with_delays.Tie as tie
@@ -25,13 +21,10 @@ abbrev start-2 : tie.After-fit2 → tie.Start
 start-2 c = start (c .before .before .before .before .before .before .before)
 
 -- each answer is a line
-abbrev line : List ℤ → Fitted
-line l = Fitted.Line (midpoint 1 52 (at l)) (slope 1 52 (at l))
-
-line-c : (c : tie.After-fit) → c .fit .result ≡ line (start c .args .t1 .c)
+line-c : (c : tie.After-fit) → c .fit .result ≡ lineThrough (start c .args .t1 .c)
 line-c c = fit-value _ (start c .pre .0 .2) (fine (start c) .in-c) (c .fit .result) (c .fit .ensures .0) (c .fit .ensures .1)
 
-line-d : (c : tie.After-fit2) → c .fit2 .result ≡ line (start-2 c .args .t1 .d)
+line-d : (c : tie.After-fit2) → c .fit2 .result ≡ lineThrough (start-2 c .args .t1 .d)
 line-d c = fit-value _ (start-2 c .pre .0 .3) (fine (start-2 c) .in-d) (c .fit2 .result) (c .fit2 .ensures .0) (c .fit2 .ensures .1)
 
 fit-requires : tie.Need-fit-requires
