@@ -20,7 +20,7 @@ use Rattle.fit.specs.declared.TrackRecord.{TrackRecord}
 use Rattle.fit.specs.declared.results.LineNumbers.{LineNumbers}
 use Rattle.exact.specs.Corrected.{Given, at, toA, toB}
 use Rattle.limits.specs.Lists.{miscounted, anyBeyond}
-use Rattle.series.specs.Answers.{Reply}
+use Rattle.limits.specs.Reply.{Reply}
 use Rattle.series.specs.Fit.{midpoint, slope, fitRule}
 use Rattle.series.proofs.Fitting.{fit-accepted}
 use Rattle.limits.proofs.Laws.{then-refused, then-assoc}

@@ -3,7 +3,8 @@
 use mathlib.Core.Path.{sym, ap, _∙_}
 use lib.IntN.{ℤ}
 use Rattle.whole.specs.Words.{back-of}
-use Rattle.series.specs.Answers.{Reply, fitReply}
+use Rattle.limits.specs.Reply.{Reply}
+use Rattle.series.specs.Answers.{fitReply}
 use borrow.Author.Needs.{needs}
 use Rattle.fit.proofs.results.line.Statement.{statement}
 use Rattle.fit.proofs.results.line.Tie as tie
