@@ -4,3 +4,7 @@ pub mod Columns
 pub mod Hexadecimals
 pub mod Signs
 pub mod Refusals
+pub mod Spelling
+pub mod AcceptedLine
+pub mod Writing
+pub mod WrittenLine
