@@ -4,16 +4,15 @@
 use mathlib.Core.Path.{_≡_, refl, sym, ap, ap₂, _∙_}
 use mathlib.Core.Bool.{true, false, _||_}
 use mathlib.Core.List.{List, [], _∷_, _++_}
-use Prim.Native.Nat.{ℕ, suc, _+_, _*_, _-_, _/_, _≤_, _<_}
+use Prim.Native.Nat.{ℕ, _-_, _/_, _≤_, _<_}
 use native.Mathlib.Omega.{arith}
 use lib.Dec.{ltb, eqb}
-use lib.IntN.{ℤ}
 use lib.ListN.{length, take, drop, getD, length-drop, take-append-drop}
 use lib.Seq.{take-add, drop-drop, drop-length}
 use borrow.Author.Tests.{ltb-false, le-ltb, eqb-true}
 use Rattle.limits.specs.Refusal.{_when_, _then_}
-use Rattle.limits.proofs.Laws.{or-false, then-zero}
-use Rattle.fields.specs.Text.{decimal, hexDigit, hexadecimal, checksum}
+use Rattle.limits.proofs.Laws.{or-false}
+use Rattle.fields.specs.Text.{hexDigit, hexadecimal, checksum}
 use Rattle.fields.specs.Read.{readDecimal, readSigned}
 use Rattle.labels.specs.declared.Labels.{Labels}
 use Rattle.labels.specs.declared.Numbers.{Numbers}
@@ -23,8 +22,8 @@ use Rattle.columns.specs.Columns.{byteIn, field, readLabels, readNumbers}
 use Rattle.line.specs.Line.{lineAnswer, lineAfter}
 use Rattle.line.proofs.Accepted.{after-is}
 use Rattle.reader.specs.Kinds.{bytesOf, kinds, allowed, printable, checked}
-use Rattle.reader.specs.Read.{signedFields, isMinusZero, minusZero, clockBeyond, readNumber, commentOffset}
-use Rattle.reader.specs.Fields.{digits, hexDigits, Digits}
+use Rattle.reader.specs.Read.{isMinusZero, minusZero, clockBeyond, readNumber, commentOffset}
+use Rattle.reader.specs.Fields.{digits, hexDigits}
 use Rattle.reader.proofs.Allowed.{both}
 use Rattle.reader.proofs.Columns.{Columns, columns-of}
 use Rattle.reader.proofs.Refusals.{Spelled, Valued, accepted, content-is, offset-accepted, offset-refused}

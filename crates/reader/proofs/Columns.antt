@@ -1,16 +1,16 @@
 -- The fields of a line whose characters are those of its columns: what each is made of.
 -- Assumes nothing.
-use mathlib.Core.Path.{_≡_, refl, sym, ap, ap₂, _∙_, subst}
-use mathlib.Core.Bool.{Bool, true, false, _&&_}
-use mathlib.Core.List.{List, [], _∷_, _++_}
-use Prim.Native.Nat.{ℕ, zero, suc, _+_, _*_, _-_, _^_, _≤_, _<_}
+use mathlib.Core.Path.{_≡_, refl, sym, ap, ap₂, _∙_}
+use mathlib.Core.Bool.{true}
+use mathlib.Core.List.{List, [], _∷_}
+use Prim.Native.Nat.{ℕ, suc, _+_, _-_, _^_, _≤_, _<_}
 use native.Mathlib.Nat.{pow-le-pow-right, lt-of-lt-of-le, le-refl, le-trans}
 use native.Mathlib.Omega.{arith}
 use lib.Dec.{T, leb, le→leb, lit<, lit≤}
 use lib.ListN.{length, take, drop, getD, length-replicate, length-drop}
 use lib.Seq.{length-take-le, drop-cons, getD-drop}
 use Rattle.fields.specs.Read.{readDecimal}
-use Rattle.columns.specs.Columns.{byteIn, field}
+use Rattle.columns.specs.Columns.{field}
 use Rattle.reader.specs.Kinds.{bytesOf, allows, kinds, allowed}
 use Rattle.reader.specs.Fields.{digits, hexDigits, Holds, Digits, Signed}
 use Rattle.reader.proofs.Allowed.{allowed-length, allowed-at, allowed-drop, allowed-take, allowed-cut}

@@ -3,10 +3,10 @@
 use mathlib.Core.Path.{_≡_, refl, sym, ap, ap₂, _∙_, subst}
 use mathlib.Core.Bool.{Bool, true, false, not, _||_, or-false as or-none}
 use mathlib.Core.List.{List}
-use Prim.Native.Nat.{ℕ, zero, suc, _+_, _-_, _^_, _≤_, _<_}
+use Prim.Native.Nat.{ℕ, zero, suc, _^_, _≤_, _<_}
 use native.Mathlib.Nat.{not-suc-le-zero, le-of-suc-le-suc}
 use native.Mathlib.Omega.{arith}
-use lib.Dec.{ltb, eqb, eqb·suc-zero}
+use lib.Dec.{ltb, eqb·suc-zero}
 use lib.IntN.{ℤ, pos, negsuc, natAbs}
 use lib.ListN.{length, drop}
 use borrow.Author.Tests.{ltb-false, le-ltb, eqb-true, eq-eqb, ne-eqb, not-false}
@@ -28,7 +28,7 @@ use Rattle.reader.specs.Read.{signedFields, minusZero, lengthDiffers, cl
 use Rattle.reader.specs.declared.Reading.{Reading}
 use Rattle.reader.specs.Answers.{readReply, readNumbered}
 use Rattle.reader.specs.Fields.{Digits, Signed}
-use Rattle.reader.proofs.Columns.{Columns, columns-of, field-bound, signed-field}
+use Rattle.reader.proofs.Columns.{columns-of, field-bound, signed-field}
 use Rattle.reader.proofs.Signs.{read-magnitude}
 
 -- ---- what a row that is 0 tells, and what makes it 0

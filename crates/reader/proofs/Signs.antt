@@ -1,21 +1,17 @@
 -- Signed fields as numbers and back.
 -- Assumes nothing.
-use mathlib.Core.Path.{_≡_, refl, sym, ap, ap₂, _∙_}
-use mathlib.Core.Bool.{Bool, true, false, _&&_, _||_, or-assoc, or-false, true≢false}
-use mathlib.Core.List.{List, [], _∷_}
-use Prim.Native.Nat.{ℕ, zero, suc, _≤_, _<_}
-use native.Mathlib.Omega.{arith}
+use mathlib.Core.Path.{_≡_, refl, ap, _∙_}
+use mathlib.Core.Bool.{true, false, _||_, or-assoc, or-false}
+use mathlib.Core.List.{List, _∷_}
+use Prim.Native.Nat.{ℕ, zero, suc}
 use lib.Dec.{eqb}
 use lib.ListN.{getD}
-use lib.IntN.{ℤ, pos, negsuc, negℤ, natAbs}
+use lib.IntN.{pos, negℤ, natAbs}
 use borrow.Author.Tests.{eqb-true, eqb-false, eq-eqb, ne-eqb}
-use Rattle.fields.specs.Text.{decimal, sign, signed}
 use Rattle.fields.specs.Read.{readDecimal, readSigned}
 use Rattle.labels.specs.declared.Numbers.{Numbers}
 use Rattle.columns.specs.Columns.{byteIn, readNumbers}
-use Rattle.reader.specs.Kinds.{allows}
 use Rattle.reader.specs.Read.{signedFields, isMinusZero, minusZero}
-use Rattle.reader.proofs.Allowed.{either, sign-is}
 
 pub minus-read : (b : ℕ) (text : List ℕ) → b ≡ 45 → readSigned (b ∷ text) ≡ negℤ (pos (readDecimal text))
 unfolding readSigned

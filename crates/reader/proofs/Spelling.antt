@@ -2,23 +2,22 @@
 -- are the columns.
 -- Assumes nothing.
 use mathlib.Core.Path.{_≡_, refl, sym, ap, ap₂, _∙_, subst}
-use mathlib.Core.Bool.{Bool, true, false, _&&_, true≢false, false≢true}
+use mathlib.Core.Bool.{true, false, true≢false, false≢true}
 use mathlib.Core.List.{List, [], _∷_, _++_}
 use Prim.Native.Nat.{ℕ, zero, suc, _+_, _*_, _-_, _/_, _%_, _≤_, _<_}
 use native.Mathlib.Nat.{add-zero}
 use native.Mathlib.Omega.{arith}
-use lib.Dec.{eqb, ltb, lit<, lit≤}
-use lib.IntN.{ℤ, pos, negsuc, negℤ, natAbs}
+use lib.Dec.{eqb, lit<}
+use lib.IntN.{pos, negℤ}
 use lib.ListN.{length, take, drop, getD, length-append}
-use lib.Seq.{drop-cons, drop-drop, take-add, drop-append-seam, take-all}
-use borrow.Author.Tests.{ltb-false, eqb-true, eqb-false, eq-eqb}
-use Rattle.limits.proofs.Laws.{or-false}
-use Rattle.fields.specs.Text.{decimal, sign, signed, hexadecimal, checksum}
+use lib.Seq.{drop-cons, drop-drop, take-add, drop-append-seam}
+use borrow.Author.Tests.{eqb-true}
+use Rattle.fields.specs.Text.{decimal, sign, signed, hexadecimal}
 use Rattle.fields.specs.Read.{readDecimal, readSigned, readHexadecimal}
 use Rattle.columns.specs.Text.{clock, spaced}
 use Rattle.columns.specs.Columns.{byteIn, field}
 use Rattle.reader.specs.Kinds.{allows, allowed}
-use Rattle.reader.specs.Read.{isMinusZero, clockBeyond}
+use Rattle.reader.specs.Read.{isMinusZero}
 use Rattle.reader.specs.Fields.{digits, hexDigits, Holds, Digits, Signed}
 use Rattle.reader.proofs.Allowed.{both, either, sign-is, space-is, allowed-drop}
 use Rattle.reader.proofs.Decimals.{write-decimal}

@@ -7,7 +7,7 @@ use Prim.Native.Nat.{ℕ, zero, suc, _+_, _-_, _/_, _%_, _≤_, _<_}
 use native.Mathlib.Omega.{arith}
 use lib.Dec.{ltb, leb, eqb}
 use lib.IntN.{ℤ, pos, negsuc, natAbs}
-use lib.ListN.{length, replicate, length-replicate, replicate-append-replicate}
+use lib.ListN.{length, length-replicate, replicate-append-replicate}
 use borrow.Author.Tests.{ltb-true, ltb-false, le-leb}
 use Rattle.fields.specs.Text.{decimal, sign, signed, hexDigit, hexadecimal}
 use Rattle.fields.proofs.Laws.{length-decimal, length-signed, length-hexadecimal}

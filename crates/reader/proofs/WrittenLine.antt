@@ -2,16 +2,15 @@
 -- Assumes nothing.
 use mathlib.Core.Path.{_≡_, refl, sym, ap, ap₂, _∙_}
 use mathlib.Core.Bool.{true, false, not, _&&_}
-use mathlib.Core.List.{List, [], _∷_, _++_, append-assoc}
-use Prim.Native.Nat.{ℕ, zero, suc, _+_, _*_, _-_, _/_, _%_, _^_, _≤_, _<_}
+use mathlib.Core.List.{List, [], _++_, append-assoc, append-nil}
+use Prim.Native.Nat.{ℕ, suc, _+_, _-_, _/_, _%_, _≤_, _<_}
 use native.Mathlib.Nat.{add-zero, le-refl}
 use native.Mathlib.Omega.{arith}
-use lib.Dec.{ltb, eqb, eqb·suc-zero, lit<}
+use lib.Dec.{eqb·suc-zero, lit<, lit≤}
 use lib.IntN.{ℤ, pos, negsuc, natAbs}
 use lib.ListN.{length, take, drop, getD, length-append, length-drop}
-use lib.Seq.{take-at, drop-at, getD-drop, getD-take, drop-append-add}
+use lib.Seq.{take-at, drop-at, getD-drop, getD-take}
 use borrow.Author.Tests.{le-ltb, eq-eqb}
-use Rattle.limits.specs.Reply.{Reply}
 use Rattle.limits.proofs.Laws as limits
 use Rattle.schedule.specs.Schedule.{startRule}
 use Rattle.schedule.proofs.Minutes as schedule
@@ -27,9 +26,10 @@ use Rattle.columns.specs.Columns.{byteIn, field, readLabels, readNumbers}
 use Rattle.columns.proofs.Widths.{columns-sized, columns-width, line-width, column-at}
 use Rattle.line.specs.Line.{lineAnswer, lineAfter}
 use Rattle.line.proofs.Accepted.{Accepted, accepted, after-is}
+use Rattle.line.proofs.Sample as sample
 use Rattle.line.proofs.ReadBack.{numbers-back, labels-back}
-use Rattle.reader.specs.Kinds.{kinds, allowed, printable, checked}
-use Rattle.reader.specs.Read.{signedFields, isMinusZero, minusZero, lengthDiffers, clockBeyond, readNumber, readRule}
+use Rattle.reader.specs.Kinds.{printable, checked}
+use Rattle.reader.specs.Read.{signedFields, isMinusZero, minusZero, lengthDiffers, clockBeyond, readRule}
 use Rattle.reader.proofs.Columns.{columns-of, field-length}
 use Rattle.reader.proofs.Refusals.{Spelled, Valued, accepted-zero, reply-line}
 use Rattle.reader.proofs.AcceptedLine.{time-joined, answer-zero}
@@ -188,3 +188,11 @@ written-reads-back l n lent e cl most p =
   where
     few : (k : ℕ) → k ≤ 140 → k - 113 ≤ 27
     few k h = omega arith
+
+-- The sample line of document 01 reads to its labels and numbers.
+pub sample-reads : readRule (sample.bytesOf "G05 FF 50722 000200 0780 450 1800 +0000000010 +00000 +0000000010 +00000 0000 007 0000 +000 0000 +000 00 00 L1C 26")
+    ≡ record { number = 0; values = (sample.labels, sample.numbers) }
+unfolding lineAnswer printable
+sample-reads =
+    ap readRule (sym (append-nil (lineText sample.labels sample.numbers) ∙ sample.sample))
+    ∙ text-reads-back sample.labels sample.numbers [] (limits.then-zero _ _ sample.sample-accepted .0) (lit< tt) refl (lit≤ tt)

@@ -2,7 +2,6 @@
 -- where there is a refusal.
 -- Assumes nothing.
 use Prim.Native.Nat.{_<_}
-use lib.IntN.{pos}
 use Rattle.limits.specs.Reply.{Reply}
 use Rattle.labels.specs.declared.Labels.{Labels}
 use Rattle.labels.specs.declared.Numbers.{Numbers}

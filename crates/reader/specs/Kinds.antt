@@ -25,8 +25,8 @@ unfoldable pub letterFits : ℕ → Bool
 letterFits b =
     eqb b (code "G") || eqb b (code "R") || eqb b (code "E") || eqb b (code "C") || eqb b (code "J")
 
--- Whether a column of this kind may hold the byte. A kind is shown by a character that stands for it: L a constellation letter, 9 a digit, F a
--- hexadecimal digit, + a sign, Z a character of FRC, and a space for itself.
+-- Whether a column of this kind may hold the byte. A character stands for each kind: L for a constellation letter, 9 for a digit, F for a
+-- hexadecimal digit, + for a sign, Z for a character of FRC, and a space for itself.
 unfoldable pub allows : (kind byte : ℕ) → Bool
 allows kind b =
     eqb kind (code "L") && letterFits b
@@ -36,7 +36,8 @@ allows kind b =
     || eqb kind (code "Z") && codeFits b
     || eqb kind (code " ") && eqb b (code " ")
 
--- The kinds of columns 1 to 111.
+-- The kinds of columns 1 to 111, as a picture of the line. The sample line of document 01 has the same columns:
+--               G05 FF 50722 000200 0780 450 1800 +0000000010 +00000 +0000000010 +00000 0000 007 0000 +000 0000 +000 00 00 L1C 26
 unfoldable pub kinds : List ℕ
 kinds = bytesOf "L99 FF 99999 999999 9999 999 9999 +9999999999 +99999 +9999999999 +99999 9999 999 9999 +999 9999 +999 99 99 ZZZ "
 
@@ -51,7 +52,7 @@ unfoldable pub printable : List ℕ → Bool
 printable [] = true
 printable (b ∷ text) = within 32 126 b && printable text
 
--- The two columns behind the first `columns` are the capital hexadecimal digits of their checksum.
+-- CK stands behind so many columns, and is the two capital hexadecimal digits of their checksum.
 unfoldable pub checked : (columns : ℕ) → List ℕ → Bool
 checked columns line =
     eqb (byteIn (columns + 1) line) (hexDigit (checksum (take columns line) / 16))

@@ -32,7 +32,7 @@ minusZero [] line = false
 minusZero ((first, last) ∷ fields) line =
     isMinusZero (byteIn first line) (readSigned (field first last line)) || minusZero fields line
 
--- The track length is not the one there is.
+-- The track length is not 0780.
 unfoldable pub lengthDiffers : List ℕ → Bool
 lengthDiffers line = not (eqb (readDecimal (field 21 24 line)) trackLength)
 
@@ -41,8 +41,8 @@ unfoldable pub clockBeyond : List ℕ → Bool
 clockBeyond line =
     ltb 23 (readDecimal (field 14 15 line)) || ltb 59 (readDecimal (field 16 17 line)) || ltb 59 (readDecimal (field 18 19 line))
 
--- 12: the length. 14: CK. 13: a character that is not allowed in its column or in the comment. So many columns stand before CK, and a line
--- with its comment is at most so long.
+-- What the characters are refused for, where so many columns of these kinds stand before CK. 12: the length. 14: CK. 13: a character that is
+-- not allowed in its column, or in the comment behind CK.
 unfoldable pub charactersNumber : (columns longest : ℕ) (kinds line : List ℕ) → ℕ
 charactersNumber columns longest kinds line =
     12 when (ltb (length line) (columns + 2) || ltb longest (length line))
@@ -50,8 +50,8 @@ charactersNumber columns longest kinds line =
     then 13 when not (allowed kinds line)
     then 13 when not (printable (drop (columns + 2) line))
 
--- 13: a minus before a zero, or the track length. 7: a label or the date is out of range. 8: the second is no start of that day, or the time
--- is none of the day.
+-- What the values are refused for. 13: a minus before a zero, or the track length. 7: a label or the date is out of range. 8: no start of that
+-- day, or no time of a day.
 unfoldable pub valuesNumber : List ℕ → ℕ
 valuesNumber line =
     13 when minusZero signedFields line
@@ -60,6 +60,7 @@ valuesNumber line =
     then startRule (readLabels line .mjd) (readLabels line .start)
     then 8 when clockBeyond line
 
+-- The number of the refusal, 0 for a line that is read.
 unfoldable pub readNumber : List ℕ → ℕ
 readNumber line = charactersNumber 111 140 kinds line then valuesNumber line
 
@@ -70,7 +71,7 @@ noLabels = labelsOf 0 0 0 0 0 0 0 0 0 0 0 0 0
 abbrev pub noNumbers : Numbers
 noNumbers = numbersOf (pos 0) (pos 0) (pos 0) (pos 0) (pos 0) (pos 0) (pos 0) (pos 0) (pos 0) (pos 0)
 
--- The number, and the labels and numbers that stand in the columns.
+-- That number, and the labels and the ten numbers in the columns.
 unfoldable pub readRule : List ℕ → Reply (Labels × Numbers)
 readRule line = reply (noLabels, noNumbers) (readNumber line) (readLabels line, readNumbers line)
 

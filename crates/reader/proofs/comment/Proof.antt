@@ -2,6 +2,7 @@
 -- Assumes nothing.
 use mathlib.Core.Path.{_≡_, sym, ap, _∙_}
 use native.Mathlib.Nat.{le-of-eq}
+use native.Mathlib.Omega.{arith}
 use mathlib.Core.List.{List}
 use Prim.Native.Nat.{ℕ, _+_, _-_, _≤_, _<_}
 use lib.ListN.{length, take, drop, length-drop}
@@ -59,10 +60,10 @@ returns c =
     part-at line _ (c .result .given .0) (offset-refused (line .now) (refused (c .before)))
 
 sub-result-2 : tie.Need-sub-result-2
-sub-result-2 c = long c
+sub-result-2 c = omega (arith, long c)
 
 part-result-start-2 : tie.Need-part-result-start-2
-part-result-start-2 c = long c
+part-result-start-2 c = omega (arith, long c)
 
 part-result-end-2 : tie.Need-part-result-end-2
 part-result-end-2 c = search needs
@@ -70,7 +71,7 @@ part-result-end-2 c = search needs
 returns-2 : tie.Need-returns-2
 returns-2 c =
     let line = c .before .before .before .before .before .args .line in
-    part-at line 113 (c .result2 .given .0) (offset-accepted (line .now) (read-line (c .before)))
+    part-at line _ (c .result2 .given .0) (offset-accepted (line .now) (read-line (c .before)))
 
 pub comment-spec : {M : Type 1} → statement M
 comment-spec =

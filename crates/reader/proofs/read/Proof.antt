@@ -1,10 +1,8 @@
 -- `reader::read` meets its contract: what the characters and then the values are refused for, else what stands in the columns.
 -- Assumes nothing.
 use mathlib.Core.Path.{_≡_, sym, _∙_}
-use mathlib.Core.Bool.{true}
 use Prim.Native.Nat.{_<_}
 use native.Mathlib.Omega.{arith}
-use Rattle.limits.specs.Refusal.{_then_}
 use Rattle.limits.proofs.Laws.{then-passed}
 use Rattle.reader.specs.Kinds.{kinds}
 use Rattle.reader.specs.Read.{charactersNumber, readNumber}

@@ -1,6 +1,6 @@
 -- `reader::values_refusal` meets its contract: the row of tests is the rule's, for a line whose characters are those of its columns.
 -- Assumes nothing.
-use mathlib.Core.Path.{_≡_, sym, ap, ap₂, _∙_}
+use mathlib.Core.Path.{ap, ap₂, _∙_}
 use mathlib.Core.Bool.{Bool, not}
 use Prim.Native.Nat.{ℕ}
 use lib.Dec.{eqb}

@@ -1,13 +1,8 @@
 -- `reader::characters::checked` meets its contract: the two columns are compared with the digits of the sum.
 -- Assumes nothing.
-use mathlib.Core.Path.{_≡_, sym, ap, ap₂, _∙_}
-use mathlib.Core.Bool.{_&&_}
-use Prim.Native.Nat.{ℕ, _/_}
+use mathlib.Core.Path.{sym}
 use native.Mathlib.Omega.{arith}
-use lib.Dec.{eqb}
-use lib.ListN.{getD}
 use lib.Seq.{length-take-le}
-use Rattle.fields.specs.Text.{hexDigit}
 use Rattle.columns.specs.Columns.{byteIn}
 use Rattle.reader.specs.Kinds.{checked}
 use borrow.Author.Needs.{needs}
@@ -36,12 +31,7 @@ returns : tie.Need-returns
 unfolding checked byteIn
 returns c =
     let second = c .before .before in
-    let first = second .before .before in
-    let line = first .before .before .before .args .line .now in
-    let sum = first .checksum .ensures in
-    ap₂ (λ (a b : ℕ). eqb (getD line 111 0) a && eqb (getD line 112 0) b)
-    (second .hex-digit .ensures ∙ ap (λ (s : ℕ). hexDigit (s / 16)) sum)
-    (c .hex-digit2 .ensures ∙ ap hexDigit sum)
+    simp (second .hex-digit .ensures, c .hex-digit2 .ensures, second .before .before .checksum .ensures)
 
 pub checked-spec : {M : Type 1} → statement M
 checked-spec =

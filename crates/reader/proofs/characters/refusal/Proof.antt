@@ -7,10 +7,9 @@ use borrow.Author.Tests.{ltb-false}
 use Rattle.limits.proofs.Laws.{or-false}
 use mathlib.Core.Path.{_≡_, sym, ap, ap₂, _∙_}
 use mathlib.Core.List.{List}
-use mathlib.Core.Bool.{Bool, true, false, not, _||_}
+use mathlib.Core.Bool.{Bool, not}
 use Prim.Native.Nat.{ℕ, _-_, _≤_}
 use native.Mathlib.Omega.{arith}
-use lib.Dec.{ltb}
 use Rattle.limits.specs.Refusal.{_when_, _then_}
 use Rattle.reader.specs.Kinds.{bytesOf, kinds, allowed, printable, checked}
 use Rattle.reader.specs.Read.{charactersNumber}

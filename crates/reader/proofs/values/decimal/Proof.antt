@@ -1,12 +1,7 @@
 -- `reader::values::decimal` meets its contract: the part that is lent is the field.
 -- Assumes nothing.
-use mathlib.Core.Path.{_≡_, sym, ap, _∙_}
-use mathlib.Core.Bool.{true}
-use mathlib.Core.List.{List}
-use Prim.Native.Nat.{_≤_}
-use lib.ListN.{length}
+use mathlib.Core.Path.{ap, _∙_}
 use Rattle.fields.specs.Read.{readDecimal}
-use Rattle.reader.specs.Kinds.{allowed}
 use Rattle.reader.specs.Fields.{digits}
 use Rattle.reader.proofs.Columns.{field-is, within-line, field-length, field-digits}
 use borrow.Author.Needs.{needs}

@@ -1,9 +1,9 @@
 -- `reader::values::labels` meets its contract: each label is read from its columns, which hold what it is made of.
 -- Assumes nothing.
-use mathlib.Core.Path.{_≡_, refl, _∙_}
+use mathlib.Core.Path.{refl, _∙_}
 use native.Mathlib.Omega.{arith}
 use lib.Dec.{lit≤}
-use lib.ListN.{length, getD}
+use lib.ListN.{getD}
 use Rattle.columns.specs.Columns.{byteIn, readLabels}
 use Rattle.reader.proofs.Columns.{Columns, columns-of, column-count, at-most}
 use borrow.Author.Needs.{needs}

@@ -1,7 +1,7 @@
 -- `reader::values::minus_zero` meets its contract: each sign stands in the first column of its field, and the numbers are those of the fields.
 -- Assumes nothing.
-use mathlib.Core.Path.{_≡_, ap, _∙_}
-use mathlib.Core.Bool.{Bool, _||_}
+use mathlib.Core.Path.{ap, _∙_}
+use mathlib.Core.Bool.{_||_}
 use lib.ListN.{length, getD}
 use mir.Syntax.{w64}
 use mir.Val.{SFits}

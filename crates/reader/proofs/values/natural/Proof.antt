@@ -1,6 +1,6 @@
 -- `reader::values::natural` meets its contract: a number of ten digits fits.
 -- Assumes nothing.
-use mathlib.Core.Path.{_≡_, ap, _∙_}
+use mathlib.Core.Path.{ap, _∙_}
 use lib.IntN.{pos}
 use Prim.Native.Nat.{_≤_}
 use native.Mathlib.Omega.{arith}

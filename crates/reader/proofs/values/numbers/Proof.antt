@@ -1,6 +1,6 @@
 -- `reader::values::numbers` meets its contract: each number is read from its columns, which hold what it is made of.
 -- Assumes nothing.
-use mathlib.Core.Path.{_≡_, _∙_}
+use mathlib.Core.Path.{_∙_}
 use lib.Dec.{lit≤}
 use Rattle.whole.specs.Words.{back-of}
 use Rattle.columns.specs.Columns.{readNumbers}

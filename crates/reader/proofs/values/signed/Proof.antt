@@ -1,15 +1,11 @@
 -- `reader::values::signed` meets its contract: the sign tells whether the number is taken from 0.
 -- Assumes nothing.
-use mathlib.Core.Path.{_≡_, sym, ap, _∙_}
-use mathlib.Core.List.{List, _∷_}
-use Prim.Native.Nat.{ℕ, _+_, _-_, _≤_, _<_}
+use mathlib.Core.Path.{sym, ap, _∙_}
+use Prim.Native.Nat.{ℕ, _≤_, _<_}
 use native.Mathlib.Omega.{arith}
-use lib.IntN.{ℤ, pos, negℤ, +ℤ-idl}
-use lib.ListN.{length, getD}
+use lib.IntN.{+ℤ-idl}
 use Rattle.whole.specs.Words.{Word, count, equal, fits, plain-is, bounds}
-use Rattle.fields.specs.Read.{readDecimal, readSigned}
-use Rattle.columns.specs.Columns.{field}
-use Rattle.reader.specs.Fields.{Signed}
+use Rattle.fields.specs.Read.{readSigned}
 use Rattle.reader.proofs.Columns.{within-line, field-bound, signed-field}
 use Rattle.reader.proofs.Signs.{minus-read, plus-read}
 use borrow.Author.Needs.{needs}

@@ -1,13 +1,9 @@
 -- `reader::values::start` meets its contract: each part of the time has two digits, so that the sum fits.
 -- Assumes nothing.
-use mathlib.Core.Path.{_≡_, sym, ap, _∙_}
-use Prim.Native.Nat.{ℕ, _+_, _*_, _^_, _<_}
 use native.Mathlib.Omega.{arith}
 use lib.Dec.{lit≤}
-use Rattle.fields.specs.Read.{readDecimal}
-use Rattle.columns.specs.Columns.{field, readLabels}
-use Rattle.reader.specs.Fields.{Digits}
-use Rattle.reader.proofs.Columns.{Columns, columns-of, at-most, time-bounds}
+use Rattle.columns.specs.Columns.{readLabels}
+use Rattle.reader.proofs.Columns.{columns-of, at-most, time-bounds}
 use Rattle.reader.proofs.values.start.Statement.{statement}
 use Rattle.reader.proofs.values.start.Tie as tie
 
