@@ -46,6 +46,7 @@ proofs:
 beside: archive program
 	rt fmt --check
 	python3 tests/hireblock/test_hireblock.py
+	python3 tests/clauses/test_clauses.py
 	python3 tests/published/expected.py --check
 	$(CARGO) test --manifest-path tests/reference/Cargo.toml
 	$(CARGO) run --release --manifest-path tests/boundary/Cargo.toml
@@ -60,6 +61,7 @@ beside: archive program
 	tools/lastdigit --program target/bin/trackline
 	tools/lastdigit --svg target/last-digit.svg && cmp target/last-digit.svg docs/last-digit.svg
 	tools/definitions --check docs/TRUST.md
+	tools/clauses docs/CLAUSES.md
 	tests/install.sh
 
 bench:

@@ -289,6 +289,41 @@ static void corrections(void)
     expect_true("corrections: the line", kept_but(wanted, 113));
 }
 
+/*
+ * Each number of a block has a value of its own, so that a wrong offset, stride or block of seconds shows. At second t the
+ * measurement is 1000000 + 100 t, so block j smooths to 1000700 + 1500 j; the corrections climb with j as well:
+ *   A = 1000700 - (100000 + 200000 - 50000) - 500000 + 7000 - 11000 - 13000 - 30000 + (1500 - 300 + 30 - 6 - 9) j
+ *     = 203700 + 1215 j       midpoint 234682.5 ps: 2347       slope 1215 / 15 = 81 ps/s: 810
+ *   B = A + 19000 - 75 j      midpoint 251770 ps: 2518         slope 1140 / 15 = 76 ps/s: 760
+ *   C = 13000 + 9 j           midpoint 13229.5 ps: 132         slope 9 / 15 = 0.6 ps/s: 6
+ *   D = 11000 + 6 j           midpoint 11153 ps: 112           slope 6 / 15 = 0.4 ps/s: 4
+ */
+static void places(void)
+{
+    static const char wanted[] = "R24 8D 50723 001400 0780 899 3598 +0000002347 +00810 +0000002518 +00760 "
+                                 "0000 095 0132 +006 0112 +004 23 98 Z9A C0";
+    static const uint8_t sizes_and_labels[26] = {0x0C, 0x03, 0x34, 0x00, 'R', 24, 0x8D, 23, 98, 'Z', '9', 'A',
+                                                 0x23, 0xC6, 0x00, 0x00, 0x48, 0x03, 0x00, 0x00,
+                                                 0x83, 0x03, 0x0E, 0x0E, 0x5F, 0x00};
+    static const int64_t delays[4] = {100000, 200000, 50000, 30000};
+    static const int64_t first[5] = {500000, 7000, 11000, 13000, 19000};
+    static const int64_t step[5] = {300, 30, 6, 9, -75};
+    static uint8_t block[TRACKLINE_BLOCK_BYTES];
+    memcpy(block, sizes_and_labels, sizeof sizes_and_labels);
+    for (size_t k = 0; k < 4; k++) {
+        put_ps(block, 26 + 8 * k, delays[k]);
+    }
+    for (size_t t = 0; t < 780; t++) {
+        put_ps(block, 58 + 8 * t, 1000000 + 100 * (int64_t)t);
+    }
+    for (size_t i = 0; i < 260; i++) {
+        put_ps(block, 6298 + 8 * i, first[i % 5] + step[i % 5] * (int64_t)(i / 5));
+    }
+    fill();
+    expect("places", trackline_block(block, sizeof block, room + EDGE, 113), 0);
+    expect_true("places: the line", kept_but(wanted, 113));
+}
+
 int main(void)
 {
     lengths();
@@ -297,6 +332,7 @@ int main(void)
     order_of_line();
     order_of_block();
     corrections();
+    places();
     printf("c boundary: %d checks, %d failed\n", checked, failed);
     return failed != 0;
 }

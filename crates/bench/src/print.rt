@@ -34,7 +34,7 @@ impl Row {
 
     pub fn number(self, value: i64) -> Row {
         let mut digits = [0u8; 20];
-        let n = io::decimal(fields::magnitude(value), &mut digits);
+        let n = io::decimal(whole::magnitude(value), &mut digits);
         if value < 0 {
             return self.text(b"-").text(&digits[..n]);
         }

@@ -1,3 +1,4 @@
 pub mod Placing
 pub mod Widths
 pub mod Whole
+pub mod Spaces

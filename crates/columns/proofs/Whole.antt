@@ -8,7 +8,7 @@ use lib.ListN.{length, take, length-append}
 use Rattle.fields.specs.Text.{hexadecimal, checksum}
 use Rattle.fields.proofs.Laws.{length-hexadecimal}
 use Rattle.labels.specs.declared.Labels.{Labels}
-use Rattle.labels.specs.declared.Numbers.{Numbers}
+use Rattle.limits.specs.declared.Numbers.{Numbers}
 use Rattle.columns.specs.Placed.{Put}
 use Rattle.columns.specs.Text.{lineLength, trackColumns, clockColumns, delayColumns, columns, spaced, lineText}
 use Rattle.columns.proofs.Placing.{onto, placed-whole, placed-front}

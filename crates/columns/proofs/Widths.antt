@@ -10,7 +10,7 @@ use lib.IntN.{ℤ}
 use Rattle.fields.specs.Text.{decimal, hexadecimal, checksum}
 use Rattle.fields.proofs.Laws.{length-decimal, length-signed, length-hexadecimal}
 use Rattle.labels.specs.declared.Labels.{Labels}
-use Rattle.labels.specs.declared.Numbers.{Numbers}
+use Rattle.limits.specs.declared.Numbers.{Numbers}
 use Rattle.columns.specs.Text.{lineLength, clock, trackColumns, clockColumns, delayColumns, columns, spaced, lineText}
 
 pub length-clock : (second : ℕ) → length (clock second) ≡ 6

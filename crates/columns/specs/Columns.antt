@@ -1,12 +1,12 @@
 -- What a reader takes from the columns of a line (document 01, "The line's columns"). Nothing here comes from the writer's definitions.
 -- Assumes nothing.
 use Prim.Native.Nat.{ℕ, _+_, _-_, _*_}
-use mathlib.Core.List.{List}
+use mathlib.Core.List.{List, [], _∷_}
 use lib.ListN.{take, drop, getD}
 use lib.IntN.{pos}
 use Rattle.fields.specs.Read.{readDecimal, readSigned, readHexadecimal}
 use Rattle.labels.specs.declared.Labels.{Labels}
-use Rattle.labels.specs.declared.Numbers.{Numbers}
+use Rattle.limits.specs.declared.Numbers.{Numbers}
 
 -- A column, and columns from a first to a last one, counted from 1.
 unfoldable pub byteIn : (column : ℕ) → List ℕ → ℕ
@@ -14,6 +14,10 @@ byteIn column line = getD line (column - 1) 0
 
 unfoldable pub field : (first last : ℕ) → List ℕ → List ℕ
 field first last line = take (last + 1 - first) (drop (first - 1) line)
+
+-- The columns of the single spaces.
+unfoldable pub spaceColumns : List ℕ
+spaceColumns = 4 ∷ 7 ∷ 13 ∷ 20 ∷ 25 ∷ 29 ∷ 34 ∷ 46 ∷ 53 ∷ 65 ∷ 72 ∷ 77 ∷ 81 ∷ 86 ∷ 91 ∷ 96 ∷ 101 ∷ 104 ∷ 107 ∷ 111 ∷ []
 
 -- The ten numbers.
 unfoldable pub readNumbers : List ℕ → Numbers

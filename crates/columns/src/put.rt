@@ -7,9 +7,9 @@ ghost use lib.ListN.{length};
 ghost use Rattle.fields.specs.Text.{decimal, signed, hexadecimal};
 ghost use Rattle.columns.specs.Placed.{placed, ended, Put};
 ghost use Rattle.columns.specs.Text.{lineLength, clock, trackColumns, clockColumns, delayColumns, spaced};
-use fields::magnitude;
 use labels::Labels;
 use labels::Numbers;
+use whole::magnitude;
 
 // Digits in a part of the bytes, with no space behind them.
 fn digits_at(bytes: &mut [u8], at: usize, width: usize, value: u64)

@@ -1,20 +1,16 @@
 -- Little-endian numbers in halves, and numbers that do not lie within the bytes.
 -- Assumes nothing.
-use mathlib.Core.Path.{_≡_, refl, sym, ap, ap₂, _∙_}
+use mathlib.Core.Path.{_≡_, refl, sym, ap, _∙_}
 use mathlib.Core.Bool.{true, false}
 use mathlib.Core.List.{List, [], _∷_, _++_}
-use Prim.Native.Nat.{ℕ, zero, suc, _+_, _*_, _-_, _^_, _≤_, _<_}
-use native.Mathlib.Nat.{pow-suc, add-assoc}
+use Prim.Native.Nat.{ℕ, suc, _+_, _*_, _-_, _^_, _≤_, _<_}
+use native.Mathlib.Nat.{pow-suc}
 use native.Mathlib.Numerals.{add-one}
 use native.Mathlib.Omega.{arith}
 use lib.ListN.{length, take, drop, getD, length-drop}
 use lib.Seq.{take-add, drop-drop, drop-cons, length-take-le}
 use lib.Dec.{leb}
-use lib.IntN.{ℤ, pos, negsuc, _-ℤ_}
-use lib.Signed.{mag}
-use mir.Syntax.{w64}
-use mir.Val.{toZ, ofZ}
-use mir.Facts.{toZ-ofZ}
+use lib.IntN.{pos, negsuc}
 use borrow.Author.Tests.{le-leb, lt-leb, leb-true, leb-false, lt-ltb, le-ltb}
 use Rattle.decode.specs.Number.{little, unsignedAt, twosComplement}
 
@@ -69,10 +65,6 @@ unsigned-outside width at bytes e = simp e
 
 -- ---- two's complement
 
-pub minus-one-less : (k : ℕ) → negsuc 0 -ℤ pos k ≡ negsuc k
-minus-one-less zero = refl
-minus-one-less (suc k) = ap negsuc (ap suc (omega arith))
-
 pub lower-half : (n : ℕ) → n < 2 ^ 63 → pos n ≡ twosComplement n
 unfolding twosComplement
 lower-half n h = simp (lt-ltb n (2 ^ 63) h)
@@ -80,7 +72,3 @@ lower-half n h = simp (lt-ltb n (2 ^ 63) h)
 pub upper-half : (n : ℕ) → 2 ^ 63 ≤ n → negsuc (2 ^ 64 - 1 - n) ≡ twosComplement n
 unfolding twosComplement
 upper-half n h = simp (le-ltb n (2 ^ 63) h)
-
--- a signed result reads back from its bits
-pub back : (z : ℤ) → mag z < 2 ^ 63 → toZ w64 (ofZ w64 z) ≡ z
-back z h = toZ-ofZ (record { sfits = h })

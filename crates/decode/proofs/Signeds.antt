@@ -3,16 +3,17 @@
 use mathlib.Core.Path.{_≡_, refl, sym, ap, ap₂, _∙_}
 use mathlib.Core.Bool.{true, false}
 use mathlib.Core.List.{List, [], _∷_, _++_, append-assoc, append-nil}
-use Prim.Native.Nat.{ℕ, zero, suc, _+_, _*_, _-_, _≤_, _<_, min}
-use native.Mathlib.Numerals.{add-one}
+use Prim.Native.Nat.{ℕ, zero, suc, _+_, _*_, _-_, _/_, _≤_, _<_, min}
+use native.Mathlib.Numerals.{add-one, sub-one}
 use native.Mathlib.Omega.{arith}
-use native.Mathlib.Nat.{not-suc-le-zero, le-of-suc-le-suc}
+use native.Mathlib.Nat.{not-suc-le-zero, le-of-suc-le-suc, not-le-of-lt, mul-le-mul-left, le-div-iff-mul-le}
 use lib.ListN.{length, take, set, getD}
 use lib.Seq.{take-suc-set, take-all}
 use lib.Dec.{leb}
 use lib.IntN.{ℤ, pos}
-use borrow.Author.Tests.{lt-leb, leb-true, leb-false}
-use Rattle.decode.specs.Number.{unsignedAt, twosComplement, signedAt, signedsAt}
+use borrow.Author.Tests.{le-leb, lt-leb, leb-true, leb-false}
+use Rattle.decode.specs.Number.{twosComplement, signedAt, signedsAt}
+use Rattle.decode.specs.Row.{rowLies}
 use Rattle.decode.proofs.Little.{unsigned-outside}
 
 past : (bytes : List ℕ) (p q stride count : ℕ) → length bytes ≤ p → length bytes ≤ q → signedsAt bytes p stride count ≡ signedsAt bytes q stride count
@@ -92,3 +93,48 @@ unfolding signedsAt
 signeds-at bytes at stride zero j h = absurd (not-suc-le-zero h)
 signeds-at bytes at stride (suc count) zero h = ap (signedAt bytes) (omega arith)
 signeds-at bytes at stride (suc count) (suc j) h = signeds-at bytes (at + stride) stride count j (le-of-suc-le-suc h) ∙ ap (signedAt bytes) (omega arith)
+
+-- ---- a row that lies whole within the bytes
+
+-- where the last number lies, each does
+pub row-places : (bytes at stride count : ℕ) → rowLies bytes at stride count ≡ true → (i : ℕ) → i < count → at + stride * i + 8 ≤ bytes
+unfolding rowLies
+row-places bytes at stride zero e i h = absurd (not-suc-le-zero h)
+row-places bytes at stride (suc k) e i h =
+    let before : stride * i ≤ stride * k = mul-le-mul-left stride (le-of-suc-le-suc h) in
+    omega (arith, leb-true (at + stride * k + 8) bytes e)
+
+pub row-empty : (bytes at stride count : ℕ) → count ≡ 0 → true ≡ rowLies bytes at stride count
+unfolding rowLies
+row-empty bytes at stride count e = rw e
+
+module _ (bytes at stride : ℕ) where
+  -- where the first does not lie, the last does not
+  pub row-outside : (count : ℕ) → 0 < count → bytes < at + 8 → false ≡ rowLies bytes at stride count
+  unfolding rowLies
+  row-outside zero c h = absurd (not-suc-le-zero c)
+  row-outside (suc k) c h = sym (lt-leb (at + stride * k + 8) bytes (omega arith))
+
+  -- where it lies, the last does if the room behind it has so many strides
+  module _ (first : at + 8 ≤ bytes) where
+    pub row-still : (count : ℕ) → stride ≡ 0 → true ≡ rowLies bytes at stride count
+    unfolding rowLies
+    row-still zero s = refl
+    row-still (suc k) s = sym (le-leb (at + stride * k + 8) bytes (rw s (omega arith)))
+
+    pub row-room : (count : ℕ) → 0 < count → 0 < stride → leb (count - 1) ((bytes - at - 8) / stride) ≡ rowLies bytes at stride count
+    unfolding rowLies
+    row-room zero c s = absurd (not-suc-le-zero c)
+    row-room (suc k) c s = ap (λ (j : ℕ). leb j room) (sub-one (suc k)) ∙ elim (leb k room) as (λ t. leb k room ≡ t → t ≡ leb (at + stride * k + 8) bytes) [
+      | true ↦ λ e. sym (le-leb (at + stride * k + 8) bytes (within (le-div-iff-mul-le s .0 (leb-true k room e))))
+      | false ↦ λ e. sym (lt-leb (at + stride * k + 8) bytes (over (λ m. not-le-of-lt (leb-false k room e) (le-div-iff-mul-le s .1 m))))
+    ] refl
+      where
+        room : ℕ
+        room = (bytes - at - 8) / stride
+
+        within : k * stride ≤ bytes - at - 8 → at + stride * k + 8 ≤ bytes
+        within m = omega arith
+
+        over : (k * stride ≤ bytes - at - 8 → ⊥) → bytes < at + stride * k + 8
+        over m = omega arith

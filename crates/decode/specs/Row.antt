@@ -1,7 +1,11 @@
--- What the decoder asks of a row that it reads without testing each number.
+-- The test of a row that is read without testing each number.
 -- Assumes nothing.
-use Prim.Native.Nat.{ℕ, _+_, _*_, _≤_, _<_}
+use Prim.Native.Nat.{ℕ, zero, suc, _+_, _*_}
+use mathlib.Core.Bool.{Bool, true}
+use lib.Dec.{leb}
 
--- So many numbers of eight bytes, the first at an offset and each a stride behind the one before, all lie within so many bytes.
-pub record RowLies (bytes at stride count : ℕ) : Type 0 where
-  pub lies : (i : ℕ) → i < count → at + stride * i + 8 ≤ bytes
+-- So many numbers of eight bytes, the first at an offset and each a stride behind the one before, lie within so many bytes: there are none, or the
+-- last of them lies there.
+unfoldable pub rowLies : (bytes at stride count : ℕ) → Bool
+rowLies bytes at stride zero = true
+rowLies bytes at stride (suc before) = leb (at + stride * before + 8) bytes

@@ -4,7 +4,8 @@ ghost use Prim.Native.Nat.{_+_, _≤_, min};
 ghost use lib.ListN.{length, take, drop};
 ghost use mathlib.Core.Bool.{true};
 ghost use Rattle.decode.specs.Number.{little, signedsAt};
-ghost use Rattle.decode.specs.Row.{RowLies};
+ghost use Rattle.decode.specs.Row.{rowLies};
+use super::lies;
 use super::twos_complement;
 
 // The place a stride behind another, or the end where that would be past it.
@@ -40,20 +41,18 @@ pub fn unsigned64(bytes: &[u8], at: usize) -> u64
     unsigned32(bytes, at) as u64 + 4294967296 * unsigned32(bytes, at + 4) as u64
 }
 
-// Whether so many signed numbers, the first at an offset and each a stride behind the one before, all lie within so many bytes. A row
-// of enormous strides or counts is left to the careful way.
-pub fn row_lies(bytes: usize, at: usize, stride: usize, count: usize) -> bool
-    ensures { λ r. ⌜ (r ≡ true → RowLies bytes at stride count) ⌝ }
+// Whether so many signed numbers, the first at an offset and each a stride behind the one before, all lie within the bytes. The room behind
+// the first number is divided, as a product could overflow.
+pub fn row_lies(bytes: &[u8], at: usize, stride: usize, count: usize) -> bool
+    ensures { λ r. ⌜ r ≡ rowLies (length (now (bytes .entry))) at stride count ⌝ }
 {
-    if (count == 0) | (65536 < count) | (65536 < stride) | (bytes < at) {
-        return count == 0;
-    }
-    stride * (count - 1) + 8 <= bytes - at
+    count == 0
+        || lies(bytes, at, 8) && (stride == 0 || count - 1 <= (bytes.len() - at - 8) / stride)
 }
 
 // Fills out with the signed numbers of such a row.
 pub fn fill(bytes: &[u8], at: usize, stride: usize, out: &mut [i64])
-    requires { ⌜ RowLies (length (now bytes)) at stride (length (now out)) ⌝ }
+    requires { ⌜ rowLies (length (now bytes)) at stride (length (now out)) ≡ true ⌝ }
     ensures { λ _. ⌜ now (out .exit) ≡ signedsAt (now (bytes .entry)) at stride (length (now (out .entry))) ⌝ }
 {
     for i in 0..out.len() {

@@ -66,7 +66,7 @@ pub fn signed64(bytes: &[u8], at: usize) -> i64
 pub fn fill(bytes: &[u8], at: usize, stride: usize, out: &mut [i64])
     ensures { λ _. ⌜ now (out .exit) ≡ signedsAt (now (bytes .entry)) at stride (length (now (out .entry))) ⌝ }
 {
-    if inside::row_lies(bytes.len(), at, stride, out.len()) {
+    if inside::row_lies(bytes, at, stride, out.len()) {
         return inside::fill(bytes, at, stride, out);
     }
     fill_past(bytes, at, stride, out)

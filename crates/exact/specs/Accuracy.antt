@@ -13,10 +13,11 @@ use Rattle.whole.specs.Identity.{identity, quote}
 use Rattle.whole.specs.Linear.{le-by, le-is, lt-is}
 use Rattle.whole.specs.Order.{_⩽_, _⋖_, le-refl, le-of-eq, le-of-lt, le-shift, cancel-le, pos-le, zero-le-pos, mul-le, mul-pos}
 use Rattle.whole.specs.Magnitude.{magnitude-mul, magnitude-combined}
+use Rattle.limits.specs.declared.Numbers.{Numbers}
 use Rattle.exact.specs.Parabola.{LeastParabola, ExactSmoothed}
 use Rattle.exact.specs.Line.{LeastLine, lineMisfit}
 use Rattle.exact.specs.Corrected.{Given, at, block, toA, toB}
-use Rattle.exact.specs.Accurate.{AccurateLine, AccurateScatter, Figures, AccurateTrack}
+use Rattle.exact.specs.Accurate.{AccurateLine, AccurateScatter, AccurateTrack}
 use Rattle.exact.specs.Weights.{weights, place}
 use Rattle.exact.specs.Smoothing.{weights-exact}
 use Rattle.exact.specs.Places.{span}
@@ -179,7 +180,7 @@ accurate-scatter n h v Y e {dsg} e-pos near s =
 -- ---- the track
 
 -- What Track computes for n blocks: smoothed values v, the four kinds of corrected values, and their fits.
-pub record Computed (n : ℕ) (g : Given) (v A B C D : ℕ → ℤ) (f : Figures) : Type 0 where
+pub record Computed (n : ℕ) (g : Given) (v A B C D : ℕ → ℤ) (f : Numbers) : Type 0 where
   pub smoothed : (j : ℕ) → j < n → Rounded (v j) (sum 15 (λ i. at weights i *ℤ block g j i)) (pos 1105)
   pub isA : (j : ℕ) → j < n → A j ≡ toA g (pos 1) j (v j)
   pub isB : (j : ℕ) → j < n → B j ≡ toB g (pos 1) j (v j)
@@ -191,7 +192,7 @@ pub record Computed (n : ℕ) (g : Given) (v A B C D : ℕ → ℤ) (f : Figures
   pub fitD : RoundedFit n D (f .mdio) (f .smdi)
   pub scatterB : RoundedScatter n B (f .dsg)
 
-pub accurate-track : (n : ℕ) → 51 ≤ n → (g : Given) (v A B C D : ℕ → ℤ) (f : Figures) → Computed n g v A B C D f
+pub accurate-track : (n : ℕ) → 51 ≤ n → (g : Given) (v A B C D : ℕ → ℤ) (f : Numbers) → Computed n g v A B C D f
     → AccurateTrack n g f
 accurate-track n h g v A B C D f t =
     record {

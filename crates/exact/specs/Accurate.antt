@@ -5,6 +5,7 @@ use Prim.Native.Nat.{ℕ}
 use lib.IntN.{ℤ, pos, _+ℤ_, _-ℤ_, _*ℤ_}
 use lib.Signed.{_≤ℤ_}
 use Rattle.whole.specs.Square.{squared, magnitude}
+use Rattle.limits.specs.declared.Numbers.{Numbers}
 use Rattle.exact.specs.Parabola.{ExactSmoothed}
 use Rattle.exact.specs.Line.{LeastLine, lineMisfit}
 use Rattle.exact.specs.Corrected.{Given, at, block, toA, toB}
@@ -24,20 +25,9 @@ pub record AccurateScatter (n : ℕ) (Y : ℕ → ℤ) (e dsg : ℤ) : Type 0 wh
   pub atLeast : (P Q d : ℤ) → LeastLine n Y e P Q d → pos 1 ≤ℤ dsg
       → (pos n *ℤ squared (pos 100 *ℤ dsg -ℤ pos 51) *ℤ squared (pos 2 *ℤ d *ℤ e)) ≤ℤ lineMisfit n Y e P Q d
 
--- The figures of a track of n blocks: the midpoints and slopes of A, B, C and D, and DSG.
-pub record Figures : Type 0 where
-  pub refsv : ℤ
-  pub srsv : ℤ
-  pub refsys : ℤ
-  pub srsys : ℤ
-  pub mdtr : ℤ
-  pub smdt : ℤ
-  pub mdio : ℤ
-  pub smdi : ℤ
-  pub dsg : ℤ
-
--- They are accurate for what was given: A and B with the exact smoothed values, C and D as the columns stand.
-pub record AccurateTrack (n : ℕ) (g : Given) (f : Figures) : Type 0 where
+-- The midpoints and slopes of A, B, C and D of a track of n blocks, and its DSG, are accurate for what was given: A and B with the exact
+-- smoothed values, C and D as the columns stand.
+pub record AccurateTrack (n : ℕ) (g : Given) (f : Numbers) : Type 0 where
   pub a : (Y : ℕ → ℤ) (e : ℤ) → ExactSmoothed n (block g) Y e
       → AccurateLine n (λ j. toA g e j (Y j)) e (f .refsv) (f .srsv)
   pub b : (Y : ℕ → ℤ) (e : ℤ) → ExactSmoothed n (block g) Y e

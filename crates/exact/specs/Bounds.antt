@@ -2,18 +2,17 @@
 -- midpoint, slope and residuals are rounded to the nearest whole number again. How far are they from the exact figures?
 -- Document 01 has n = 52 and s = 1. Each bound is one theorem for all four fits.
 -- Assumes nothing.
-use mathlib.Core.Path.{_≡_, refl, sym, ap, ap₂, _∙_, subst, subst₂}
-use mathlib.Core.List.{List, [], _∷_}
-use Prim.Native.Nat.{ℕ, suc, _+_, _*_, _-_, _≤_, _<_}
+use mathlib.Core.Path.{_≡_, refl, sym, ap, _∙_, subst}
+use mathlib.Core.List.{[], _∷_}
+use Prim.Native.Nat.{ℕ, _≤_, _<_}
 use native.Mathlib.Omega.{arith}
-use lib.IntN.{ℤ, pos, negℤ, _+ℤ_, _-ℤ_, _*ℤ_}
-use Rattle.whole.specs.Square.{squared, magnitude}
+use lib.IntN.{ℤ, pos, _+ℤ_, _-ℤ_, _*ℤ_}
+use Rattle.whole.specs.Square.{magnitude}
 use Rattle.whole.specs.Sum.{sum}
 use Rattle.whole.specs.Identity.{identity, quote}
-use Rattle.whole.specs.Linear.{le-by, le-is, lt-is}
-use Rattle.whole.specs.Order.{_⩽_, _⋖_, le-refl, le-trans, le-of-eq, le-of-lt, le-slack, le-shift, pos-lt, zero-le-pos, mul-nonneg, mul-pos, mul-le, mul-le-mul, cancel-le, square-nonneg, square-le, square-pos}
-use Rattle.whole.specs.Magnitude.{magnitude-mul, magnitude-nonneg, magnitude-combined, square-magnitude, magnitude-scaled}
-use Rattle.whole.specs.Sums.{sum-eq, sums-le, sums, sum-cong, sum-le, sum-constant, sum-squares-nonneg, magnitude-sum, magnitude-sum-le}
+use Rattle.whole.specs.Order.{_⩽_, _⋖_, le-trans, le-of-eq, le-of-lt, pos-lt, zero-le-pos, mul-nonneg, mul-pos, mul-le}
+use Rattle.whole.specs.Magnitude.{magnitude-mul, magnitude-nonneg, magnitude-combined}
+use Rattle.whole.specs.Sums.{sum-eq, sums-le, sums, sum-scale, magnitude-sum, magnitude-sum-le}
 use Rattle.exact.specs.Line.{LeastLine}
 use Rattle.exact.specs.Weights.{place}
 use Rattle.exact.specs.Places.{span, sum-magnitude-place}
@@ -22,6 +21,17 @@ use Rattle.exact.specs.Fitting.{midpoint-exact, slope-exact}
 -- twice the difference of v and Y / e, times e
 abbrev pub gap : (ℕ → ℤ) → (ℕ → ℤ) → ℤ → ℕ → ℤ
 gap v Y e j = pos 2 *ℤ e *ℤ v j -ℤ pos 2 *ℤ Y j
+
+-- the gaps summed, and summed with the places for weights
+module _ (n : ℕ) (v Y : ℕ → ℤ) (e : ℤ) where
+  pub sum-gap : sum n (gap v Y e) ≡ pos 2 *ℤ e *ℤ sum n v -ℤ pos 2 *ℤ sum n Y
+  sum-gap = sum-eq n (search sums depth 12) (λ j k. refl)
+
+  pub moment-gap : sum n (λ j. place n j *ℤ gap v Y e j)
+      ≡ pos 2 *ℤ e *ℤ sum n (λ j. place n j *ℤ v j) -ℤ pos 2 *ℤ sum n (λ j. place n j *ℤ Y j)
+  moment-gap =
+      sum-eq n (search sums depth 12)
+      (λ j k. identity (e ∷ place n j ∷ v j ∷ Y j ∷ []) (search quote depth 20 fits 4000) tt)
 
 -- each v is within half a step of Y / e
 abbrev pub Near : ℕ → (ℕ → ℤ) → (ℕ → ℤ) → ℤ → Type 0
@@ -41,10 +51,7 @@ module _ (s n : ℕ) (v : ℕ → ℤ) {Y : ℕ → ℤ} {e P Q d : ℤ} (h : 2 
   -- ---- the midpoint: half a unit, and half a step for the mean of the values
 
   sum-near : magnitude (pos 2 *ℤ e *ℤ sum n v -ℤ pos 2 *ℤ sum n Y) ⩽ pos n *ℤ e
-  sum-near = subst (λ (z : ℤ). magnitude z ⩽ pos n *ℤ e) collected (magnitude-sum-le n (gap v Y e) near)
-    where
-      collected : sum n (gap v Y e) ≡ pos 2 *ℤ e *ℤ sum n v -ℤ pos 2 *ℤ sum n Y
-      collected = sum-eq n (search sums depth 12) (λ j k. refl)
+  sum-near = subst (λ (z : ℤ). magnitude z ⩽ pos n *ℤ e) (sum-gap n v Y e) (magnitude-sum-le n (gap v Y e) near)
 
   -- of 100 s steps in a unit: |r - P / 100sd| is at most (100s + 1) / 200s
   pub midpoint-bound : (r : ℤ) → Rounded r (sum n v) (pos 100 *ℤ pos s *ℤ pos n)
@@ -82,9 +89,7 @@ module _ (s n : ℕ) (v : ℕ → ℤ) {Y : ℕ → ℤ} {e P Q d : ℤ} (h : 2 
     where
       collected : sum n (λ j. pos 2 *ℤ (place n j *ℤ gap v Y e j))
           ≡ pos 2 *ℤ (pos 2 *ℤ e *ℤ sum n (λ j. place n j *ℤ v j) -ℤ pos 2 *ℤ sum n (λ j. place n j *ℤ Y j))
-      collected =
-          sum-eq n (search sums depth 12)
-          (λ j k. identity (e ∷ place n j ∷ v j ∷ Y j ∷ []) (search quote depth 30 fits 8000) tt)
+      collected = sym (sum-scale n (pos 2) (λ j. place n j *ℤ gap v Y e j)) ∙ ap (λ (z : ℤ). pos 2 *ℤ z) (moment-gap n v Y e)
 
       reordered : (e u : ℤ) → e *ℤ (pos 2 *ℤ u) ≡ pos 2 *ℤ e *ℤ u
       reordered e u = identity (e ∷ u ∷ []) (search quote depth 20) tt

@@ -1,17 +1,17 @@
 -- The least line through n values: its normal equations, that it exists, and that midpoint, slope and least sum are one number each.
 -- S is the sum of the values, T the sum of (2j - (n - 1)) times the value, both over the values' denominator e.
 -- Assumes nothing.
-use mathlib.Core.Path.{_≡_, refl, sym, ap, ap₂, _∙_, subst, subst₂}
-use mathlib.Core.List.{List, [], _∷_}
-use Prim.Native.Nat.{ℕ, suc, _+_, _*_, _-_, _≤_, _<_}
+use mathlib.Core.Path.{_≡_, sym, ap, _∙_, subst₂}
+use mathlib.Core.List.{[], _∷_}
+use Prim.Native.Nat.{ℕ, _*_, _-_, _≤_, _<_}
 use native.Mathlib.Nat.{one-le-mul, mul-le-mul-left}
 use native.Mathlib.Omega.{arith}
-use lib.IntN.{ℤ, pos, negℤ, _+ℤ_, _-ℤ_, _*ℤ_, *ℤ-zero, *ℤ-comm}
+use lib.IntN.{ℤ, pos, _+ℤ_, _-ℤ_, _*ℤ_, *ℤ-zero, *ℤ-comm}
 use Rattle.whole.specs.Square.{squared}
 use Rattle.whole.specs.Sum.{sum}
 use Rattle.whole.specs.Ring.{eq-of-sub}
 use Rattle.whole.specs.Identity.{identity, quote}
-use Rattle.whole.specs.Order.{_⩽_, _⋖_, mul-pos, cancel-eq, le-antisymm, pos-lt}
+use Rattle.whole.specs.Order.{_⩽_, _⋖_, mul-pos, cancel-eq, pos-lt, square-mul}
 use Rattle.whole.specs.Sums.{sum-eq, sums, sum-cong}
 use Rattle.exact.specs.Line.{twiceSeconds, lineResidual, lineMisfit, LeastLine}
 use Rattle.exact.specs.LeastSquares.{misfit, Kind, Orthogonal, orthogonal, least}
@@ -242,8 +242,5 @@ module _ {n : ℕ} {Y Y′ : ℕ → ℤ} {e e′ P P′ Q Q′ d d′ : ℤ} (h
   unfolding lineMisfit
   line-misfit-unique =
       sum-eq n (search sums depth 12)
-      (λ j k. factor (e′ *ℤ d′) (lineResidual n Y e P Q d j) ∙ ap squared (residual-unique j k)
-      ∙ sym (factor (e *ℤ d) (lineResidual n Y′ e′ P′ Q′ d′ j)))
-    where
-      factor : (a r : ℤ) → squared a *ℤ squared r ≡ squared (a *ℤ r)
-      factor a r = identity (a ∷ r ∷ []) (search quote depth 20) tt
+      (λ j k. square-mul (e′ *ℤ d′) (lineResidual n Y e P Q d j) ∙ ap squared (residual-unique j k)
+      ∙ sym (square-mul (e *ℤ d) (lineResidual n Y′ e′ P′ Q′ d′ j)))

@@ -1,9 +1,9 @@
 -- Least squares in general: of all curves of a kind, one has the least sum of squared residuals exactly when its residuals are orthogonal to every
 -- curve of the kind. A kind is any family of functions that is closed under linear combination; parabolas and lines are two.
 -- Assumes nothing.
-use mathlib.Core.Path.{_≡_, sym, ap, _∙_, subst, subst₂}
-use mathlib.Core.List.{List, [], _∷_}
-use Prim.Native.Nat.{ℕ, _<_}
+use mathlib.Core.Path.{_≡_, sym, ap, _∙_, subst}
+use mathlib.Core.List.{[], _∷_}
+use Prim.Native.Nat.{ℕ}
 use lib.IntN.{ℤ, pos, negℤ, _+ℤ_, _-ℤ_, _*ℤ_}
 use Rattle.whole.specs.Square.{squared}
 use Rattle.whole.specs.Sum.{sum}

@@ -1,7 +1,7 @@
 -- The places 2j - (n - 1) of n values (module Weights). Value j lies 15 / 2 times its place, in seconds, from the mean date. The places add up to 0, their squares to n (n² - 1) / 3, and their magnitudes to at most n² / 2.
 -- Assumes nothing.
-use mathlib.Core.Path.{_≡_, refl, sym, ap, ap₂, _∙_, subst, subst₂}
-use mathlib.Core.List.{List, [], _∷_}
+use mathlib.Core.Path.{_≡_, refl, sym, ap, ap₂, _∙_, subst₂}
+use mathlib.Core.List.{[], _∷_}
 use Prim.Native.Nat.{ℕ, zero, suc, _+_, _*_, _-_, _≤_, _<_}
 use native.Mathlib.Nat.{one-le-mul}
 use native.Mathlib.Omega.{arith}
@@ -9,7 +9,7 @@ use lib.IntN.{ℤ, pos, negℤ, _+ℤ_, _-ℤ_, _*ℤ_}
 use Rattle.whole.specs.Square.{squared, magnitude}
 use Rattle.whole.specs.Sum.{sum}
 use Rattle.whole.specs.Identity.{identity, quote}
-use Rattle.whole.specs.Order.{_⩽_, _⋖_, le-refl, le-shift}
+use Rattle.whole.specs.Order.{_⩽_, le-refl, le-shift}
 use Rattle.whole.specs.Magnitude.{magnitude-neg}
 use Rattle.whole.specs.Sums.{sum-cong, sum-first}
 use Rattle.exact.specs.Line.{twiceMeanDate, twiceSeconds}
@@ -44,6 +44,9 @@ span-is n h = ap (λ (z : ℤ). pos n *ℤ z) (minus-one (n * n) (one-le-mul h h
 
 one-more : (n : ℕ) → pos (suc n) ≡ pos n +ℤ pos 1
 one-more n = ap pos (omega arith)
+
+two-more : (n : ℕ) → pos (suc (suc n)) ≡ pos n +ℤ pos 2
+two-more n = ap pos {x = suc (suc n)} {y = n + 2} (omega arith)
 
 -- ---- sums over 2j - c, for any c
 
@@ -122,14 +125,11 @@ place-inside n j h = place-from (suc (suc n)) (omega arith) (suc j) ∙ shifted 
     J : pos (2 * suc j) ≡ pos (2 * j) +ℤ pos 2
     J = ap pos {x = 2 * suc j} {y = 2 * j + 2} (omega arith)
 
-    N : pos (suc (suc n)) ≡ pos n +ℤ pos 2
-    N = ap pos {x = suc (suc n)} {y = n + 2} (omega arith)
-
     cancel : (j n : ℤ) → j +ℤ pos 2 -ℤ (n +ℤ pos 2 -ℤ pos 1) ≡ j -ℤ (n -ℤ pos 1)
     cancel j n = identity (j ∷ n ∷ []) (search quote depth 20) tt
 
     shifted : pos (2 * suc j) -ℤ (pos (suc (suc n)) -ℤ pos 1) ≡ pos (2 * j) -ℤ (pos n -ℤ pos 1)
-    shifted = ap₂ (λ (a b : ℤ). a -ℤ (b -ℤ pos 1)) J N ∙ cancel (pos (2 * j)) (pos n)
+    shifted = ap₂ (λ (a b : ℤ). a -ℤ (b -ℤ pos 1)) J (two-more n) ∙ cancel (pos (2 * j)) (pos n)
 
 magnitude-first : (n : ℕ) → magnitude (place (suc (suc n)) 0) ≡ pos (suc n)
 magnitude-first n =
@@ -157,11 +157,8 @@ unfolding sum place
 sum-magnitude-place zero = le-refl (pos 0)
 sum-magnitude-place (suc zero) = record { le = tt }
 sum-magnitude-place (suc (suc n)) =
-    subst₂ (λ (u N : ℤ). pos 2 *ℤ u ⩽ N *ℤ N) (sym both-ends) (sym two-more) (grown (pos n) (sum n (λ j. magnitude (place n j))) (sum-magnitude-place n))
+    subst₂ (λ (u N : ℤ). pos 2 *ℤ u ⩽ N *ℤ N) (sym both-ends) (sym (two-more n)) (grown (pos n) (sum n (λ j. magnitude (place n j))) (sum-magnitude-place n))
   where
-    two-more : pos (suc (suc n)) ≡ pos n +ℤ pos 2
-    two-more = ap pos {x = suc (suc n)} {y = n + 2} (omega arith)
-
     both-ends : sum (suc (suc n)) (λ j. magnitude (place (suc (suc n)) j))
         ≡ pos n +ℤ pos 1 +ℤ sum n (λ j. magnitude (place n j)) +ℤ (pos n +ℤ pos 1)
     both-ends =

@@ -5,21 +5,21 @@
 -- Assumes nothing.
 use mathlib.Core.Path.{_≡_, refl, sym, ap, ap₂, _∙_, subst, subst₂, subst₃}
 use mathlib.Core.List.{List, [], _∷_}
-use Prim.Native.Nat.{ℕ, suc, _+_, _*_, _-_, _≤_, _<_}
+use Prim.Native.Nat.{ℕ, _*_, _-_, _≤_, _<_}
 use native.Mathlib.Omega.{arith}
-use lib.IntN.{ℤ, pos, negℤ, _+ℤ_, _-ℤ_, _*ℤ_}
+use lib.IntN.{ℤ, pos, _+ℤ_, _-ℤ_, _*ℤ_}
 use Rattle.whole.specs.Square.{squared, magnitude}
 use Rattle.whole.specs.Sum.{sum}
 use Rattle.whole.specs.Identity.{identity, quote}
 use Rattle.whole.specs.Linear.{le-by, le-is}
-use Rattle.whole.specs.Order.{_⩽_, _⋖_, lt-le-trans, le-trans, le-of-eq, le-slack, le-shift, add-le, sub-nonneg, zero-le-pos, mul-nonneg, mul-le, cancel-le, square-nonneg, square-le, square-pos}
+use Rattle.whole.specs.Order.{_⩽_, _⋖_, lt-le-trans, le-trans, le-of-eq, le-slack, le-shift, add-le, sub-nonneg, zero-le-pos, mul-nonneg, mul-le, cancel-le, square-nonneg, square-le, square-mul, square-pos}
 use Rattle.whole.specs.Magnitude.{magnitude-nonneg, square-magnitude}
 use Rattle.whole.specs.Sums.{sum-eq, sums-le, sums, sum-squares-nonneg}
 use Rattle.exact.specs.Line.{lineResidual, lineMisfit, LeastLine}
 use Rattle.exact.specs.Weights.{place}
 use Rattle.exact.specs.Places.{span, sum-place, sum-place²}
 use Rattle.exact.specs.Fitting.{line, residual-is, midpoint-exact, slope-exact, span-pos}
-use Rattle.exact.specs.Bounds.{gap, Near, Rounded}
+use Rattle.exact.specs.Bounds.{gap, sum-gap, moment-gap, Near, Rounded}
 
 -- The residual of value j from the least line through the whole values u, times n (n² - 1).
 unfoldable pub spread : ℕ → (ℕ → ℤ) → ℕ → ℤ
@@ -176,19 +176,10 @@ module _ (n : ℕ) (v : ℕ → ℤ) {Y : ℕ → ℤ} {e P Q d : ℤ} (h : 2 �
   gap-spread : (j : ℕ) → spread n (gap v Y e) j ≡ pos 2 *ℤ e *ℤ spread n v j -ℤ pos 2 *ℤ spread n Y j
   unfolding spread
   gap-spread j =
-      ap₂ (λ (S T : ℤ). pos (span n) *ℤ gap v Y e j -ℤ pos (n * n - 1) *ℤ S -ℤ pos 3 *ℤ (place n j *ℤ T)) sums-of moments-of
+      ap₂ (λ (S T : ℤ). pos (span n) *ℤ gap v Y e j -ℤ pos (n * n - 1) *ℤ S -ℤ pos 3 *ℤ (place n j *ℤ T)) (sum-gap n v Y e) (moment-gap n v Y e)
       ∙ regrouped (pos (span n)) (pos (n * n - 1)) (v j) (Y j) (sum n v) (sum n Y) (place n j)
       (sum n (λ i. place n i *ℤ v i)) (sum n (λ i. place n i *ℤ Y i))
     where
-      sums-of : sum n (gap v Y e) ≡ pos 2 *ℤ e *ℤ sum n v -ℤ pos 2 *ℤ sum n Y
-      sums-of = sum-eq n (search sums depth 12) (λ j k. refl)
-
-      moments-of : sum n (λ i. place n i *ℤ gap v Y e i)
-          ≡ pos 2 *ℤ e *ℤ sum n (λ i. place n i *ℤ v i) -ℤ pos 2 *ℤ sum n (λ i. place n i *ℤ Y i)
-      moments-of =
-          sum-eq n (search sums depth 12)
-          (λ i k. identity (e ∷ place n i ∷ v i ∷ Y i ∷ []) (search quote depth 20 fits 4000) tt)
-
       regrouped : (N m v y S S′ x T T′ : ℤ)
           → N *ℤ (pos 2 *ℤ e *ℤ v -ℤ pos 2 *ℤ y) -ℤ m *ℤ (pos 2 *ℤ e *ℤ S -ℤ pos 2 *ℤ S′)
           -ℤ pos 3 *ℤ (x *ℤ (pos 2 *ℤ e *ℤ T -ℤ pos 2 *ℤ T′))
@@ -224,7 +215,7 @@ module _ (n : ℕ) (v : ℕ → ℤ) {Y : ℕ → ℤ} {e P Q d : ℤ} (h : 2 �
       → squared N *ℤ squared (apart j)
       ⩽ pos 2 *ℤ (squared (d *ℤ e) *ℤ squared N) +ℤ pos 2 *ℤ squared d *ℤ squared (spread n (gap v Y e) j)
   apart-square j k =
-      le-trans (le-of-eq (factor N (apart j) ∙ ap squared (apart-parts j)))
+      le-trans (le-of-eq (square-mul N (apart j) ∙ ap squared (apart-parts j)))
       (le-trans (two-squares (d *ℤ e *ℤ x) (d *ℤ y))
       (le-shift
       (mul-le (pos 2 *ℤ squared (d *ℤ e)) (mul-nonneg (zero-le-pos 2) (square-nonneg (d *ℤ e))) (square-within x N (rounded j k)))
@@ -235,9 +226,6 @@ module _ (n : ℕ) (v : ℕ → ℤ) {Y : ℕ → ℤ} {e P Q d : ℤ} (h : 2 �
 
       y : ℤ
       y = spread n (gap v Y e) j
-
-      factor : (a b : ℤ) → squared a *ℤ squared b ≡ squared (a *ℤ b)
-      factor a b = identity (a ∷ b ∷ []) (search quote depth 20) tt
 
       two-squares : (a b : ℤ) → squared (a +ℤ b) ⩽ pos 2 *ℤ squared a +ℤ pos 2 *ℤ squared b
       two-squares a b = le-slack (square-nonneg (a -ℤ b)) (identity (a ∷ b ∷ []) (search quote depth 20) tt)
@@ -278,8 +266,7 @@ module _ (n : ℕ) (v : ℕ → ℤ) {Y : ℕ → ℤ} {e P Q d : ℤ} (h : 2 �
   W = lineMisfit n Y e P Q d
 
   whole-squares : sum n (λ j. squared (pos 2 *ℤ d *ℤ e *ℤ r j)) ≡ U
-  whole-squares =
-      sum-eq n (search sums depth 12) (λ j k. identity (d ∷ e ∷ r j ∷ []) (search quote depth 20 fits 4000) tt)
+  whole-squares = sum-eq n (search sums depth 12) (λ j k. sym (square-mul (pos 2 *ℤ d *ℤ e) (r j)))
 
   exact-squares : sum n (λ j. squared (lineResidual n Y e P Q d j)) ≡ W
   unfolding lineMisfit

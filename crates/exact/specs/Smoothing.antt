@@ -1,16 +1,14 @@
 -- The least parabola through fifteen measurements: the table's weights are its weights, it exists, and its middle value is one number.
 -- Assumes nothing.
-use mathlib.Core.Path.{_≡_, refl, sym, ap, ap₂, _∙_, subst, subst₂}
+use mathlib.Core.Path.{_≡_, refl, sym, ap, _∙_}
 use mathlib.Core.List.{List, [], _∷_, reverse}
 use Prim.Native.Nat.{ℕ, _<_}
-use native.Mathlib.Omega.{arith}
-use lib.ListN.{getD}
-use lib.IntN.{ℤ, pos, negsuc, negℤ, _+ℤ_, _-ℤ_, _*ℤ_, +ℤ-idl}
+use lib.IntN.{ℤ, pos, negℤ, _+ℤ_, _-ℤ_, _*ℤ_, +ℤ-idl}
 use Rattle.whole.specs.Square.{squared}
 use Rattle.whole.specs.Sum.{sum}
 use Rattle.whole.specs.Table.{tabulate}
 use Rattle.whole.specs.Identity.{identity, quote}
-use Rattle.whole.specs.Order.{_⩽_, _⋖_, cancel-eq}
+use Rattle.whole.specs.Order.{_⋖_, cancel-eq}
 use Rattle.whole.specs.Sums.{sum-eq, sums, sum-cong}
 use Rattle.whole.specs.Tables.{tabulate-getD}
 use Rattle.exact.specs.Parabola.{second, parabolaMisfit, LeastParabola, ExactSmoothed}

@@ -1,24 +1,22 @@
 -- Laws of the definitions that the loops step by.
 -- Assumes nothing.
-use mathlib.Core.Path.{_≡_, refl, sym, ap, ap₂, _∙_}
+use mathlib.Core.Path.{_≡_, refl, ap, ap₂, _∙_}
 use mathlib.Core.List.{List, [], _∷_, _++_, append-assoc, append-nil}
 use Prim.Native.Nat.{ℕ, zero, suc, _+_, _-_, _*_, _/_, _%_, _^_, _≤_, _<_}
 use native.Mathlib.Nat.{not-suc-le-zero, pow-suc}
 use native.Mathlib.Omega.{arith}
-use native.Mathlib.Numerals.{add-one}
+use native.Mathlib.Numerals.{add-one, sub-one}
 use lib.ListN.{length, take, drop, set, getD, length-append}
 use lib.Seq.{take-suc, take-length, drop-length}
-use mathlib.Core.Bool.{true, false}
+use mathlib.Core.Bool.{true, false, true≢false}
 use lib.Dec.{ltb}
 use borrow.Author.Tests.{ltb-true, ltb-false, le-leb, lt-leb}
 use lib.IntN.{ℤ, pos, negsuc, negℤ, natAbs}
+use lib.Signed.{ltZ}
 use borrow.Rule.Slice.PartMut.{putMid, midOf}
 use Rattle.fields.specs.Text.{decimal, sign, signed, hexDigit, hexadecimal, byteSum}
 use Rattle.fields.specs.Read.{digitsAfter, readDecimal, readSigned, readDigit, readHexadecimal}
 use Rattle.fields.proofs.Lists.{drop-set-same}
-
-less : (i : ℕ) → suc i - 1 ≡ i
-less i = omega arith
 
 -- the last digit stands before what follows the number
 last-digit : (n i : ℕ) (rest : List ℕ) → decimal (suc i) n ++ rest ≡ decimal i (n / 10) ++ (48 + n % 10) ∷ rest
@@ -29,7 +27,7 @@ last-digit n i rest = append-assoc (decimal i (n / 10)) ((48 + n % 10) ∷ []) r
 pub decimal-turn : (n i : ℕ) (out : List ℕ) → 0 < i → i ≤ length out
     → decimal i n ++ drop i out ≡ decimal (i - 1) (n / 10) ++ drop (i - 1) (set out (i - 1) (48 + n % 10))
 decimal-turn n zero out h k = absurd (not-suc-le-zero h)
-decimal-turn n (suc i) out h k = rw (less i, drop-set-same) (last-digit n i (drop (suc i) out))
+decimal-turn n (suc i) out h k = rw (sub-one, drop-set-same) (last-digit n i (drop (suc i) out))
 
 -- no digit is left to write
 pub decimal-done : (n i : ℕ) (out : List ℕ) → i ≤ 0 → decimal i n ++ drop i out ≡ out
@@ -64,6 +62,17 @@ byteSum-turn text i h =
     rw (add-one, take-suc text i 0)
     (byteSum-append (take i text) (getD text i 0 ∷ []) ∙ omega arith)
 
+-- the sign by the test `z < 0`
+pub sign-below : (z : ℤ) → ltZ z (pos 0) ≡ true → 45 ≡ sign z
+unfolding sign
+sign-below (pos n) e = absurd (not-suc-le-zero (ltb-true n 0 e))
+sign-below (negsuc n) e = refl
+
+pub sign-above : (z : ℤ) → ltZ z (pos 0) ≡ false → 43 ≡ sign z
+unfolding sign
+sign-above (pos n) e = refl
+sign-above (negsuc n) e = absurd (true≢false e)
+
 -- an empty part takes no sign and no digit
 pub empty-signed : (out : List ℕ) (z : ℤ) → length out ≤ 0 → out ≡ signed (length out) z
 unfolding signed
@@ -81,7 +90,7 @@ pub signed-done : (out : List ℕ) (s : ℕ) (z : ℤ) (digits : List ℕ) → 0
 unfolding signed
 signed-done [] s z digits h es ed = absurd (not-suc-le-zero h)
 signed-done (o ∷ out) s z digits h es ed =
-    ap₂ _∷_ es (part-filled out digits (suc (length out) - 1) (natAbs z) (less (length out)) ed)
+    ap₂ _∷_ es (part-filled out digits (suc (length out) - 1) (natAbs z) (sub-one (suc (length out))) ed)
 
 -- ---- read back
 

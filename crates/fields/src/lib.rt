@@ -2,8 +2,8 @@
 // A writer fills the whole part that it is lent.
 ghost use mathlib.Core.Path.{_≡_};
 ghost use lib.ListN.{length};
-ghost use lib.IntN.{natAbs};
 ghost use Rattle.fields.specs.Text.{decimal, sign, signed, hexDigit, checksum};
+use whole::magnitude;
 
 // The last decimal digits of value, one for each byte of out.
 pub fn decimal(value: u64, out: &mut [u8])
@@ -16,16 +16,6 @@ pub fn decimal(value: u64, out: &mut [u8])
         out[i] = b'0' + (rest % 10) as u8;
         rest = rest / 10;
     }
-}
-
-// The magnitude of a signed number, which fits for the least of them too.
-pub fn magnitude(value: i64) -> u64
-    ensures { λ r. ⌜ r ≡ natAbs value ⌝ }
-{
-    if value < 0 {
-        return (-1 - value) as u64 + 1;
-    }
-    value as u64
 }
 
 // The byte + or -.

@@ -1,4 +1,5 @@
 pub mod Arrays
 pub mod Blocks
 pub mod Tracks
+pub mod Largest
 pub mod Accuracy

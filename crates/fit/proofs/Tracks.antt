@@ -6,21 +6,27 @@ use mathlib.Core.Bool.{false, _||_}
 use mathlib.Core.List.{List}
 use Prim.Native.Nat.{ℕ, zero, suc, _*_, _^_, _≤_, _<_}
 use native.Mathlib.Nat.{not-suc-le-zero}
+use native.Mathlib.Omega.{arith}
 use borrow.Author.Tests.{eqb-true, not-false}
 use lib.Dec.{eqb}
 use lib.IntN.{ℤ, pos, natAbs, _+ℤ_, _-ℤ_}
+use lib.Signed.{mag}
+use mir.Syntax.{w64}
+use mir.Val.{toZ, ofZ}
 use lib.ListN.{length}
 use Rattle.whole.specs.Ring.{one-*ℤ}
+use Rattle.whole.specs.Words.{back-of}
 use Rattle.whole.specs.Table.{tabulate}
 use Rattle.whole.specs.Tables.{tabulate-getD, tabulate-cong}
 use Rattle.limits.specs.Refusal.{_when_, _then_}
 use Rattle.limits.specs.Limits.{beyond}
 use Rattle.limits.proofs.Laws.{or-false, magnitude-within, then-zero, when-zero}
 use Rattle.fit.specs.declared.TrackRecord.{TrackRecord}
-use Rattle.fit.specs.declared.results.LineNumbers.{LineNumbers}
 use Rattle.exact.specs.Corrected.{Given, at, toA, toB}
 use Rattle.limits.specs.Lists.{miscounted, anyBeyond}
 use Rattle.limits.specs.Reply.{Reply}
+use Rattle.series.specs.declared.Fitted.{Fitted}
+use Rattle.series.specs.Answers.{fitReply, fitNumbered}
 use Rattle.series.specs.Fit.{midpoint, slope, fitRule}
 use Rattle.series.proofs.Fitting.{fit-accepted}
 use Rattle.limits.proofs.Laws.{then-refused, then-assoc}
@@ -54,21 +60,26 @@ inside a b c d e =
     let one = or-false A B (ab .0) in
     record { in-a = one .0; in-b = one .1; in-c = ab .1; in-d = abc .1 }
 
--- the numbers of a line through values that are not refused, as Fit's reply gives them
-pub record LineOf (l : List ℤ) (n : LineNumbers) : Type 0 where
-  pub no-refusal : n .refusal ≡ 0
-  pub midpoint-is : n .midpoint ≡ midpoint 1 52 (at l)
-  pub slope-is : n .slope ≡ slope 1 52 (at l)
+-- Fit's answer to values that are not refused
+abbrev pub lineThrough : List ℤ → Fitted
+lineThrough l = Fitted.Line (midpoint 1 52 (at l)) (slope 1 52 (at l))
 
-pub line-of : (l : List ℤ) (n : LineNumbers) → length l ≡ 52 → anyBeyond (2 * 10 ^ 12) l ≡ false
-    → (n .refusal ≡ fitRule l .number) × (n .midpoint ≡ fitRule l .values .0) × (n .slope ≡ fitRule l .values .1) → LineOf l n
-line-of l n e h k =
-    let f = fit-accepted l e h in
-    record {
-      no-refusal = k .0 ∙ ap (λ (r : Reply (ℤ × ℤ)). r .number) f;
-      midpoint-is = k .1 ∙ ap (λ (r : Reply (ℤ × ℤ)). r .values .0) f;
-      slope-is = k .2 ∙ ap (λ (r : Reply (ℤ × ℤ)). r .values .1) f;
-    }
+pub fit-value : (l : List ℤ) → length l ≡ 52 → anyBeyond (2 * 10 ^ 12) l ≡ false → (r : Fitted) → fitReply r ≡ fitRule l → fitNumbered r
+    → r ≡ lineThrough l
+fit-value l e h (Fitted.Line m s) a n = ap (λ (r : Reply (ℤ × ℤ)). Fitted.Line (r .values .0) (r .values .1)) (a ∙ fit-accepted l e h)
+fit-value l e h (Fitted.Refused k) a n = absurd (never (ap (λ (r : Reply (ℤ × ℤ)). r .number) (a ∙ fit-accepted l e h)) n)
+  where
+    never : k ≡ 0 → 0 < k → ⊥
+    never z p = omega arith
+
+-- so it is no refusal,
+pub fit-never : {r : Fitted} {m s : ℤ} {n : ℕ} → r ≡ Fitted.Line m s → r ≡ Fitted.Refused n → ⊥
+fit-never {r} {m} {s} {n} p q = let z : _≡_ {A = ℕ} 0 1 = cc in omega arith
+
+-- and its two numbers read back from their bits
+pub fit-numbers : {r : Fitted} {x y m s : ℤ} → r ≡ Fitted.Line m s → r ≡ Fitted.Line x y → mag x < 2 ^ 63 → mag y < 2 ^ 63
+    → (toZ w64 (ofZ w64 x) ≡ m) × (toZ w64 (ofZ w64 y) ≡ s)
+fit-numbers {r} {x} {y} {m} {s} p q h k = let z : x ≡ m = cc in let w : y ≡ s = cc in (back-of h ∙ z, back-of k ∙ w)
 
 -- ---- what it tells that a track's lists and numbers are not refused
 
@@ -179,9 +190,9 @@ b-table g a e = rw e (tabulate-cong _ (valueB g) 52 same)
 abbrev pub inputsNumber : Given → ℕ
 inputsNumber g = 1 when wrongSizes g then 2 when outOfLimits g
 
-pub track-refused : (g : Given) (n : ℕ) → n ≡ inputsNumber g → 0 < n → trackRule g ≡ record { refusal = n; «record» = zeros }
+pub inputs-refused : (g : Given) (n : ℕ) → n ≡ inputsNumber g → 0 < n → trackRule g ≡ record { refusal = n; «record» = zeros }
 unfolding trackRule trackNumber
-track-refused g n e h =
+inputs-refused g n e h =
     ap (λ (k : ℕ). tracked k (results g))
     (sym (then-assoc _ _ (recordNumber (results g))) ∙ ap (λ (k : ℕ). k then recordNumber (results g)) (sym e) ∙ then-refused n _ h)
     ∙ tracked-refused n (results g) h
@@ -192,13 +203,13 @@ inputs-accepted g e =
     (when-zero 0 (wrongSizes g) (z .0), when-zero 1 (outOfLimits g) (z .1))
 
 -- a track that is not refused with 1 or 2
-pub track-passed : (g : Given) → wrongSizes g ≡ false → outOfLimits g ≡ false → trackRule g ≡ tracked (recordNumber (results g)) (results g)
+pub inputs-passed : (g : Given) → wrongSizes g ≡ false → outOfLimits g ≡ false → trackRule g ≡ tracked (recordNumber (results g)) (results g)
 unfolding trackRule trackNumber _when_ _then_
-track-passed g e h = rw (e, h)
+inputs-passed g e h = rw (e, h)
 
 -- is judged by its corrected values
 pub track-judged : (g : Given) (a b c d : List ℤ) → wrongSizes g ≡ false → outOfLimits g ≡ false
     → a ≡ tabulate (valueA g) 52 → b ≡ tabulate (valueB g) 52 → c ≡ tabulate (valueC g) 52 → d ≡ tabulate (valueD g) 52
     → tracked (recordNumber (recordOf a b c d)) (recordOf a b c d) ≡ trackRule g
 unfolding results
-track-judged g a b c d e h ea eb ec ed = rw (ea, eb, ec, ed) (sym (track-passed g e h))
+track-judged g a b c d e h ea eb ec ed = rw (ea, eb, ec, ed) (sym (inputs-passed g e h))

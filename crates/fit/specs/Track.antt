@@ -5,12 +5,12 @@ use mathlib.Core.Bool.{Bool, _||_}
 use mathlib.Core.List.{List}
 use lib.IntN.{ℤ, pos}
 use lib.ListN.{replicate}
+use Rattle.limits.specs.declared.Numbers.{Numbers}
 use Rattle.limits.specs.Refusal.{_when_, _then_}
 use Rattle.limits.specs.Limits.{beyond, limitsRule, dsgRule}
 use Rattle.fit.specs.declared.TrackRecord.{TrackRecord}
 use Rattle.fit.specs.declared.Tracked.{Tracked}
 use Rattle.whole.specs.Table.{tabulate}
-use Rattle.exact.specs.Accurate.{Figures}
 use Rattle.exact.specs.Corrected.{at, Given, block, toA, toB}
 use Rattle.limits.specs.Lists.{miscounted, anyBeyond}
 use Rattle.series.specs.Smooth.{smoothed}
@@ -34,14 +34,10 @@ valueC g j = at (g .troposphere) j
 unfoldable pub valueD : Given → ℕ → ℤ
 valueD g j = at (g .ionosphere) j
 
--- The record of the corrected values: they themselves, and their ten numbers.
-unfoldable pub recordOf : (a b c d : List ℤ) → TrackRecord
-recordOf a b c d =
+-- The ten numbers of the corrected values, with a DSG.
+unfoldable pub numbersWith : (dsg : ℤ) (a b c d : List ℤ) → Numbers
+numbersWith dsg a b c d =
     record {
-      a = a;
-      b = b;
-      c = c;
-      d = d;
       refsv = midpoint 1 52 (at a);
       srsv = slope 1 52 (at a);
       refsys = midpoint 1 52 (at b);
@@ -50,27 +46,17 @@ recordOf a b c d =
       smdt = slope 1 52 (at c);
       mdio = midpoint 1 52 (at d);
       smdi = slope 1 52 (at d);
-      dsg = pos (dsg 1 52 (squares 52 (at b)));
+      dsg = dsg;
       trkl = pos 780;
     }
 
+-- The record of the corrected values: they themselves, and their ten numbers with the DSG of B.
+unfoldable pub recordOf : (a b c d : List ℤ) → TrackRecord
+recordOf a b c d =
+    record { a = a; b = b; c = c; d = d; numbers = numbersWith (pos (dsg 1 52 (squares 52 (at b)))) a b c d }
+
 unfoldable pub results : Given → TrackRecord
 results g = recordOf (tabulate (valueA g) 52) (tabulate (valueB g) 52) (tabulate (valueC g) 52) (tabulate (valueD g) 52)
-
--- Its midpoints, slopes and DSG, of which demand 3 speaks.
-abbrev pub figures : TrackRecord → Figures
-figures t =
-    record {
-      refsv = t .refsv;
-      srsv = t .srsv;
-      refsys = t .refsys;
-      srsys = t .srsys;
-      mdtr = t .mdtr;
-      smdt = t .smdt;
-      mdio = t .mdio;
-      smdi = t .smdi;
-      dsg = t .dsg;
-    }
 
 -- 1: the measurements are not 780 or a column is not 52.
 unfoldable pub wrongSizes : Given → Bool
@@ -95,8 +81,7 @@ correctedBeyond t =
 
 -- 3, 4, 5 and 6 on the numbers.
 unfoldable pub numbersRule : TrackRecord → ℕ
-numbersRule t =
-    limitsRule (t .refsv) (t .srsv) (t .refsys) (t .srsys) (t .mdtr) (t .smdt) (t .mdio) (t .smdi) then dsgRule (t .dsg)
+numbersRule t = limitsRule (t .numbers) then dsgRule (t .numbers .dsg)
 
 -- What is refused of the corrected values and their numbers: 10, then 3 to 6.
 unfoldable pub recordNumber : TrackRecord → ℕ
@@ -115,16 +100,18 @@ zeros =
       b = replicate 52 (pos 0);
       c = replicate 52 (pos 0);
       d = replicate 52 (pos 0);
-      refsv = pos 0;
-      srsv = pos 0;
-      refsys = pos 0;
-      srsys = pos 0;
-      mdtr = pos 0;
-      smdt = pos 0;
-      mdio = pos 0;
-      smdi = pos 0;
-      dsg = pos 0;
-      trkl = pos 0;
+      numbers = record {
+        refsv = pos 0;
+        srsv = pos 0;
+        refsys = pos 0;
+        srsys = pos 0;
+        mdtr = pos 0;
+        smdt = pos 0;
+        mdio = pos 0;
+        smdi = pos 0;
+        dsg = pos 0;
+        trkl = pos 0;
+      };
     }
 
 -- The number with the record, which holds 0 throughout where the track is refused.

@@ -40,7 +40,15 @@ pub fn smooth_blocks(measurements: &[i64]) -> Blocks
     Blocks { refusal: 0, values }
 }
 
-// A of document 01 at one block. The delay is INT + CAB - REF.
+// The delay INT + CAB - REF: REF is added back.
+pub fn delay(int: i64, cab: i64, refdly: i64) -> i64
+    requires { ⌜ Within (10 ^ 10) int × Within (10 ^ 10) cab × Within (10 ^ 10) refdly ⌝ }
+    ensures { λ r. ⌜ r ≡ int +ℤ cab -ℤ refdly ⌝ }
+{
+    int + cab + (0 - refdly)
+}
+
+// A of document 01 at one block.
 fn corrected(
     smoothed: i64,
     delay: i64,
@@ -50,7 +58,7 @@ fn corrected(
     troposphere: i64,
     gd: i64,
 ) -> i64
-    requires { ⌜ Within (3 * 10 ^ 12) smoothed × Within (3 * 10 ^ 10) delay × Within (10 ^ 10) gd ⌝ }
+    requires { ⌜ Within (2 * 10 ^ 12) smoothed × Within (3 * 10 ^ 10) delay × Within (10 ^ 10) gd ⌝ }
     requires { ⌜ Within (2 * 10 ^ 11) geometry × Within (10 ^ 10) relativity
         × Within (10 ^ 10) ionosphere × Within (10 ^ 10) troposphere ⌝ }
     ensures { λ r. ⌜ r ≡ smoothed -ℤ delay -ℤ geometry +ℤ relativity -ℤ ionosphere -ℤ troposphere -ℤ gd ⌝ }
@@ -68,7 +76,7 @@ pub fn a_values(
     troposphere: &[i64],
     gd: i64,
 ) -> [i64; 52]
-    requires { ⌜ (length (now smoothed) ≡ 52) × ((j : ℕ) → Within (3 * 10 ^ 12) (at (now smoothed) j)) ⌝ }
+    requires { ⌜ (length (now smoothed) ≡ 52) × ((j : ℕ) → Within (2 * 10 ^ 12) (at (now smoothed) j)) ⌝ }
     requires { ⌜ Within (3 * 10 ^ 10) delay × Within (10 ^ 10) gd ⌝ }
     requires { ⌜ (length (now geometry) ≡ 52) × (anyBeyond (2 * 10 ^ 11) (now geometry) ≡ false) ⌝ }
     requires { ⌜ (length (now relativity) ≡ 52) × (anyBeyond (10 ^ 10) (now relativity) ≡ false) ⌝ }
@@ -96,7 +104,7 @@ pub fn a_values(
 
 // B at each block: A and the satellite clock.
 pub fn b_values(a: &[i64], clock: &[i64]) -> [i64; 52]
-    requires { ⌜ (length (now a) ≡ 52) × ((j : ℕ) → Within (4 * 10 ^ 12) (at (now a) j)) ⌝ }
+    requires { ⌜ (length (now a) ≡ 52) × ((j : ℕ) → Within (2 * 10 ^ 12) (at (now a) j)) ⌝ }
     requires { ⌜ (length (now clock) ≡ 52) × (anyBeyond (10 ^ 10) (now clock) ≡ false) ⌝ }
     ensures { λ r. ⌜ r ≡ tabulate (λ j. at (now (a .entry)) j +ℤ at (now (clock .entry)) j) 52 ⌝ }
 {

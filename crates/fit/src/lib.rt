@@ -12,10 +12,12 @@ mod results;
 use correction::a_values;
 use correction::b_values;
 use correction::copied;
+use correction::delay;
 use correction::smooth_blocks;
 use inputs::columns_beyond;
 use inputs::columns_miscounted;
 use inputs::delays_beyond;
+pub use limits::Numbers;
 use limits::any_outside;
 use limits::then;
 use limits::when;
@@ -31,7 +33,7 @@ pub use series::smooth;
 ghost use mathlib.Core.Path.{_≡_};
 ghost use mathlib.Core.Bool.{false};
 ghost use Rattle.exact.specs.Accurate.{AccurateTrack};
-ghost use Rattle.fit.specs.Track.{given, figures, wrongSizes, outOfLimits, trackRule};
+ghost use Rattle.fit.specs.Track.{given, wrongSizes, outOfLimits, trackRule};
 
 // A track's corrected values of each kind at its 52 blocks, A, B, C and D of document 01, and its ten numbers.
 pub struct TrackRecord {
@@ -39,16 +41,7 @@ pub struct TrackRecord {
     pub b: [i64; 52],
     pub c: [i64; 52],
     pub d: [i64; 52],
-    pub refsv: i64,
-    pub srsv: i64,
-    pub refsys: i64,
-    pub srsys: i64,
-    pub mdtr: i64,
-    pub smdt: i64,
-    pub mdio: i64,
-    pub smdi: i64,
-    pub dsg: i64,
-    pub trkl: i64,
+    pub numbers: Numbers,
 }
 
 // What Track answers: the number of the refusal, 0 where it accepts, and the record, 0 throughout where it refuses.
@@ -84,10 +77,9 @@ fn corrected_track(
         return refused(refusal);
     }
     let smoothed = blocks.values;
-    let delay = int + cab - refdly;
     let a = a_values(
         &smoothed,
-        delay,
+        delay(int, cab, refdly),
         geometry,
         relativity,
         ionosphere,
@@ -118,7 +110,7 @@ pub fn track(
         (now (clock .entry))) ⌝ }
     ensures accurate { λ r. ⌜ (r .refusal ≡ 0 → AccurateTrack 52 (given (now (measurements .entry)) int cab refdly gd
         (now (geometry .entry)) (now (relativity .entry)) (now (ionosphere .entry)) (now (troposphere .entry))
-        (now (clock .entry))) (figures (r .«record»))) ⌝ }
+        (now (clock .entry))) (r .«record» .numbers)) ⌝ }
 {
     let sizes = (measurements.len() != 780)
         | columns_miscounted(geometry, relativity, ionosphere, troposphere, clock);

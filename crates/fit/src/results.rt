@@ -1,5 +1,6 @@
 // The record of a track: that of a refusal, and that of the corrected values with their ten numbers.
 use super::Fitted;
+use super::Numbers;
 use super::Scattered;
 use super::TrackRecord;
 use super::Tracked;
@@ -9,15 +10,15 @@ use super::fit;
 use super::scatter;
 use limits::any_outside;
 use limits::limits;
-use limits::then;
 ghost use mathlib.Core.Path.{_≡_};
 ghost use mathlib.Core.Bool.{false};
+ghost use Prim.Native.Nat.{_*_, _^_};
 ghost use lib.IntN.{pos};
 ghost use lib.ListN.{length};
-ghost use Rattle.limits.specs.Refusal.{_then_};
-ghost use Rattle.limits.specs.Limits.{limitsRule};
-ghost use Rattle.series.specs.Fit.{fitRule};
-ghost use Rattle.fit.specs.Track.{recordOf, correctedBeyond, numbersRule, recordNumber, zeros, tracked};
+ghost use Rattle.exact.specs.Corrected.{at};
+ghost use Rattle.limits.specs.Lists.{anyBeyond};
+ghost use Rattle.series.specs.Fit.{midpoint, slope};
+ghost use Rattle.fit.specs.Track.{numbersWith, recordOf, correctedBeyond, numbersRule, recordNumber, zeros, tracked};
 
 // A refusal: its number, and 0 throughout.
 pub fn refused(number: u32) -> Tracked
@@ -31,16 +32,18 @@ pub fn refused(number: u32) -> Tracked
             b: none,
             c: none,
             d: none,
-            refsv: 0,
-            srsv: 0,
-            refsys: 0,
-            srsys: 0,
-            mdtr: 0,
-            smdt: 0,
-            mdio: 0,
-            smdi: 0,
-            dsg: 0,
-            trkl: 0,
+            numbers: Numbers {
+                refsv: 0,
+                srsv: 0,
+                refsys: 0,
+                srsys: 0,
+                mdtr: 0,
+                smdt: 0,
+                mdio: 0,
+                smdi: 0,
+                dsg: 0,
+                trkl: 0,
+            },
         },
     }
 }
@@ -53,108 +56,88 @@ pub struct Corrected {
     pub d: [i64; 52],
 }
 
-// Fit's answer in numbers: that of the refusal, 0 where there is none, and the values, 0 where there is one.
-struct LineNumbers {
-    refusal: u32,
-    midpoint: i64,
-    slope: i64,
-}
-
-// Fit, for each of the four kinds of corrected values.
-fn line(values: &[i64]) -> LineNumbers
-    ensures { λ r. ⌜ (r .refusal ≡ fitRule (now (values .entry)) .number)
-        × (r .midpoint ≡ fitRule (now (values .entry)) .values .0)
-        × (r .slope ≡ fitRule (now (values .entry)) .values .1) ⌝ }
-{
-    let answer = fit(values);
-    let Fitted::Line { midpoint, slope } = answer else {
-        let refusal = fitted_number(answer);
-        return LineNumbers {
-            refusal,
-            midpoint: 0,
-            slope: 0,
-        };
-    };
-    LineNumbers {
-        refusal: 0,
-        midpoint,
-        slope,
-    }
-}
-
-// The number of the first refusal among the four fits and then the limits on their numbers, 3 to 5.
-fn lines_refusal(a: LineNumbers, b: LineNumbers, c: LineNumbers, d: LineNumbers) -> u32
-    ensures { λ r. ⌜ r ≡ a .refusal then b .refusal then c .refusal then d .refusal
-        then limitsRule (a .midpoint) (a .slope) (b .midpoint) (b .slope) (c .midpoint) (c .slope) (d .midpoint) (d .slope) ⌝ }
-{
-    let limit = limits(
-        a.midpoint,
-        a.slope,
-        b.midpoint,
-        b.slope,
-        c.midpoint,
-        c.slope,
-        d.midpoint,
-        d.slope,
-    );
-    then(
-        a.refusal,
-        then(b.refusal, then(c.refusal, then(d.refusal, limit))),
-    )
-}
-
-// An accepted track: the corrected values, and the ten numbers of their lines and their scatter.
-fn accepted(
-    values: Corrected,
-    a: LineNumbers,
-    b: LineNumbers,
-    c: LineNumbers,
-    d: LineNumbers,
-    dsg: i64,
-) -> Tracked
+// An accepted track: the corrected values and their ten numbers.
+fn accepted(values: Corrected, numbers: Numbers) -> Tracked
     ensures { λ r. ⌜ r ≡ record {
       refusal = 0;
-      «record» = record {
-        a = values .a;
-        b = values .b;
-        c = values .c;
-        d = values .d;
-        refsv = a .midpoint;
-        srsv = a .slope;
-        refsys = b .midpoint;
-        srsys = b .slope;
-        mdtr = c .midpoint;
-        smdt = c .slope;
-        mdio = d .midpoint;
-        smdi = d .slope;
-        dsg = dsg;
-        trkl = pos 780;
-      };
+      «record» = record { a = values .a; b = values .b; c = values .c; d = values .d; numbers = numbers };
     } ⌝ }
 {
-    let a_values = values.a;
-    let b_values = values.b;
-    let c_values = values.c;
-    let d_values = values.d;
+    let a = values.a;
+    let b = values.b;
+    let c = values.c;
+    let d = values.d;
     Tracked {
         refusal: 0,
         record: TrackRecord {
-            a: a_values,
-            b: b_values,
-            c: c_values,
-            d: d_values,
-            refsv: a.midpoint,
-            srsv: a.slope,
-            refsys: b.midpoint,
-            srsys: b.slope,
-            mdtr: c.midpoint,
-            smdt: c.slope,
-            mdio: d.midpoint,
-            smdi: d.slope,
-            dsg,
-            trkl: 780,
+            a,
+            b,
+            c,
+            d,
+            numbers,
         },
     }
+}
+
+// The answer for fitted numbers, whose DSG is still 0: a refusal from 3 to 5, or Scatter's 6, or the ten numbers with Scatter's DSG.
+fn with_dsg(values: Corrected, fitted: Numbers) -> Tracked
+    requires { ⌜ (length (values .b) ≡ 52) × (anyBeyond (2 * 10 ^ 12) (values .b) ≡ false) ⌝ }
+    requires { ⌜ fitted ≡ numbersWith (pos 0) (values .a) (values .b) (values .c) (values .d) ⌝ }
+    ensures { λ r. ⌜ r ≡ tracked (numbersRule (recordOf (values .a) (values .b) (values .c) (values .d)))
+        (recordOf (values .a) (values .b) (values .c) (values .d)) ⌝ }
+{
+    let refusal = limits(fitted);
+    if refusal != 0 {
+        return refused(refusal);
+    }
+    let answer = scatter(&values.b);
+    let Scattered::Sigma(dsg) = answer else {
+        return refused(scattered_number(answer));
+    };
+    let mut numbers = fitted;
+    numbers.dsg = dsg;
+    accepted(values, numbers)
+}
+
+// The answer for corrected values and the numbers of A and B: Fit's refusal of C or D, or the answer for the numbers of all four.
+fn with_delays(values: Corrected, refsv: i64, srsv: i64, refsys: i64, srsys: i64) -> Tracked
+    requires { ⌜ (length (values .a) ≡ 52) × (length (values .b) ≡ 52)
+        × (length (values .c) ≡ 52) × (length (values .d) ≡ 52) ⌝ }
+    requires { ⌜ correctedBeyond (recordOf (values .a) (values .b) (values .c) (values .d)) ≡ false ⌝ }
+    requires { ⌜ (refsv ≡ midpoint 1 52 (at (values .a))) × (srsv ≡ slope 1 52 (at (values .a)))
+        × (refsys ≡ midpoint 1 52 (at (values .b))) × (srsys ≡ slope 1 52 (at (values .b))) ⌝ }
+    ensures { λ r. ⌜ r ≡ tracked (numbersRule (recordOf (values .a) (values .b) (values .c) (values .d)))
+        (recordOf (values .a) (values .b) (values .c) (values .d)) ⌝ }
+{
+    let c = fit(&values.c);
+    let Fitted::Line {
+        midpoint: mdtr,
+        slope: smdt,
+    } = c
+    else {
+        return refused(fitted_number(c));
+    };
+    let d = fit(&values.d);
+    let Fitted::Line {
+        midpoint: mdio,
+        slope: smdi,
+    } = d
+    else {
+        return refused(fitted_number(d));
+    };
+    let fitted = Numbers {
+        refsv,
+        srsv,
+        refsys,
+        srsys,
+        mdtr,
+        smdt,
+        mdio,
+        smdi,
+        dsg: 0,
+        trkl: 780,
+    };
+    with_dsg(values, fitted)
 }
 
 // The ten numbers of corrected values that are inside their limit, or a refusal from 3 to 6.
@@ -165,19 +148,23 @@ pub fn results(values: Corrected) -> Tracked
     ensures { λ r. ⌜ r ≡ tracked (numbersRule (recordOf (values .a) (values .b) (values .c) (values .d)))
         (recordOf (values .a) (values .b) (values .c) (values .d)) ⌝ }
 {
-    let a = line(&values.a);
-    let b = line(&values.b);
-    let c = line(&values.c);
-    let d = line(&values.d);
-    let refusal = lines_refusal(a, b, c, d);
-    if refusal != 0 {
-        return refused(refusal);
-    }
-    let answer = scatter(&values.b);
-    let Scattered::Sigma(dsg) = answer else {
-        return refused(scattered_number(answer));
+    let a = fit(&values.a);
+    let Fitted::Line {
+        midpoint: refsv,
+        slope: srsv,
+    } = a
+    else {
+        return refused(fitted_number(a));
     };
-    accepted(values, a, b, c, d, dsg)
+    let b = fit(&values.b);
+    let Fitted::Line {
+        midpoint: refsys,
+        slope: srsys,
+    } = b
+    else {
+        return refused(fitted_number(b));
+    };
+    with_delays(values, refsv, srsv, refsys, srsys)
 }
 
 // The answer for corrected values: 10 where one is outside ±2 × 10^12, else by their numbers.

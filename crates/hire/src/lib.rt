@@ -2,7 +2,7 @@
 // answered; Block of document 01 asks for the length before.
 ghost use mathlib.Core.Path.{_≡_};
 ghost use Rattle.decode.specs.Number.{signedsAt};
-ghost use Rattle.fit.specs.Track.{figures, trackRule};
+ghost use Rattle.fit.specs.Track.{trackRule};
 ghost use Rattle.exact.specs.Accurate.{AccurateTrack};
 ghost use Rattle.hire.specs.Hire.{byteAt, blockLabels, blockGiven};
 use decode::fill;
@@ -59,7 +59,7 @@ fn column(block: &[u8], at: usize) -> [i64; 52]
 
 pub fn track(block: &[u8]) -> Tracked
     ensures answer { λ r. ⌜ r ≡ trackRule (blockGiven (now (block .entry))) ⌝ }
-    ensures accurate { λ r. ⌜ (r .refusal ≡ 0 → AccurateTrack 52 (blockGiven (now (block .entry))) (figures (r .«record»))) ⌝ }
+    ensures accurate { λ r. ⌜ (r .refusal ≡ 0 → AccurateTrack 52 (blockGiven (now (block .entry))) (r .«record» .numbers)) ⌝ }
 {
     let measurements = seconds(block);
     let geometry = column(block, 6298);

@@ -4,11 +4,11 @@
 use Prim.Native.Nat.{ℕ}
 use mathlib.Core.Bool.{not, _||_}
 use lib.IntN.{pos}
+use Rattle.limits.specs.declared.Numbers.{Numbers}
 use Rattle.limits.specs.Refusal.{_when_, _then_}
 use Rattle.limits.specs.Limits.{outside, limitsRule, dsgRule}
 use Rattle.schedule.specs.Schedule.{startRule}
 use Rattle.labels.specs.declared.Labels.{Labels}
-use Rattle.labels.specs.declared.Numbers.{Numbers}
 use Rattle.labels.specs.Labels.{labelsFit, trackLength}
 
 -- 7, 8, 3, 4, 5 and 6, in this order.
@@ -16,5 +16,5 @@ unfoldable pub contentRule : Labels → Numbers → ℕ
 contentRule l n =
     7 when (not (labelsFit l) || outside (pos trackLength) (pos trackLength) (n .trkl))
     then startRule (l .mjd) (l .start)
-    then limitsRule (n .refsv) (n .srsv) (n .refsys) (n .srsys) (n .mdtr) (n .smdt) (n .mdio) (n .smdi)
+    then limitsRule n
     then dsgRule (n .dsg)

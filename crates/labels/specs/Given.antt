@@ -2,8 +2,8 @@
 -- Assumes nothing.
 use Prim.Native.Nat.{ℕ}
 use lib.IntN.{ℤ}
+use Rattle.limits.specs.declared.Numbers.{Numbers}
 use Rattle.labels.specs.declared.Labels.{Labels}
-use Rattle.labels.specs.declared.Numbers.{Numbers}
 
 abbrev pub labelsOf : (constellation satellite cl fr hc frc1 frc2 frc3 mjd start elv azth ioe : ℕ) → Labels
 labelsOf constellation satellite cl fr hc frc1 frc2 frc3 mjd start elv azth ioe =

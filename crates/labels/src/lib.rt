@@ -1,7 +1,8 @@
-// The labels and the ten numbers that a line is written for, and what they are refused for. All that document 01 says of a line's
+// The labels that a line is written for, and what they and the ten numbers are refused for. All that document 01 says of a line's
 // content, but not of its bytes, is here: the labels' ranges, the track length, the start test and the limits on the numbers.
 ghost use mathlib.Core.Path.{_≡_};
 ghost use Rattle.labels.specs.Content.{contentRule};
+pub use limits::Numbers;
 use limits::outside;
 use limits::then;
 use limits::when;
@@ -25,20 +26,6 @@ pub struct Labels {
     pub ioe: u16,
 }
 
-// The ten numbers of a track, in their fixed order.
-pub struct Numbers {
-    pub refsv: i64,
-    pub srsv: i64,
-    pub refsys: i64,
-    pub srsys: i64,
-    pub mdtr: i64,
-    pub smdt: i64,
-    pub mdio: i64,
-    pub smdi: i64,
-    pub dsg: i64,
-    pub trkl: i64,
-}
-
 const TRACK_LENGTH: i64 = 780;
 
 // The first refusal of labels and numbers, or 0.
@@ -47,16 +34,7 @@ pub fn refusal(labels: Labels, numbers: Numbers) -> u32
 {
     let label = !ranges::labels_fit(labels) | outside(TRACK_LENGTH, TRACK_LENGTH, numbers.trkl);
     let start = schedule::start(labels.mjd, labels.start);
-    let number = limits::limits(
-        numbers.refsv,
-        numbers.srsv,
-        numbers.refsys,
-        numbers.srsys,
-        numbers.mdtr,
-        numbers.smdt,
-        numbers.mdio,
-        numbers.smdi,
-    );
+    let number = limits::limits(numbers);
     let scatter = limits::dsg(numbers.dsg);
     then(when(7, label), then(start, then(number, scatter)))
 }

@@ -2,12 +2,15 @@
 -- Assumes nothing.
 use mathlib.Core.Path.{_≡_, refl}
 use mathlib.Core.Bool.{Bool, true, false, _||_, true≢false}
-use Prim.Native.Nat.{ℕ, zero, suc, _≤_, _<_, suc-le-suc}
-use native.Mathlib.Nat.{suc-ne-zero, not-suc-le-zero}
+use Prim.Native.Nat.{ℕ, zero, suc, _≤_, _<_, zero-le, suc-le-suc}
+use native.Mathlib.Nat.{suc-ne-zero, not-suc-le-zero, le-of-suc-le-suc}
 use lib.IntN.{ℤ, pos, negsuc, natAbs}
 use lib.Dec.{ltb, eqb·suc-zero}
-use borrow.Author.Tests.{ltb-false}
+use mir.Syntax.{w64}
+use mir.Val.{SFits}
+use borrow.Author.Tests.{ltb-false, le-ltb}
 use Rattle.limits.specs.Refusal.{_when_, _then_}
+use Rattle.limits.specs.declared.Numbers.{Numbers}
 use Rattle.limits.specs.Limits.{outside, beyond, limitsRule, dsgRule}
 
 -- an answer put together from two is 0 only where both are
@@ -48,6 +51,13 @@ magnitude-within (suc limit) (pos n) e = ltb-false (suc limit) n e
 magnitude-within zero (negsuc n) e = absurd (true≢false e)
 magnitude-within (suc limit) (negsuc n) e = suc-le-suc (ltb-false limit n (or-false (ltb limit n) false e .0))
 
+pub within-magnitude : (limit : ℕ) (z : ℤ) → natAbs z ≤ limit → beyond limit z ≡ false
+unfolding outside
+within-magnitude zero (pos n) h = rw (le-ltb n 0 zero-le, le-ltb 0 n h)
+within-magnitude (suc limit) (pos n) h = le-ltb (suc limit) n h
+within-magnitude zero (negsuc n) h = absurd (not-suc-le-zero h)
+within-magnitude (suc limit) (negsuc n) h = rw (le-ltb limit n (le-of-suc-le-suc h))
+
 -- within two limits that are not below 0, the number is a natural one
 pub natural-within : (low high : ℕ) (z : ℤ) → outside (pos low) (pos high) z ≡ false → (pos (natAbs z) ≡ z) × (low ≤ natAbs z) × (natAbs z ≤ high)
 unfolding outside
@@ -56,32 +66,44 @@ natural-within low high (pos n) e =
     (refl, ltb-false n low (f .0), ltb-false high n (f .1))
 natural-within low high (negsuc n) e = absurd (true≢false e)
 
--- what an answer 0 on the eight fitted numbers tells
-pub record InLimits (refsv srsv refsys srsys mdtr smdt mdio smdi : ℤ) : Type 0 where
-  pub midpoints : (natAbs refsv ≤ 9999999999) × (natAbs refsys ≤ 9999999999)
-  pub slopes : (natAbs srsv ≤ 99999) × (natAbs srsys ≤ 99999) × (natAbs smdt ≤ 999) × (natAbs smdi ≤ 999)
-  pub delays : (pos (natAbs mdtr) ≡ mdtr) × (natAbs mdtr ≤ 9999) × (pos (natAbs mdio) ≡ mdio) × (natAbs mdio ≤ 9999)
+-- every one of the ten numbers fits its word, so that it reads back from its bits
+pub record Fits (n : Numbers) : Type 0 where
+  pub refsv : SFits w64 (n .refsv)
+  pub srsv : SFits w64 (n .srsv)
+  pub refsys : SFits w64 (n .refsys)
+  pub srsys : SFits w64 (n .srsys)
+  pub mdtr : SFits w64 (n .mdtr)
+  pub smdt : SFits w64 (n .smdt)
+  pub mdio : SFits w64 (n .mdio)
+  pub smdi : SFits w64 (n .smdi)
+  pub dsg : SFits w64 (n .dsg)
+  pub trkl : SFits w64 (n .trkl)
 
-pub within : (refsv srsv refsys srsys mdtr smdt mdio smdi : ℤ) → limitsRule refsv srsv refsys srsys mdtr smdt mdio smdi ≡ 0
-    → InLimits refsv srsv refsys srsys mdtr smdt mdio smdi
+-- what an answer 0 on the eight fitted numbers tells
+pub record InLimits (n : Numbers) : Type 0 where
+  pub midpoints : (natAbs (n .refsv) ≤ 9999999999) × (natAbs (n .refsys) ≤ 9999999999)
+  pub slopes : (natAbs (n .srsv) ≤ 99999) × (natAbs (n .srsys) ≤ 99999) × (natAbs (n .smdt) ≤ 999) × (natAbs (n .smdi) ≤ 999)
+  pub delays : (pos (natAbs (n .mdtr)) ≡ n .mdtr) × (natAbs (n .mdtr) ≤ 9999) × (pos (natAbs (n .mdio)) ≡ n .mdio) × (natAbs (n .mdio) ≤ 9999)
+
+pub within : (n : Numbers) → limitsRule n ≡ 0 → InLimits n
 unfolding limitsRule
-within refsv srsv refsys srsys mdtr smdt mdio smdi e =
+within n e =
     let three = then-zero _ _ e in
     let four = then-zero _ _ (three .1) in
-    let m = or-false (beyond 9999999999 refsv) _ (when-zero 2 _ (three .0)) in
-    let s = or-false (beyond 99999 srsv || beyond 99999 srsys || beyond 999 smdt) _ (when-zero 3 _ (four .0)) in
-    let t = or-false (beyond 99999 srsv || beyond 99999 srsys) _ (s .0) in
-    let u = or-false (beyond 99999 srsv) _ (t .0) in
-    let d = or-false (outside (pos 0) (pos 9999) mdtr) _ (when-zero 4 _ (four .1)) in
-    let r = natural-within 0 9999 mdtr (d .0) in
-    let i = natural-within 0 9999 mdio (d .1) in
+    let m = or-false (beyond 9999999999 (n .refsv)) _ (when-zero 2 _ (three .0)) in
+    let s = or-false (beyond 99999 (n .srsv) || beyond 99999 (n .srsys) || beyond 999 (n .smdt)) _ (when-zero 3 _ (four .0)) in
+    let t = or-false (beyond 99999 (n .srsv) || beyond 99999 (n .srsys)) _ (s .0) in
+    let u = or-false (beyond 99999 (n .srsv)) _ (t .0) in
+    let d = or-false (outside (pos 0) (pos 9999) (n .mdtr)) _ (when-zero 4 _ (four .1)) in
+    let r = natural-within 0 9999 (n .mdtr) (d .0) in
+    let i = natural-within 0 9999 (n .mdio) (d .1) in
     record {
-      midpoints = (magnitude-within 9999999999 refsv (m .0), magnitude-within 9999999999 refsys (m .1));
+      midpoints = (magnitude-within 9999999999 (n .refsv) (m .0), magnitude-within 9999999999 (n .refsys) (m .1));
       slopes = (
-        magnitude-within 99999 srsv (u .0),
-        magnitude-within 99999 srsys (u .1),
-        magnitude-within 999 smdt (t .1),
-        magnitude-within 999 smdi (s .1),
+        magnitude-within 99999 (n .srsv) (u .0),
+        magnitude-within 99999 (n .srsys) (u .1),
+        magnitude-within 999 (n .smdt) (t .1),
+        magnitude-within 999 (n .smdi) (s .1),
       );
       delays = (r .0, r .2, i .0, i .2);
     }

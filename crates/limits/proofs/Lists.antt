@@ -9,7 +9,7 @@ use lib.IntN.{ℤ, pos, natAbs}
 use lib.ListN.{length, take, drop, getD, drop-of-length-le}
 use lib.Seq.{drop-cons}
 use Rattle.limits.specs.Limits.{outside, beyond}
-use Rattle.limits.proofs.Laws.{or-false, magnitude-within, then-zero, when-zero}
+use Rattle.limits.proofs.Laws.{or-false, magnitude-within, within-magnitude, then-zero, when-zero}
 use Rattle.limits.specs.Refusal.{_when_, _then_}
 use borrow.Author.Tests.{eqb-true, eq-eqb, not-false}
 use lib.Dec.{eqb}
@@ -37,6 +37,12 @@ unfolding anyOutside
 within-limit limit [] e i = zero-le
 within-limit limit (z ∷ l) e zero = magnitude-within limit z (or-false (beyond limit z) (anyBeyond limit l) e .0)
 within-limit limit (z ∷ l) e (suc i) = within-limit limit l (or-false (beyond limit z) (anyBeyond limit l) e .1) i
+
+-- and a list that has none passes
+pub limit-within : (limit : ℕ) (l : List ℤ) → ((i : ℕ) → natAbs (getD l i (pos 0)) ≤ limit) → anyBeyond limit l ≡ false
+unfolding anyOutside
+limit-within limit [] h = refl
+limit-within limit (z ∷ l) h = rw (within-magnitude limit z (h 0), limit-within limit l (λ i. h (suc i)))
 
 -- what it tells that a list is not refused
 pub list-accepted : (n : ℕ) (low high : ℤ) (l : List ℤ) → rangeRule n low high l ≡ 0

@@ -5,6 +5,7 @@ use mathlib.Core.Bool.{Bool, _||_}
 use lib.IntN.{ℤ, pos, negℤ}
 use lib.Signed.{ltZ}
 use Rattle.limits.specs.Refusal.{_when_, _then_}
+use Rattle.limits.specs.declared.Numbers.{Numbers}
 
 -- z lies outside low to high, both ends being inside.
 unfoldable pub outside : ℤ → ℤ → ℤ → Bool
@@ -15,11 +16,11 @@ abbrev pub beyond : ℕ → ℤ → Bool
 beyond limit z = outside (negℤ (pos limit)) (pos limit) z
 
 -- 3, 4 and 5 on the eight fitted numbers, in the paper's order.
-unfoldable pub limitsRule : (refsv srsv refsys srsys mdtr smdt mdio smdi : ℤ) → ℕ
-limitsRule refsv srsv refsys srsys mdtr smdt mdio smdi =
-    3 when (beyond 9999999999 refsv || beyond 9999999999 refsys)
-    then 4 when (beyond 99999 srsv || beyond 99999 srsys || beyond 999 smdt || beyond 999 smdi)
-    then 5 when (outside (pos 0) (pos 9999) mdtr || outside (pos 0) (pos 9999) mdio)
+unfoldable pub limitsRule : Numbers → ℕ
+limitsRule n =
+    3 when (beyond 9999999999 (n .refsv) || beyond 9999999999 (n .refsys))
+    then 4 when (beyond 99999 (n .srsv) || beyond 99999 (n .srsys) || beyond 999 (n .smdt) || beyond 999 (n .smdi))
+    then 5 when (outside (pos 0) (pos 9999) (n .mdtr) || outside (pos 0) (pos 9999) (n .mdio))
 
 -- 6 on a DSG that is given.
 unfoldable pub dsgRule : ℤ → ℕ

@@ -1,10 +1,24 @@
-// The limits on the ten numbers of a track, written once for Track and for Line, the limit test on a list of values, and the
+// The ten numbers of a track and their limits, written once for Track and for Line, the limit test on a list of values, and the
 // order of refusals.
 // An answer is a refusal number of document 01, or 0.
 ghost use mathlib.Core.Path.{_≡_};
 ghost use Rattle.limits.specs.Refusal.{_when_, _then_};
 ghost use Rattle.limits.specs.Limits.{outside, limitsRule, dsgRule};
 ghost use Rattle.limits.specs.Lists.{anyOutside};
+
+// The ten numbers of a track, in their fixed order.
+pub struct Numbers {
+    pub refsv: i64,
+    pub srsv: i64,
+    pub refsys: i64,
+    pub srsys: i64,
+    pub mdtr: i64,
+    pub smdt: i64,
+    pub mdio: i64,
+    pub smdi: i64,
+    pub dsg: i64,
+    pub trkl: i64,
+}
 
 // The number where the condition holds.
 pub fn when(number: u32, condition: bool) -> u32
@@ -42,25 +56,16 @@ pub fn any_outside(values: &[i64], low: i64, high: i64) -> bool
 }
 
 // 3, 4 or 5 where one of the eight fitted numbers is outside its limits.
-pub fn limits(
-    refsv: i64,
-    srsv: i64,
-    refsys: i64,
-    srsys: i64,
-    mdtr: i64,
-    smdt: i64,
-    mdio: i64,
-    smdi: i64,
-) -> u32
-    ensures { λ r. ⌜ r ≡ limitsRule refsv srsv refsys srsys mdtr smdt mdio smdi ⌝ }
+pub fn limits(numbers: Numbers) -> u32
+    ensures { λ r. ⌜ r ≡ limitsRule numbers ⌝ }
 {
-    let midpoints = outside(-9999999999, 9999999999, refsv)
-        | outside(-9999999999, 9999999999, refsys);
-    let slopes = outside(-99999, 99999, srsv)
-        | outside(-99999, 99999, srsys)
-        | outside(-999, 999, smdt)
-        | outside(-999, 999, smdi);
-    let delays = outside(0, 9999, mdtr) | outside(0, 9999, mdio);
+    let midpoints = outside(-9999999999, 9999999999, numbers.refsv)
+        | outside(-9999999999, 9999999999, numbers.refsys);
+    let slopes = outside(-99999, 99999, numbers.srsv)
+        | outside(-99999, 99999, numbers.srsys)
+        | outside(-999, 999, numbers.smdt)
+        | outside(-999, 999, numbers.smdi);
+    let delays = outside(0, 9999, numbers.mdtr) | outside(0, 9999, numbers.mdio);
     then(when(3, midpoints), then(when(4, slopes), when(5, delays)))
 }
 

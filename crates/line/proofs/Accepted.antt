@@ -2,7 +2,7 @@
 -- Assumes nothing.
 use mathlib.Core.Path.{_≡_, sym, ap, ap₂, _∙_}
 use mathlib.Core.List.{List, _++_}
-use mathlib.Core.Bool.{Bool, true, false, not, _||_}
+use mathlib.Core.Bool.{true, false, not, _||_}
 use Prim.Native.Nat.{ℕ, _≤_}
 use lib.ListN.{length, take, drop}
 use lib.Seq.{take-length}
@@ -13,7 +13,7 @@ use Rattle.limits.specs.Limits.{outside, limitsRule, dsgRule}
 use Rattle.limits.proofs.Laws.{then-zero, when-zero, or-false}
 use Rattle.schedule.specs.Schedule.{startRule}
 use Rattle.labels.specs.declared.Labels.{Labels}
-use Rattle.labels.specs.declared.Numbers.{Numbers}
+use Rattle.limits.specs.declared.Numbers.{Numbers}
 use Rattle.labels.specs.Labels.{labelsFit, trackLength}
 use Rattle.labels.specs.Content.{contentRule}
 use Rattle.line.specs.Line.{lineAnswer, lineAfter}
@@ -24,7 +24,7 @@ pub record Accepted (l : Labels) (n : Numbers) (bytes : ℕ) : Type 0 where
   pub labels : labelsFit l ≡ true
   pub trkl : outside (pos trackLength) (pos trackLength) (n .trkl) ≡ false
   pub start : startRule (l .mjd) (l .start) ≡ 0
-  pub limits : limitsRule (n .refsv) (n .srsv) (n .refsys) (n .srsys) (n .mdtr) (n .smdt) (n .mdio) (n .smdi) ≡ 0
+  pub limits : limitsRule n ≡ 0
   pub dsg : dsgRule (n .dsg) ≡ 0
   pub room : lineLength ≤ bytes
 

@@ -1,27 +1,27 @@
--- Laws of Block (specs/Block.antt): which number comes first, and that the figures in the columns of an accepted line are Track's.
+-- Laws of Block (specs/Block.antt): which number comes first, and that the numbers in the columns of an accepted line are accurate.
 -- Assumes nothing.
 use mathlib.Core.Path.{_≡_, refl, sym, ap, _∙_, subst}
 use mathlib.Core.Bool.{Bool, true, false, not, _||_}
-use mathlib.Core.List.{List, _++_}
+use mathlib.Core.List.{List}
 use Prim.Native.Nat.{ℕ, zero, suc, _<_}
 use native.Mathlib.Omega.{arith}
-use lib.ListN.{length, drop}
+use lib.ListN.{length}
 use lib.Dec.{eqb}
 use borrow.Author.Tests.{eq-eqb, ne-eqb}
 use Rattle.limits.specs.Refusal.{_when_, _then_}
 use Rattle.limits.proofs.Laws.{then-refused, then-passed}
 use Rattle.decode.specs.Number.{unsignedAt}
 use Rattle.exact.specs.Corrected.{Given}
-use Rattle.exact.specs.Accurate.{Figures, AccurateTrack}
+use Rattle.exact.specs.Accurate.{AccurateTrack}
 use Rattle.fit.specs.declared.TrackRecord.{TrackRecord}
 use Rattle.fit.specs.declared.Tracked.{Tracked}
-use Rattle.fit.specs.Track.{figures, results, tracked, trackNumber, trackRule}
-use Rattle.columns.specs.Text.{lineLength}
+use Rattle.fit.specs.Track.{results, tracked, trackNumber, trackRule}
+use Rattle.limits.specs.declared.Numbers.{Numbers}
+use Rattle.columns.specs.Columns.{readNumbers}
 use Rattle.line.specs.Line.{lineAnswer, lineAfter}
 use Rattle.hire.specs.Hire.{blockLength, blockLabels, blockGiven}
-use Rattle.line.specs.Block.{numbersIn, blockAnswer, blockAfter, figuresIn, readFigures}
-use Rattle.line.proofs.Accepted.{accepted, after-is}
-use Rattle.line.proofs.ReadBack.{numbers-back}
+use Rattle.line.specs.Block.{blockNumbers, blockAnswer, blockAfter}
+use Rattle.line.proofs.ReadBack.{numbers-read}
 
 -- ---- what Track's answer says
 
@@ -55,18 +55,18 @@ module _ (b : List ℕ) (room : ℕ) where
   wrong-sizes h e = rw (eq-eqb (length b) blockLength h, e)
 
   passed : length b ≡ blockLength → missized b ≡ false
-      → blockAnswer b room ≡ trackNumber (blockGiven b) then lineAnswer (blockLabels b) (numbersIn (results (blockGiven b))) room
+      → blockAnswer b room ≡ trackNumber (blockGiven b) then lineAnswer (blockLabels b) (blockNumbers b) room
   unfolding blockAnswer _when_
   passed h e = rw (eq-eqb (length b) blockLength h, e) (then-passed 0 _ refl ∙ then-passed 0 _ refl)
 
   pub track-refuses : length b ≡ blockLength → missized b ≡ false → (n : ℕ) → n ≡ trackNumber (blockGiven b) → 0 < n
       → n ≡ blockAnswer b room
   track-refuses h e n t k =
-      let next = lineAnswer (blockLabels b) (numbersIn (results (blockGiven b))) room in
+      let next = lineAnswer (blockLabels b) (blockNumbers b) room in
       sym (then-refused n next k) ∙ ap (λ (m : ℕ). m then next) t ∙ sym (passed h e)
 
   pub line-answers : length b ≡ blockLength → missized b ≡ false → trackNumber (blockGiven b) ≡ 0
-      → lineAnswer (blockLabels b) (numbersIn (results (blockGiven b))) room ≡ blockAnswer b room
+      → lineAnswer (blockLabels b) (blockNumbers b) room ≡ blockAnswer b room
   line-answers h e t = sym (then-passed (trackNumber (blockGiven b)) _ t) ∙ sym (passed h e)
 
 -- ---- the three clauses
@@ -75,7 +75,7 @@ module _ (b lent : List ℕ) where
   abbrev pub Promised : ℕ → List ℕ → Type 0
   Promised r after =
       (r ≡ blockAnswer b (length lent))
-      × ((after ≡ blockAfter b lent) × (r ≡ 0 → AccurateTrack 52 (blockGiven b) (readFigures after)))
+      × ((after ≡ blockAfter b lent) × (r ≡ 0 → AccurateTrack 52 (blockGiven b) (readNumbers after)))
 
   kept : (blockAnswer b (length lent) ≡ 0 → ⊥) → lent ≡ blockAfter b lent
   unfolding blockAfter
@@ -89,31 +89,22 @@ module _ (b lent : List ℕ) where
       positive z = omega arith
 
   -- where Track accepts, the lent line is Line's
-  same-after : lineAnswer (blockLabels b) (numbersIn (results (blockGiven b))) (length lent) ≡ blockAnswer b (length lent)
-      → lineAfter (blockLabels b) (numbersIn (results (blockGiven b))) lent ≡ blockAfter b lent
+  same-after : lineAnswer (blockLabels b) (blockNumbers b) (length lent) ≡ blockAnswer b (length lent)
+      → lineAfter (blockLabels b) (blockNumbers b) lent ≡ blockAfter b lent
   unfolding lineAfter blockAfter
   same-after e = rw e
 
-  -- and its columns read back as Track's figures
-  figures-back : (t : TrackRecord) → lineAnswer (blockLabels b) (numbersIn t) (length lent) ≡ 0
-      → readFigures (lineAfter (blockLabels b) (numbersIn t) lent) ≡ figures t
-  unfolding readFigures
-  figures-back t e =
-      ap readFigures (after-is (blockLabels b) (numbersIn t) lent e)
-      ∙ ap figuresIn
-      (numbers-back (blockLabels b) (numbersIn t) (length lent) (drop lineLength lent) (accepted (blockLabels b) (numbersIn t) (length lent) e))
-
   pub written : (t : Tracked) → length b ≡ blockLength → missized b ≡ false → t ≡ trackRule (blockGiven b)
-      → (t .refusal ≡ 0 → AccurateTrack 52 (blockGiven b) (figures (t .«record»))) → t .refusal ≡ 0
-      → (r : ℕ) (after : List ℕ) → r ≡ lineAnswer (blockLabels b) (numbersIn (t .«record»)) (length lent)
-      → after ≡ lineAfter (blockLabels b) (numbersIn (t .«record»)) lent → Promised r after
+      → (t .refusal ≡ 0 → AccurateTrack 52 (blockGiven b) (t .«record» .numbers)) → t .refusal ≡ 0
+      → (r : ℕ) (after : List ℕ) → r ≡ lineAnswer (blockLabels b) (t .«record» .numbers) (length lent)
+      → after ≡ lineAfter (blockLabels b) (t .«record» .numbers) lent → Promised r after
   written t h s e accurate z r after answer line =
       let g = blockGiven b in
-      let is = track-record g t e z in
+      let is = ap (λ (x : TrackRecord). x .numbers) (track-record g t e z) in
       let number = line-answers b (length lent) h s (sym (track-number g t e) ∙ z) in (
-        answer ∙ ap (λ (x : TrackRecord). lineAnswer (blockLabels b) (numbersIn x) (length lent)) is ∙ number,
+        answer ∙ ap (λ (n : Numbers). lineAnswer (blockLabels b) n (length lent)) is ∙ number,
         (
-          line ∙ ap (λ (x : TrackRecord). lineAfter (blockLabels b) (numbersIn x) lent) is ∙ same-after number,
-          λ k. subst (λ (f : Figures). AccurateTrack 52 g f) (sym (ap readFigures line ∙ figures-back (t .«record») (sym answer ∙ k))) (accurate z),
+          line ∙ ap (λ (n : Numbers). lineAfter (blockLabels b) n lent) is ∙ same-after number,
+          λ k. subst (AccurateTrack 52 g) (sym (ap readNumbers line ∙ numbers-read (blockLabels b) (t .«record» .numbers) lent (sym answer ∙ k))) (accurate z),
         ),
       )

@@ -2,3 +2,4 @@ pub mod Accepted
 pub mod ReadBack
 pub mod Sample
 pub mod Blocks
+pub mod ColumnTable

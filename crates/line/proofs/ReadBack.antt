@@ -1,15 +1,15 @@
 -- No digit is lost: what a reader takes from the columns of an accepted line are the labels and the numbers given.
 -- Assumes nothing.
-use mathlib.Core.Path.{_≡_, refl, sym, ap, ap₂, _∙_}
-use mathlib.Core.Bool.{Bool, true, false, _&&_, _||_, false≢true}
+use mathlib.Core.Path.{_≡_, refl, sym, ap, _∙_, subst}
+use mathlib.Core.Bool.{Bool, true, false, _&&_, _||_}
 use mathlib.Core.List.{List, [], _∷_, _++_, append-assoc}
 use Prim.Native.Nat.{ℕ, zero, suc, _+_, _*_, _-_, _/_, _%_, _^_, _≤_, _<_}
 use native.Mathlib.Omega.{arith}
 use lib.ListN.{length, take, drop, getD}
 use lib.Seq.{take-take, drop-drop, getD-take, getD-drop, take-at, drop-at, take-all}
 use lib.IntN.{ℤ, pos, natAbs}
-use lib.Dec.{leb, eqb}
-use borrow.Author.Tests.{leb-true, eqb-true}
+use lib.Dec.{T, leb, eqb, leb→le, eqb→eq}
+use mir.Facts.{and-yes}
 use Rattle.limits.proofs.Laws as limits
 use Rattle.schedule.specs.Schedule.{lastDate as schedule·lastDate, day as schedule·day}
 use Rattle.schedule.proofs.Minutes as schedule
@@ -17,12 +17,12 @@ use Rattle.fields.specs.Text.{decimal, signed, hexadecimal, checksum}
 use Rattle.fields.specs.Read.{readDecimal, readSigned, readHexadecimal}
 use Rattle.fields.proofs.Laws.{read-decimal, read-signed, read-hexadecimal, length-decimal}
 use Rattle.labels.specs.declared.Labels.{Labels}
-use Rattle.labels.specs.declared.Numbers.{Numbers}
+use Rattle.limits.specs.declared.Numbers.{Numbers}
 use Rattle.labels.specs.Labels.{constellationFits, codeFits, labelsFit, trackLength}
 use Rattle.line.specs.Line.{lineAnswer, lineAfter}
 use Rattle.columns.specs.Text.{lineLength, clock, trackColumns, clockColumns, delayColumns, columns, spaced, lineText}
 use Rattle.columns.specs.Columns.{byteIn, field, readNumbers, readLabels}
-use Rattle.columns.proofs.Widths.{widths, offset, columns-sized, column-at, length-clock}
+use Rattle.columns.proofs.Widths.{widths, offset, columns-sized, column-at}
 use Rattle.line.proofs.Accepted.{Accepted, accepted, after-is}
 
 -- a piece that ends within the first elements of a list is a piece of the list
@@ -79,8 +79,8 @@ numbers-back l n bytes rest a =
       trkl = (ap pos (decimal-back l n rest 4 4 (natAbs (n .trkl)) (omega arith) refl (omega (arith, t))) ∙ t .0) i;
     }
   where
-    w : limits.InLimits (n .refsv) (n .srsv) (n .refsys) (n .srsys) (n .mdtr) (n .smdt) (n .mdio) (n .smdi)
-    w = limits.within _ _ _ _ _ _ _ _ (a .limits)
+    w : limits.InLimits n
+    w = limits.within n (a .limits)
 
     d : (pos (natAbs (n .dsg)) ≡ n .dsg) × (natAbs (n .dsg) ≤ 9999)
     d = limits.dsg-within (n .dsg) (a .dsg)
@@ -90,13 +90,9 @@ numbers-back l n bytes rest a =
 
 -- ---- the labels
 
-and-both : (a b : Bool) → (a && b) ≡ true → (a ≡ true) × (b ≡ true)
-and-both true b e = (refl, e)
-and-both false b e = absurd (false≢true e)
-
-or-elim : {X : Type 0} (a b : Bool) → (a ≡ true → X) → (b ≡ true → X) → (a || b) ≡ true → X
-or-elim true b f g e = f refl
-or-elim false b f g e = g e
+or-elim : {X : Type 0} (a b : Bool) → (T a → X) → (T b → X) → T (a || b) → X
+or-elim true b f g t = f tt
+or-elim false b f g t = g t
 
 module _ (letter ioe fr : ℕ) where
   abbrev other : ℕ → ℕ → Bool
@@ -105,30 +101,30 @@ module _ (letter ioe fr : ℕ) where
   abbrev glonass : Bool
   glonass = eqb letter 82 && leb 1 ioe && leb ioe 96 && leb 1 fr && leb fr 24
 
-  few-other : (c most : ℕ) → most < 1000 → other c most ≡ true → (ioe < 1000) × (fr < 100)
-  few-other c most h e =
-      let p = and-both (eqb letter c && leb ioe most) (eqb fr 0) e in
-      let q = and-both (eqb letter c) (leb ioe most) (p .0) in
-      omega (arith, leb-true ioe most (q .1), eqb-true fr 0 (p .1))
+  few-other : (c most : ℕ) → most < 1000 → T (other c most) → (ioe < 1000) × (fr < 100)
+  few-other c most h t =
+      let p = and-yes (eqb letter c && leb ioe most) (eqb fr 0) t in
+      let q = and-yes (eqb letter c) (leb ioe most) (p .0) in
+      omega (arith, leb→le ioe most (q .1), eqb→eq fr 0 (p .1))
 
-  few-glonass : glonass ≡ true → (ioe < 1000) × (fr < 100)
-  few-glonass e =
-      let p = and-both (eqb letter 82 && leb 1 ioe && leb ioe 96 && leb 1 fr) (leb fr 24) e in
-      let q = and-both (eqb letter 82 && leb 1 ioe && leb ioe 96) (leb 1 fr) (p .0) in
-      let r = and-both (eqb letter 82 && leb 1 ioe) (leb ioe 96) (q .0) in
-      omega (arith, leb-true ioe 96 (r .1), leb-true fr 24 (p .1))
+  few-glonass : T glonass → (ioe < 1000) × (fr < 100)
+  few-glonass t =
+      let p = and-yes (eqb letter 82 && leb 1 ioe && leb ioe 96 && leb 1 fr) (leb fr 24) t in
+      let q = and-yes (eqb letter 82 && leb 1 ioe && leb ioe 96) (leb 1 fr) (p .0) in
+      let r = and-yes (eqb letter 82 && leb 1 ioe) (leb ioe 96) (q .0) in
+      omega (arith, leb→le ioe 96 (r .1), leb→le fr 24 (p .1))
 
   -- whatever the letter, IOE has at most three digits and FR at most two
-  few-digits : constellationFits letter ioe fr ≡ true → (ioe < 1000) × (fr < 100)
+  few-digits : T (constellationFits letter ioe fr) → (ioe < 1000) × (fr < 100)
   unfolding constellationFits
-  few-digits e =
+  few-digits t =
       or-elim (other 71 255 || glonass || other 69 999 || other 67 23) (other 74 255)
       (or-elim (other 71 255 || glonass || other 69 999) (other 67 23)
       (or-elim (other 71 255 || glonass) (other 69 999)
       (or-elim (other 71 255) glonass (few-other 71 255 (omega arith)) few-glonass)
       (few-other 69 999 (omega arith)))
       (few-other 67 23 (omega arith)))
-      (few-other 74 255 (omega arith)) e
+      (few-other 74 255 (omega arith)) t
 
 -- the numbers among the labels have no more digits than columns
 pub record Few (l : Labels) : Type 0 where
@@ -142,20 +138,20 @@ pub record Few (l : Labels) : Type 0 where
 pub few : (l : Labels) → labelsFit l ≡ true → Few l
 unfolding labelsFit
 few l e =
-    let azth = and-both (fits && leb 1 (l .satellite) && leb (l .satellite) 99 && leb (l .hc) 99 && codes && leb (l .elv) 900) (leb (l .azth) 3599) e in
-    let elv = and-both (fits && leb 1 (l .satellite) && leb (l .satellite) 99 && leb (l .hc) 99 && codes) (leb (l .elv) 900) (azth .0) in
-    let code = and-both (fits && leb 1 (l .satellite) && leb (l .satellite) 99 && leb (l .hc) 99) codes (elv .0) in
-    let hc = and-both (fits && leb 1 (l .satellite) && leb (l .satellite) 99) (leb (l .hc) 99) (code .0) in
-    let most = and-both (fits && leb 1 (l .satellite)) (leb (l .satellite) 99) (hc .0) in
-    let least = and-both fits (leb 1 (l .satellite)) (most .0) in
+    let azth = and-yes (fits && leb 1 (l .satellite) && leb (l .satellite) 99 && leb (l .hc) 99 && codes && leb (l .elv) 900) (leb (l .azth) 3599) (subst T (sym e) tt) in
+    let elv = and-yes (fits && leb 1 (l .satellite) && leb (l .satellite) 99 && leb (l .hc) 99 && codes) (leb (l .elv) 900) (azth .0) in
+    let code = and-yes (fits && leb 1 (l .satellite) && leb (l .satellite) 99 && leb (l .hc) 99) codes (elv .0) in
+    let hc = and-yes (fits && leb 1 (l .satellite) && leb (l .satellite) 99) (leb (l .hc) 99) (code .0) in
+    let most = and-yes (fits && leb 1 (l .satellite)) (leb (l .satellite) 99) (hc .0) in
+    let least = and-yes fits (leb 1 (l .satellite)) (most .0) in
     let d = few-digits (l .constellation) (l .ioe) (l .fr) (least .0) in
     record {
-      satellite = omega (arith, leb-true (l .satellite) 99 (most .1));
+      satellite = omega (arith, leb→le (l .satellite) 99 (most .1));
       ioe = d .0;
       fr = d .1;
-      hc = omega (arith, leb-true (l .hc) 99 (hc .1));
-      elv = omega (arith, leb-true (l .elv) 900 (elv .1));
-      azth = omega (arith, leb-true (l .azth) 3599 (azth .1));
+      hc = omega (arith, leb→le (l .hc) 99 (hc .1));
+      elv = omega (arith, leb→le (l .elv) 900 (elv .1));
+      azth = omega (arith, leb→le (l .azth) 3599 (azth .1));
     }
   where
     fits : Bool
@@ -233,10 +229,13 @@ labels-back l n bytes rest a cl =
 
 -- ---- the lent line after an accepted call
 
+pub numbers-read : (l : Labels) (n : Numbers) (lent : List ℕ) → lineAnswer l n (length lent) ≡ 0 → readNumbers (lineAfter l n lent) ≡ n
+numbers-read l n lent e =
+    ap readNumbers (after-is l n lent e) ∙ numbers-back l n (length lent) (drop lineLength lent) (accepted l n (length lent) e)
+
 pub read-back : (l : Labels) (n : Numbers) (lent : List ℕ) → lineAnswer l n (length lent) ≡ 0 → l .cl < 256
     → (readLabels (lineAfter l n lent) ≡ l) × (readNumbers (lineAfter l n lent) ≡ n)
-read-back l n lent e cl =
-    let a = accepted l n (length lent) e in (
-      ap readLabels (after-is l n lent e) ∙ labels-back l n (length lent) (drop lineLength lent) a cl,
-      ap readNumbers (after-is l n lent e) ∙ numbers-back l n (length lent) (drop lineLength lent) a,
-    )
+read-back l n lent e cl = (
+  ap readLabels (after-is l n lent e) ∙ labels-back l n (length lent) (drop lineLength lent) (accepted l n (length lent) e) cl,
+  numbers-read l n lent e,
+)

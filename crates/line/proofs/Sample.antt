@@ -1,7 +1,6 @@
 -- The sample line of document 01 ("The hire block"): the definitions give it to the letter, and Line accepts its labels and numbers.
 -- Assumes nothing.
 use mathlib.Core.Path.{_≡_, refl}
-use mathlib.Core.Bool.{true, false}
 use mathlib.Core.List.{List, [], _∷_}
 use Prim.Native.Nat.{ℕ}
 use Prim.Native.Char.{code}
@@ -12,7 +11,7 @@ use Rattle.limits.specs.Limits.{outside, limitsRule, dsgRule}
 use Rattle.schedule.specs.Schedule.{broughtIn, startMinute, some, isStart, startRule}
 use Rattle.fields.specs.Text.{decimal, sign, signed, hexDigit, hexadecimal, byteSum, checksum}
 use Rattle.labels.specs.declared.Labels.{Labels}
-use Rattle.labels.specs.declared.Numbers.{Numbers}
+use Rattle.limits.specs.declared.Numbers.{Numbers}
 use Rattle.labels.specs.Labels.{constellationFits, codeFits, labelsFit}
 use Rattle.labels.specs.Content.{contentRule}
 use Rattle.line.specs.Line.{lineAnswer}

@@ -7,7 +7,7 @@ use lib.ListN.{length, drop}
 use lib.Dec.{ltb, eqb}
 use Rattle.limits.specs.Refusal.{_when_, _then_}
 use Rattle.labels.specs.declared.Labels.{Labels}
-use Rattle.labels.specs.declared.Numbers.{Numbers}
+use Rattle.limits.specs.declared.Numbers.{Numbers}
 use Rattle.labels.specs.Content.{contentRule}
 use Rattle.columns.specs.Text.{lineLength, lineText}
 

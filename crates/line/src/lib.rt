@@ -5,11 +5,11 @@
 ghost use mathlib.Core.Path.{_≡_};
 ghost use lib.ListN.{length};
 ghost use Rattle.exact.specs.Accurate.{AccurateTrack};
+ghost use Rattle.columns.specs.Columns.{readNumbers};
 ghost use Rattle.line.specs.Line.{lineAnswer, lineAfter};
 ghost use Rattle.hire.specs.Hire.{blockGiven};
-ghost use Rattle.line.specs.Block.{numbersIn, blockAnswer, blockAfter, readFigures};
+ghost use Rattle.line.specs.Block.{blockAnswer, blockAfter};
 use decode::unsigned16;
-use fit::TrackRecord;
 pub use labels::Labels;
 pub use labels::Numbers;
 use limits::then;
@@ -34,29 +34,11 @@ pub fn line(labels: Labels, numbers: Numbers, lent: &mut [u8]) -> u32
     0
 }
 
-// The ten numbers of a track's record.
-fn numbers(t: TrackRecord) -> Numbers
-    ensures { λ r. ⌜ r ≡ numbersIn t ⌝ }
-{
-    Numbers {
-        refsv: t.refsv,
-        srsv: t.srsv,
-        refsys: t.refsys,
-        srsys: t.srsys,
-        mdtr: t.mdtr,
-        smdt: t.smdt,
-        mdio: t.mdio,
-        smdi: t.smdi,
-        dsg: t.dsg,
-        trkl: t.trkl,
-    }
-}
-
 // The line of a hire block: what it is refused for, else its line in the lent one.
 pub fn block(block: &[u8], lent: &mut [u8]) -> u32
     ensures answer { λ r. ⌜ r ≡ blockAnswer (now (block .entry)) (length (now (lent .entry))) ⌝ }
     ensures written { λ _. ⌜ now (lent .exit) ≡ blockAfter (now (block .entry)) (now (lent .entry)) ⌝ }
-    ensures accurate { λ r. ⌜ (r ≡ 0 → AccurateTrack 52 (blockGiven (now (block .entry))) (readFigures (now (lent .exit)))) ⌝ }
+    ensures accurate { λ r. ⌜ (r ≡ 0 → AccurateTrack 52 (blockGiven (now (block .entry))) (readNumbers (now (lent .exit)))) ⌝ }
 {
     if block.len() != 8378 {
         return 11;
@@ -70,5 +52,5 @@ pub fn block(block: &[u8], lent: &mut [u8]) -> u32
         return refusal;
     }
     let record = tracked.record;
-    line(hire::labels(block), numbers(record), lent)
+    line(hire::labels(block), record.numbers, lent)
 }

@@ -15,7 +15,7 @@ use Rattle.limits.proofs.Laws.{or-false}
 use Rattle.fields.specs.Text.{hexDigit, hexadecimal, checksum}
 use Rattle.fields.specs.Read.{readDecimal, readSigned}
 use Rattle.labels.specs.declared.Labels.{Labels}
-use Rattle.labels.specs.declared.Numbers.{Numbers}
+use Rattle.limits.specs.declared.Numbers.{Numbers}
 use Rattle.labels.specs.Content.{contentRule}
 use Rattle.columns.specs.Text.{lineLength, clock, trackColumns, clockColumns, delayColumns, columns, spaced, lineText}
 use Rattle.columns.specs.Columns.{byteIn, field, readLabels, readNumbers}

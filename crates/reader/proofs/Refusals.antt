@@ -4,21 +4,20 @@ use mathlib.Core.Path.{_≡_, refl, sym, ap, ap₂, _∙_, subst}
 use mathlib.Core.Bool.{Bool, true, false, not, _||_, or-false as or-none}
 use mathlib.Core.List.{List}
 use Prim.Native.Nat.{ℕ, zero, suc, _^_, _≤_, _<_}
-use native.Mathlib.Nat.{not-suc-le-zero, le-of-suc-le-suc}
 use native.Mathlib.Omega.{arith}
 use lib.Dec.{ltb, eqb·suc-zero}
-use lib.IntN.{ℤ, pos, negsuc, natAbs}
+use lib.IntN.{pos, natAbs}
 use lib.ListN.{length, drop}
 use borrow.Author.Tests.{ltb-false, le-ltb, eqb-true, eq-eqb, ne-eqb, not-false}
 use Rattle.limits.specs.Refusal.{_when_, _then_}
 use Rattle.limits.specs.Limits.{outside, beyond, limitsRule, dsgRule}
-use Rattle.limits.proofs.Laws.{then-zero, then-refused, then-passed, then-assoc, when-zero, or-false}
+use Rattle.limits.proofs.Laws.{then-zero, then-refused, then-passed, then-assoc, when-zero, or-false, within-magnitude}
 use Rattle.limits.specs.Reply.{Reply, reply}
 use Rattle.limits.proofs.Replies.{reply-accepted, reply-refused, reply-number}
 use Rattle.schedule.specs.Schedule.{startRule}
 use Rattle.fields.specs.Read.{readDecimal, readSigned}
 use Rattle.labels.specs.declared.Labels.{Labels}
-use Rattle.labels.specs.declared.Numbers.{Numbers}
+use Rattle.limits.specs.declared.Numbers.{Numbers}
 use Rattle.labels.specs.Labels.{labelsFit, trackLength}
 use Rattle.labels.specs.Content.{contentRule}
 use Rattle.columns.specs.Text.{lineLength}
@@ -101,13 +100,6 @@ then-none (suc n) = rw (eqb·suc-zero n)
 
 -- ---- the numbers of a line are within their limits
 
-inside : (limit : ℕ) (z : ℤ) → natAbs z ≤ limit → beyond limit z ≡ false
-unfolding outside
-inside zero (pos n) h = ap₂ _||_ (le-ltb n 0 (omega arith)) (le-ltb 0 n h)
-inside (suc limit) (pos n) h = le-ltb (suc limit) n h
-inside zero (negsuc n) h = absurd (not-suc-le-zero h)
-inside (suc limit) (negsuc n) h = ap (λ (t : Bool). t || false) (le-ltb limit n (le-of-suc-le-suc h))
-
 natural-inside : (low high n : ℕ) → low ≤ n → n ≤ high → outside (pos low) (pos high) (pos n) ≡ false
 unfolding outside
 natural-inside low high n h k = ap₂ _||_ (le-ltb n low h) (le-ltb high n k)
@@ -115,7 +107,7 @@ natural-inside low high n h k = ap₂ _||_ (le-ltb n low h) (le-ltb high n k)
 signed-inside : (limit : ℕ) {most first last : ℕ} {line : List ℕ} → Signed most first last line → 10 ^ most ≡ suc limit
     → beyond limit (readSigned (field first last line)) ≡ false
 signed-inside limit {most} {first} {last} {line} s e =
-    inside limit (readSigned (field first last line))
+    within-magnitude limit (readSigned (field first last line))
     (below (ap (λ (t : List ℕ). natAbs (readSigned t)) (signed-field s) ∙ read-magnitude _ _) (field-bound (s .digits)))
   where
     below : {m n : ℕ} → m ≡ n → n < 10 ^ most → m ≤ limit
@@ -130,8 +122,7 @@ decimal-inside limit {most} {first} {last} {line} d e =
     below h = omega (arith, e)
 
 module _ (line : List ℕ) (e : allowed kinds line ≡ true) where
-  pub limits-zero : let n = readNumbers line in
-      limitsRule (n .refsv) (n .srsv) (n .refsys) (n .srsys) (n .mdtr) (n .smdt) (n .mdio) (n .smdi) ≡ 0
+  pub limits-zero : limitsRule (readNumbers line) ≡ 0
   unfolding limitsRule readNumbers _when_ _then_
   limits-zero =
       let c = columns-of line e in

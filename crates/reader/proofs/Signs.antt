@@ -9,7 +9,7 @@ use lib.ListN.{getD}
 use lib.IntN.{pos, negℤ, natAbs}
 use borrow.Author.Tests.{eqb-true, eqb-false, eq-eqb, ne-eqb}
 use Rattle.fields.specs.Read.{readDecimal, readSigned}
-use Rattle.labels.specs.declared.Numbers.{Numbers}
+use Rattle.limits.specs.declared.Numbers.{Numbers}
 use Rattle.columns.specs.Columns.{byteIn, readNumbers}
 use Rattle.reader.specs.Read.{signedFields, isMinusZero, minusZero}
 

@@ -12,7 +12,7 @@ use borrow.Author.Tests.{ltb-true, ltb-false, le-leb}
 use Rattle.fields.specs.Text.{decimal, sign, signed, hexDigit, hexadecimal}
 use Rattle.fields.proofs.Laws.{length-decimal, length-signed, length-hexadecimal}
 use Rattle.labels.specs.declared.Labels.{Labels}
-use Rattle.labels.specs.declared.Numbers.{Numbers}
+use Rattle.limits.specs.declared.Numbers.{Numbers}
 use Rattle.labels.specs.Labels.{constellationFits, codeFits, labelsFit}
 use Rattle.columns.specs.Text.{clock, trackColumns, clockColumns, delayColumns, columns, spaced}
 use Rattle.columns.proofs.Widths.{length-clock}

@@ -18,7 +18,7 @@ use Rattle.fields.specs.Text.{decimal, sign, signed, hexDigit, hexadecimal, che
 use Rattle.fields.specs.Read.{readDecimal, readSigned}
 use Rattle.fields.proofs.Laws.{length-decimal, read-decimal}
 use Rattle.labels.specs.declared.Labels.{Labels}
-use Rattle.labels.specs.declared.Numbers.{Numbers}
+use Rattle.limits.specs.declared.Numbers.{Numbers}
 use Rattle.labels.specs.Labels.{labelsFit, trackLength}
 use Rattle.labels.specs.Content.{contentRule}
 use Rattle.columns.specs.Text.{lineLength, clock, trackColumns, clockColumns, delayColumns, columns, spaced, lineText}

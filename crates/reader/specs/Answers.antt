@@ -4,7 +4,7 @@
 use Prim.Native.Nat.{_<_}
 use Rattle.limits.specs.Reply.{Reply}
 use Rattle.labels.specs.declared.Labels.{Labels}
-use Rattle.labels.specs.declared.Numbers.{Numbers}
+use Rattle.limits.specs.declared.Numbers.{Numbers}
 use Rattle.reader.specs.declared.Reading.{Reading}
 use Rattle.reader.specs.Read.{noLabels, noNumbers}
 

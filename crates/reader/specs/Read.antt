@@ -12,7 +12,7 @@ use Rattle.limits.specs.Reply.{Reply, reply}
 use Rattle.fields.specs.Read.{readDecimal, readSigned}
 use Rattle.schedule.specs.Schedule.{startRule}
 use Rattle.labels.specs.declared.Labels.{Labels}
-use Rattle.labels.specs.declared.Numbers.{Numbers}
+use Rattle.limits.specs.declared.Numbers.{Numbers}
 use Rattle.labels.specs.Given.{labelsOf, numbersOf}
 use Rattle.labels.specs.Labels.{labelsFit, trackLength}
 use Rattle.columns.specs.Text.{lineLength}

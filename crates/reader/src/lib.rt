@@ -8,11 +8,11 @@ ghost use Rattle.reader.specs.Kinds.{kinds, allowed};
 ghost use Rattle.reader.specs.Read.{readRule, commentOffset, valuesNumber};
 ghost use Rattle.reader.specs.Answers.{readReply, readNumbered};
 ghost use Rattle.reader.specs.Part.{PartFrom};
-use fields::magnitude;
 use labels::Labels;
 use labels::Numbers;
 use limits::then;
 use limits::when;
+use whole::magnitude;
 
 mod characters;
 mod values;

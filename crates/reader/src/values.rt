@@ -9,9 +9,9 @@ ghost use Rattle.columns.specs.Columns.{field, readLabels, readNumbers};
 ghost use Rattle.reader.specs.Kinds.{kinds, allowed};
 ghost use Rattle.reader.specs.Read.{signedFields, isMinusZero, minusZero, clockBeyond};
 ghost use Rattle.reader.specs.Fields.{digits, hexDigits, IsHexDigit, Holds, Digits, Signed};
-use fields::magnitude;
 use labels::Labels;
 use labels::Numbers;
+use whole::magnitude;
 
 // The number of a row of digits.
 fn digits(text: &[u8]) -> u64

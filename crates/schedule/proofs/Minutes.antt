@@ -4,10 +4,12 @@ use mathlib.Core.Path.{_≡_, refl, sym, ap, _∙_, subst}
 use mathlib.Core.Bool.{Bool, true, false, _||_, _&&_}
 use Prim.Native.Nat.{ℕ, zero, suc, _+_, _*_, _-_, _/_, _%_, _≤_, _<_}
 use native.Mathlib.Nat.{not-suc-le-zero, le-refl}
+use native.Mathlib.Numerals.{sub-one}
 use native.Mathlib.Omega.{arith}
 use lib.Dec.{T, leb, ltb, eqb, eqb→eq, ltb→lt}
-use lib.IntN.{ℤ, pos, negsuc, natAbs, subℕ, negℤ-negℤ, _-ℤ_}
+use lib.IntN.{pos, negsuc, subℕ, negℤ-negℤ, _-ℤ_}
 use borrow.Author.Tests.{lt-ltb, le-ltb, eq-eqb, leb-true, leb-false, eqb-true, eqb-false, ltb-false, not-false}
+use mir.Facts.{and-yes}
 use Rattle.limits.proofs.Laws.{then-zero, when-zero, or-false}
 use Rattle.schedule.specs.Schedule.{firstDate, lastDate, day, tracks, broughtIn, startMinute, some, isStart, startRule}
 
@@ -48,10 +50,7 @@ brought-difference a b = ap broughtIn (sub-is a b) ∙ elim (leb b a) as (λ t. 
 
 pub start-minute : (n k : ℕ) → startMinute n (suc k) ≡ (2 + 16 * k + (day - 1) * (4 * n)) % day
 unfolding startMinute
-start-minute n k = simp (le-ltb (suc k) 1 (omega arith), less k) (brought-difference (2 + 16 * k) (4 * n))
-  where
-    less : (k : ℕ) → suc k - 1 ≡ k
-    less k = omega arith
+start-minute n k = simp (le-ltb (suc k) 1 (omega arith), sub-one) (brought-difference (2 + 16 * k) (4 * n))
 
 -- ---- the search
 
@@ -122,10 +121,6 @@ start-passes n second t =
 
 -- ---- the row of tests
 
-and-both : (a b : Bool) → T (a && b) → T a × T b
-and-both true b t = (tt, t)
-and-both false b t = absurd t
-
 same : (a b : Bool) → (T a → T b) → (T b → T a) → a ≡ b
 same true true f g = refl
 same true false f g = absurd (f tt)
@@ -151,9 +146,9 @@ row n second = same (whole && inside && step && track) (isStart n second) (λ t.
 
     tests : T (whole && inside && step && track) → Tests n second
     tests t =
-        let u = and-both (whole && inside && step) track t in
-        let v = and-both (whole && inside) step (u .0) in
-        let w = and-both whole inside (v .0) in
+        let u = and-yes (whole && inside && step) track t in
+        let v = and-yes (whole && inside) step (u .0) in
+        let w = and-yes whole inside (v .0) in
         record {
           whole = eqb→eq (second % 60) 0 (w .0);
           inside = ltb→lt (second / 60) day (w .1);

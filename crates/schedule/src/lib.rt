@@ -13,6 +13,9 @@ const TRACKS: u32 = 89;
 
 const DAY: u32 = 1440;
 
+// The minutes by which the tracks of a day start earlier than those of the day before.
+const EARLIER: u32 = 4;
+
 // Whether a track starts at that second, n days after the first date. since_first is the time since the first track, in minutes of
 // a day that begins there.
 fn is_start(n: u32, second: u32) -> bool
@@ -20,7 +23,7 @@ fn is_start(n: u32, second: u32) -> bool
     ensures { λ r. ⌜ r ≡ isStart n second ⌝ }
 {
     let minute = second / 60;
-    let since_first = (minute + 4 * n + DAY - 2) % DAY;
+    let since_first = (minute + EARLIER * n + DAY - 2) % DAY;
     (second % 60 == 0) & (minute < DAY) & (since_first % 16 == 0) & (since_first / 16 < TRACKS)
 }
 

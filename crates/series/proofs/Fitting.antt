@@ -15,7 +15,7 @@ use Rattle.whole.specs.Linear.{le-by}
 use Rattle.whole.specs.Order.{pos-le-is}
 use Rattle.whole.specs.Magnitude.{natAbs-mul, magnitude-le}
 use Rattle.whole.specs.Rounding.{nearest-scale}
-use Rattle.whole.specs.Words.{partial}
+use Rattle.whole.specs.Words.{Word, Within, told, partial}
 use Rattle.exact.specs.Corrected.{at}
 use Rattle.exact.specs.Weights.{place}
 use Rattle.limits.specs.Lists.{anyBeyond}
@@ -46,6 +46,14 @@ module _ (limit : ℕ) (l : List ℤ) (e : anyBeyond limit l ≡ false) where
   pub moment-bound : (n : ℕ) → natAbs (moment n (at l)) ≤ n * (n * limit)
   unfolding moment
   moment-bound n = partial n n (λ j. place n j *ℤ at l j) (n * limit) (le-refl n) (product-bound n)
+
+-- two numbers that are said to be the two sums S and T, and to be within b and c, as words
+module _ {s t S T : ℤ} {b c : ℕ} (h : ((s ≡ S) × (t ≡ T)) × (Within b s × Within c t)) where
+  abbrev pub total-word : Word s
+  total-word = told (h .0 .0) (h .1 .0)
+
+  abbrev pub moment-word : Word t
+  moment-word = told (h .0 .1) (h .1 .1)
 
 -- document 01's numbers
 pub midpoint-52 : (v : ℕ → ℤ) → midpoint 1 52 v ≡ nearest (total 52 v) 5200

@@ -6,8 +6,7 @@ use native.Mathlib.Omega.{arith}
 use lib.IntN.{ℤ}
 use Rattle.limits.specs.Reply.{Reply}
 use Rattle.series.specs.declared.Smoothed.{Smoothed}
-use Rattle.series.specs.declared.Fitted.{Fitted}
-use Rattle.series.specs.Answers.{smoothReply, smoothNumbered, fitReply, fitNumbered}
+use Rattle.series.specs.Answers.{smoothReply, smoothNumbered}
 
 pub smooth-case : (r : Smoothed) (v : ℤ) → smoothReply r ≡ record { number = 0; values = v } → smoothNumbered r
     → r ≡ Smoothed.Value v
@@ -17,17 +16,6 @@ smooth-case (Smoothed.Refused n) v e h = absurd (never (ap (λ (t : Reply ℤ). 
     never : n ≡ 0 → 0 < n → ⊥
     never e h = omega arith
 
-pub fit-case : (r : Fitted) (v : ℤ × ℤ) → fitReply r ≡ record { number = 0; values = v } → fitNumbered r
-    → r ≡ Fitted.Line (v .0) (v .1)
-fit-case (Fitted.Line m s) v e h = ap (λ (t : Reply (ℤ × ℤ)). Fitted.Line (t .values .0) (t .values .1)) e
-fit-case (Fitted.Refused n) v e h = absurd (never (ap (λ (t : Reply (ℤ × ℤ)). t .number) e) h)
-  where
-    never : n ≡ 0 → 0 < n → ⊥
-    never e h = omega arith
-
 -- two cases of one answer are not both its case
 pub smooth-cases : {r : Smoothed} {v : ℤ} {n : ℕ} → r ≡ Smoothed.Value v → r ≡ Smoothed.Refused n → ⊥
 smooth-cases {r} {v} {n} p q = let z : _≡_ {A = ℕ} 0 1 = cc in omega arith
-
-pub fit-cases : {r : Fitted} {m s : ℤ} {n : ℕ} → r ≡ Fitted.Line m s → r ≡ Fitted.Refused n → ⊥
-fit-cases {r} {m} {s} {n} p q = let z : _≡_ {A = ℕ} 0 1 = cc in omega arith

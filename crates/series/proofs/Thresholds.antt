@@ -1,5 +1,5 @@
--- Laws of DSG and its thresholds (specs/Scatter.antt): DSG is the greatest number from 1 up whose threshold is not above the sum of squares, or 0 where
--- there is none, and it is the only number whose threshold is reached and whose next threshold is not.
+-- Laws of DSG and its thresholds (specs/Scatter.antt). DSG is document 01's number: `dsg-greatest` says that its threshold is reached and the next one is
+-- not, `greatest` that no number from 1 up whose threshold is reached is greater then, and `greatest-only` that there is one such number only.
 -- Assumes nothing.
 use mathlib.Core.Path.{_≡_, refl, sym, ap, _∙_, subst, subst₂}
 use mathlib.Core.Bool.{Bool, true, false, cond}
@@ -131,6 +131,8 @@ module _ (s n : ℕ) (s-pos : 0 < s) (n-pos : 0 < n) where
       (subst (λ (z : ℤ). pos (natAbs q) ⋖ z) (sym (threshold-natural s n (suc (natAbs q + 1)) (omega arith)))
       (pos-lt (le-trans {m = suc (natAbs q + 1)} (omega arith) (threshold-least (suc (natAbs q + 1)) (omega arith)))))
 
+  -- What the definition climbs to is the greatest: its own threshold is reached, if it is not 0, and the next one is not. With `greatest`, which says what
+  -- follows of every other number, this is "the greatest d from 1 up with 52 × (100d - 50)² not above Q", or 0 where there is none.
   pub dsg-greatest : (q : ℤ) → Greatest s n q (dsg s n q)
   unfolding dsg
   dsg-greatest q = go (ltZ q (pos (2500 * (s * s) * n))) refl

@@ -1,11 +1,14 @@
--- The table of weights (specs/Smooth.antt): each is the value of 167 - 5x² at its second x, and how large a product with one can be.
+-- The table of weights (specs/Smooth.antt): how large a product with one can be, and a smoothed value.
 -- Assumes nothing.
-use mathlib.Core.Path.{refl}
+use mathlib.Core.Path.{_≡_, refl, sym, ap, _∙_}
 use Prim.Native.Nat.{ℕ, _*_, _^_, _≤_, _<_}
-use native.Mathlib.Nat.{le-trans, le-of-eq, mul-le-mul}
+use native.Mathlib.Nat.{le-trans, le-of-eq, mul-comm, mul-le-mul, mul-le-mul-right}
 use lib.Dec.{lit<, lit≤}
-use lib.IntN.{ℤ, natAbs, _*ℤ_}
+use lib.IntN.{ℤ, pos, natAbs, _*ℤ_}
+use Rattle.whole.specs.Square.{magnitude}
 use Rattle.whole.specs.Sum.{sum}
+use Rattle.whole.specs.Sums.{sum-le, sum-scale, magnitude-sum}
+use Rattle.whole.specs.Order.{_⩽_, pos-le, pos-le-is, le-trans as ⩽-trans, le-of-eq as ⩽-of-eq}
 use Rattle.whole.specs.Magnitude.{natAbs-mul}
 use Rattle.whole.specs.Rounding.{nearest-bound}
 use Rattle.whole.specs.Words.{partial}
@@ -20,6 +23,11 @@ pub weight-bound : (i : ℕ) → natAbs (at weights i) ≤ 167
 unfolding weights anyOutside outside
 weight-bound i = within-limit 167 weights refl i
 
+-- their magnitudes add up to 1469, so that smoothing magnifies by at most 1469 / 1105
+gain : sum 15 (λ i. magnitude (at weights i)) ≡ pos 1469
+unfolding sum weights
+gain = refl
+
 -- a product with one, and the sum of fifteen
 module _ (m : ℕ → ℤ) (h : (i : ℕ) → natAbs (m i) ≤ 10 ^ 12) where
   product-bound : (i : ℕ) → i < 15 → natAbs (at weights i *ℤ m i) ≤ 167 * 10 ^ 12
@@ -28,6 +36,20 @@ module _ (m : ℕ → ℤ) (h : (i : ℕ) → natAbs (m i) ≤ 10 ^ 12) where
   pub weighted-bound : (k : ℕ) → k ≤ 15 → natAbs (sum k (λ i. at weights i *ℤ m i)) ≤ 15 * (167 * 10 ^ 12)
   weighted-bound k l = partial 15 k (λ i. at weights i *ℤ m i) (167 * 10 ^ 12) l product-bound
 
-  pub smoothed-bound : natAbs (smoothed m) ≤ 3 * 10 ^ 12
+  -- the fifteen products come to at most 1469 × 10^12, and a smoothed value to the nearest to 1469 / 1105 × 10^12
+  products-bound : natAbs (sum 15 (λ i. at weights i *ℤ m i)) ≤ 10 ^ 12 * 1469
+  products-bound =
+      pos-le-is
+      (⩽-trans (magnitude-sum 15 (λ i. at weights i *ℤ m i))
+      (⩽-trans (sum-le 15 each)
+      (⩽-of-eq (sym (sum-scale 15 (pos (10 ^ 12)) (λ i. magnitude (at weights i))) ∙ ap (λ (z : ℤ). pos (10 ^ 12) *ℤ z) gain))))
+    where
+      each : (i : ℕ) → i < 15 → magnitude (at weights i *ℤ m i) ⩽ pos (10 ^ 12) *ℤ magnitude (at weights i)
+      each i k =
+          pos-le
+          (le-trans (le-of-eq (natAbs-mul (at weights i) (m i) ∙ mul-comm (natAbs (at weights i)) (natAbs (m i))))
+          (mul-le-mul-right (natAbs (at weights i)) (h i)))
+
+  pub smoothed-bound : natAbs (smoothed m) ≤ 1329411764706
   unfolding smoothed
-  smoothed-bound = nearest-bound (sum 15 (λ i. at weights i *ℤ m i)) 1105 (3 * 10 ^ 12) (lit< tt) (le-trans (weighted-bound 15 (lit≤ tt)) (lit≤ tt))
+  smoothed-bound = nearest-bound (sum 15 (λ i. at weights i *ℤ m i)) 1105 1329411764706 (lit< tt) (le-trans products-bound (lit≤ tt))

@@ -39,7 +39,7 @@ climb e q zero d = d
 climb e q (suc k) d = elim (leZ (e (suc d)) q) [ true ↦ climb e q k (suc d) | false ↦ d ]
 
 -- DSG: 0 if q is under 2500 n, with 52 values 130000; otherwise the greatest d from 1 up whose threshold is not above q. As a threshold lies above
--- its d, q steps are enough: that no d from 1 up with such a threshold is greater is the law `greatest` of proofs/Thresholds.antt.
+-- its d, q steps are enough. That it is the greatest are the laws `dsg-greatest` and `greatest` of proofs/Thresholds.antt.
 unfoldable pub dsg : ℕ → ℕ → ℤ → ℕ
 dsg s n q = cond (ltZ q (pos (2500 * (s * s) * n))) 0 (climb (threshold s n) q (natAbs q) 1)
 

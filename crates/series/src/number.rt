@@ -1,6 +1,6 @@
 // The nearest whole number to a fraction.
 ghost use mathlib.Core.Path.{_≡_};
-ghost use Prim.Native.Nat.{_^_, _<_};
+ghost use Prim.Native.Nat.{_+_, _^_, _<_};
 ghost use lib.IntN.{pos};
 ghost use lib.Signed.{mag};
 ghost use Rattle.whole.specs.Nearest.{nearest};
@@ -8,6 +8,7 @@ ghost use Rattle.whole.specs.Words.{Within};
 
 // How far v lies from 0, or where it is below 0 from -1.
 fn folded(v: i64) -> i64
+    requires { ⌜ Within (2 ^ 62 + 2 ^ 32) v ⌝ }
     ensures { λ r. ⌜ r ≡ pos (mag v) ⌝ }
 {
     if v < 0 { -1 - v } else { v }

@@ -1,9 +1,9 @@
 // Lists of values: the refusals that they share, the weighted sum of a block, the sums of a fit, the squared residuals, and DSG.
 use super::number::nearest;
-use fields::magnitude;
 use limits::any_outside;
 use limits::then;
 use limits::when;
+use whole::magnitude;
 ghost use mathlib.Core.Path.{_≡_};
 ghost use mathlib.Core.Bool.{false};
 ghost use Prim.Native.Nat.{min, _*_, _^_, _<_, _≤_};

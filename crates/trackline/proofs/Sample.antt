@@ -20,14 +20,14 @@ use Rattle.series.specs.Smooth.{smoothed}
 use Rattle.series.specs.Fit.{total, moment, midpoint, slope}
 use Rattle.series.specs.Scatter.{residual, squares, threshold, climb, dsg}
 use Rattle.fit.specs.declared.TrackRecord.{TrackRecord}
-use Rattle.fit.specs.Track.{smoothedAt, valueA, valueB, valueC, valueD, recordOf, results, given, wrongSizes, outOfLimits, correctedBeyond, numbersRule, recordNumber, trackNumber}
+use Rattle.fit.specs.Track.{smoothedAt, valueA, valueB, valueC, valueD, numbersWith, recordOf, results, given, wrongSizes, outOfLimits, correctedBeyond, numbersRule, recordNumber, trackNumber}
 use Rattle.columns.specs.Text.{lineLength, lineText}
 use Rattle.line.specs.Line.{lineAnswer}
 use Rattle.hire.specs.Hire.{blockLabels, blockGiven}
-use Rattle.line.specs.Block.{numbersIn, blockAnswer}
+use Rattle.line.specs.Block.{blockNumbers, blockAnswer}
 use Rattle.line.proofs.Sample.{bytesOf, labels, numbers, sample, sample-accepted}
 use Rattle.labels.specs.declared.Labels.{Labels}
-use Rattle.labels.specs.declared.Numbers.{Numbers}
+use Rattle.limits.specs.declared.Numbers.{Numbers}
 use Rattle.line.proofs.Blocks.{missized, line-answers}
 use Rattle.trackline.specs.Printed.{printed}
 use Rattle.trackline.proofs.Texts.{accepted-answer}
@@ -62,8 +62,8 @@ sample-results : results sampleTrack ≡ sampleRecord
 unfolding results
 sample-results = rw (sample-a, sample-b, sample-c, sample-d)
 
-sample-numbers : numbersIn sampleRecord ≡ numbers
-unfolding sum nearest place total moment midpoint slope residual squares threshold climb dsg recordOf
+sample-numbers : sampleRecord .numbers ≡ numbers
+unfolding sum nearest place total moment midpoint slope residual squares threshold climb dsg recordOf numbersWith
 sample-numbers = refl
 
 -- and Track accepts it
@@ -72,7 +72,7 @@ unfolding outside anyOutside wrongSizes outOfLimits
 sample-inside = (refl, refl)
 
 sample-record-accepted : recordNumber sampleRecord ≡ 0
-unfolding sum nearest place total moment midpoint slope residual squares threshold climb dsg recordOf outside _when_ _then_ limitsRule dsgRule anyOutside correctedBeyond numbersRule recordNumber
+unfolding sum nearest place total moment midpoint slope residual squares threshold climb dsg recordOf numbersWith outside _when_ _then_ limitsRule dsgRule anyOutside correctedBeyond numbersRule recordNumber
 sample-record-accepted = refl
 
 sample-accepted-track : trackNumber sampleTrack ≡ 0
@@ -121,8 +121,8 @@ unfolding blockGiven
 sample-given =
     rw (sample-measurements, sample-delays .0, sample-delays .1, sample-delays .2, sample-delays .3, sample-column 0, sample-column 8, sample-column 16, sample-column 24, sample-column 32)
 
-sample-numbers-given : numbersIn (results (blockGiven sampleBlock)) ≡ numbers
-sample-numbers-given = ap (λ (g : Given). numbersIn (results g)) sample-given ∙ ap (λ (t : TrackRecord). numbersIn t) sample-results ∙ sample-numbers
+sample-numbers-given : blockNumbers sampleBlock ≡ numbers
+sample-numbers-given = ap (λ (g : Given). results g .numbers) sample-given ∙ ap (λ (t : TrackRecord). t .numbers) sample-results ∙ sample-numbers
 
 -- Block accepts it, with room for a line
 sample-sizes : missized sampleBlock ≡ false

@@ -1,4 +1,4 @@
--- Laws of texts at the front of a buffer (specs/Printed.antt), and how long what is printed can be.
+-- Laws of texts at the front of a buffer (specs/Buffer.antt), and how long what is printed can be.
 -- Assumes nothing.
 use mathlib.Core.Path.{_≡_, refl, sym, ap, _∙_, subst}
 use mathlib.Core.List.{List, [], _∷_, _++_, append-assoc, append-nil}
@@ -11,12 +11,12 @@ use lib.Seq.{take-length, take-at}
 use lib.Dec.{lit≤}
 use borrow.Author.Tests.{lt-ltb, le-ltb, eq-eqb, ne-eqb}
 use Rattle.fields.specs.Text.{decimal}
-use Rattle.columns.specs.Text.{lineLength, lineText}
-use Rattle.hire.specs.Hire.{blockLabels, blockGiven}
-use Rattle.line.specs.Block.{numbersIn, blockAnswer, blockAfter}
+use Rattle.columns.specs.Text.{lineLength}
+use Rattle.hire.specs.Hire.{blockLabels}
+use Rattle.line.specs.Block.{blockNumbers, blockLine, blockAnswer, blockAfter}
 use Rattle.columns.proofs.Widths.{line-width}
-use Rattle.fit.specs.Track.{results}
-use Rattle.trackline.specs.Printed.{refusal, answer, printed, Text, Pushed}
+use Rattle.trackline.specs.Printed.{refusal, answer, printed}
+use Rattle.trackline.specs.Buffer.{Text, Pushed}
 
 -- ---- texts
 
@@ -71,11 +71,7 @@ pub refused-answer : (b : List ℕ) (number : ℕ) → number ≡ blockAnswer b 
 unfolding answer
 refused-answer b number e h = rw (← e, ne-eqb number 0 h)
 
--- the text of the block's line
-abbrev pub text : List ℕ → List ℕ
-text b = lineText (blockLabels b) (numbersIn (results (blockGiven b)))
-
-pub accepted-answer : (b : List ℕ) → blockAnswer b lineLength ≡ 0 → answer b ≡ text b
+pub accepted-answer : (b : List ℕ) → blockAnswer b lineLength ≡ 0 → answer b ≡ blockLine b
 unfolding answer
 accepted-answer b e = rw (eq-eqb (blockAnswer b lineLength) 0 e)
 
@@ -84,15 +80,15 @@ pub written-answer : (b lent after : List ℕ) → length lent ≡ lineLength �
 unfolding blockAfter
 written-answer b lent after l e a =
     a
-    ∙ rw (eq-eqb (blockAnswer b (length lent)) 0 e) (ap (λ (x : List ℕ). text b ++ x) (drop-of-length-le lent (le-of-eq l)))
-    ∙ append-nil (text b)
+    ∙ rw (eq-eqb (blockAnswer b (length lent)) 0 e) (ap (λ (x : List ℕ). blockLine b ++ x) (drop-of-length-le lent (le-of-eq l)))
+    ∙ append-nil (blockLine b)
     ∙ sym (accepted-answer b (ap (blockAnswer b) (sym l) ∙ e))
 
 pub answer-length : (b : List ℕ) → length (answer b) ≤ 113
 answer-length b = go (ℕ-discrete (blockAnswer b lineLength) 0)
   where
     go : Dec (blockAnswer b lineLength ≡ 0) → length (answer b) ≤ 113
-    go (yes e) = omega (arith, ap length (accepted-answer b e) ∙ line-width (blockLabels b) (numbersIn (results (blockGiven b))))
+    go (yes e) = omega (arith, ap length (accepted-answer b e) ∙ line-width (blockLabels b) (blockNumbers b))
     go (no h) =
         omega (arith, ap length (refused-answer b (blockAnswer b lineLength) refl h), refusal-length (blockAnswer b lineLength))
 

@@ -3,7 +3,8 @@
 ghost use mathlib.Core.Path.{_≡_};
 ghost use Prim.Native.Nat.{_+_, _≤_, _<_};
 ghost use lib.ListN.{length, take};
-ghost use Rattle.trackline.specs.Printed.{refusal, answer, printed, Pushed, Text};
+ghost use Rattle.trackline.specs.Printed.{refusal, answer, printed};
+ghost use Rattle.trackline.specs.Buffer.{Text, Pushed};
 use libc::STDIN_FILENO;
 use libc::STDOUT_FILENO;
 

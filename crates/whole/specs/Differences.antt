@@ -2,16 +2,14 @@
 -- which omega proves by multiplying out: see the module Ring for its use.
 -- Assumes nothing.
 use mathlib.Core.Path.{_≡_, refl, sym, ap, ap₂, _∙_, subst}
-use mathlib.Core.Bool.{Bool, true, false, cond, not}
-use mathlib.Core.Logic.{_↔_}
 use Prim.Native.Nat.{ℕ, zero, suc, _+_, _*_, _-_, _≤_, _<_}
-use native.Mathlib.Nat.{add-zero, add-sub-of-le, le-of-suc-le-suc}
+use native.Mathlib.Nat.{add-sub-of-le}
 use native.Mathlib.Decide.{decLe}
 use native.Mathlib.Omega.{arith}
-use lib.Dec.{T, leb, ltb, leb→le, le→leb, ltb→lt, lt→ltb}
-use lib.IntN.{ℤ, pos, negsuc, negℤ, natAbs, subℕ, _+ℤ_, _*ℤ_}
+use lib.Dec.{T, leb→le, le→leb, ltb→lt, lt→ltb}
+use lib.IntN.{ℤ, pos, negsuc, negℤ, subℕ, _+ℤ_, _*ℤ_}
 use lib.Signed.{leZ, ltZ, _≤ℤ_, _<ℤ_}
-use borrow.Author.Tests.{lt-ltb, le-ltb, ltb-true, ltb-false}
+use borrow.Author.Tests.{lt-ltb, le-ltb}
 
 -- The part of a whole number above 0, and the part below.
 abbrev pub above : ℤ → ℕ
@@ -52,7 +50,7 @@ dif-down : (a k : ℕ) → dif a (a + suc k) ≡ negsuc k
 unfolding dif
 dif-down a k = simp (lt-ltb a (a + suc k) (omega arith)) (ap negsuc (omega arith))
 
-pos-dif : (k : ℕ) → pos k ≡ dif k 0
+pub pos-dif : (k : ℕ) → pos k ≡ dif k 0
 pos-dif k = sym (dif-up 0 k) ∙ ap (λ (x : ℕ). dif x 0) (omega arith)
 
 negsuc-dif : (k : ℕ) → negsuc k ≡ dif 0 (suc k)
@@ -172,8 +170,5 @@ pub data Dif : ℤ → Type 0 where
 pub view : (z : ℤ) → Dif z
 view z = subst Dif (sym (dif-of z)) (of (above z) (below z))
 
--- a literal as a difference
-pub dif-pos : (k : ℕ) → pos k ≡ dif k 0
-dif-pos = pos-dif
-
-pub ruleset difs = (dif-add, dif-mul, dif-neg, dif-pos)
+-- what `simp` brings an expression to one difference by
+pub ruleset difs = (dif-add, dif-mul, dif-neg, pos-dif)

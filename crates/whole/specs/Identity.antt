@@ -5,13 +5,14 @@
 -- their difference are all 0. The module Examples shows it at work.
 -- Assumes nothing.
 pub mod Examples
-use mathlib.Core.Path.{_≡_, refl, sym, ap, ap₂, _∙_, subst}
-use mathlib.Core.Bool.{Bool, true, false}
+use mathlib.Core.Path.{_≡_, refl, sym, ap, ap₂, _∙_}
+use mathlib.Core.Bool.{Bool, true, false, _&&_}
 use mathlib.Core.List.{List, [], _∷_, map}
-use Prim.Native.Nat.{ℕ, zero, suc, _+_}
+use Prim.Native.Nat.{ℕ, zero, suc}
 use lib.Dec.{T, eqb, eqb→eq}
 use lib.ListN.{length}
 use lib.IntN.{ℤ, pos, negsuc, negℤ, _+ℤ_, _*ℤ_, +ℤ-idl, +ℤ-idr, *ℤ-zero, zero-*ℤ, *ℤ-comm}
+use mir.Facts.{and-yes}
 use Rattle.whole.specs.Ring.{one-*ℤ, negℤ-is, horner-*ℤ, horner-+ℤ, horner-scale, eq-of-sub}
 
 -- ---- polynomials: in no variable a number; in one variable more, the list of coefficients, the constant's first
@@ -57,13 +58,9 @@ abbrev times : (n : ℕ) → Pol n → Pol n → Pol n
 times zero p q = p *ℤ q
 times (suc n) p q = mulList (plus n) (times n) (none n) p q
 
-abbrev both : Bool → Bool → Bool
-both true b = b
-both false b = false
-
 abbrev allOf : {A : Type 0} → (A → Bool) → List A → Bool
 allOf f [] = true
-allOf f (a ∷ p) = both (f a) (allOf f p)
+allOf f (a ∷ p) = f a && allOf f p
 
 abbrev isZero : ℤ → Bool
 isZero (pos n) = eqb n 0
@@ -140,14 +137,6 @@ times-is [] p q = refl
 times-is (x ∷ ρ) p q =
     mulList-is (plus (length ρ)) (times (length ρ)) (none (length ρ)) (eval ρ) (plus-is ρ) (times-is ρ) (none-is ρ) x p q
 
-both-left : (a b : Bool) → T (both a b) → T a
-both-left true b t = tt
-both-left false b t = absurd t
-
-both-right : (a b : Bool) → T (both a b) → T b
-both-right true b t = t
-both-right false b t = absurd t
-
 isZero-is : (c : ℤ) → T (isZero c) → c ≡ pos 0
 isZero-is (pos n) t = ap pos (eqb→eq n 0 t)
 isZero-is (negsuc n) t = absurd t
@@ -156,9 +145,8 @@ module _ {A : Type 0} (v : A → Bool) (ev : A → ℤ) (v-is : (a : A) → T (v
   allOf-is : (p : List A) → T (allOf v p) → evalList ev x p ≡ pos 0
   allOf-is [] t = refl
   allOf-is (a ∷ p) t =
-      ap₂ (λ (y z : ℤ). y +ℤ x *ℤ z) (v-is a (both-left (v a) (allOf v p) t))
-      (allOf-is p (both-right (v a) (allOf v p) t))
-      ∙ last (pos 0) x
+      let each = and-yes (v a) (allOf v p) t in
+      ap₂ (λ (y z : ℤ). y +ℤ x *ℤ z) (v-is a (each .0)) (allOf-is p (each .1)) ∙ last (pos 0) x
 
 vanishes-is : (ρ : List ℤ) (p : Pol (length ρ)) → T (vanishes (length ρ) p) → eval ρ p ≡ pos 0
 vanishes-is [] p t = isZero-is p t

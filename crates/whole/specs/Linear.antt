@@ -4,7 +4,7 @@
 -- proves x ≤ℤ y from h : u ≤ℤ v, where ρ lists the atoms of all four. A product of two atoms is multiplied out and then an atom to omega.
 -- Assumes nothing.
 pub mod Examples
-use mathlib.Core.Path.{_≡_, refl, sym, ap, ap₂, _∙_, subst₂}
+use mathlib.Core.Path.{_≡_, sym, ap, ap₂, _∙_, subst₂}
 use mathlib.Core.List.{List}
 use Prim.Native.Nat.{ℕ, suc, _+_, _*_, _≤_, _<_}
 use lib.IntN.{ℤ, pos, negsuc, negℤ, _+ℤ_, _*ℤ_}

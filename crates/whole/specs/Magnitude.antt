@@ -1,9 +1,9 @@
 -- The absolute value: natAbs as a natural number, `magnitude` as a whole number (module Square).
 -- Assumes nothing.
 use mathlib.Core.Path.{_≡_, refl, sym, ap, _∙_, subst}
-use mathlib.Core.List.{List, [], _∷_}
-use Prim.Native.Nat.{ℕ, zero, suc, _+_, _*_, _/_, _≤_}
-use lib.IntN.{ℤ, pos, negsuc, negℤ, natAbs, _+ℤ_, _-ℤ_, _*ℤ_}
+use mathlib.Core.List.{[], _∷_}
+use Prim.Native.Nat.{zero, suc, _+_, _*_, _/_, _≤_}
+use lib.IntN.{ℤ, pos, negsuc, negℤ, natAbs, _+ℤ_, _*ℤ_}
 use lib.Signed.{quotZ}
 use Rattle.whole.specs.Square.{squared, magnitude}
 use Rattle.whole.specs.Identity.{identity, quote}
@@ -73,17 +73,11 @@ magnitude-add x y =
 pub natAbs-add : (x y : ℤ) → natAbs (x +ℤ y) ≤ natAbs x + natAbs y
 natAbs-add x y = pos-le-is (magnitude-add x y)
 
-pub natAbs-sub : (x y : ℤ) → natAbs (x -ℤ y) ≤ natAbs x + natAbs y
-natAbs-sub x y = subst (λ (k : ℕ). natAbs (x -ℤ y) ≤ natAbs x + k) (natAbs-neg y) (natAbs-add x (negℤ y))
-
 pub magnitude-mul : (x y : ℤ) → magnitude (x *ℤ y) ≡ magnitude x *ℤ magnitude y
 magnitude-mul x y = ap pos (natAbs-mul x y)
 
 pub magnitude-neg : (x : ℤ) → magnitude (negℤ x) ≡ magnitude x
 magnitude-neg x = ap pos (natAbs-neg x)
-
-pub magnitude-sub-comm : (x y : ℤ) → magnitude (x -ℤ y) ≡ magnitude (y -ℤ x)
-magnitude-sub-comm x y = ap magnitude {x = x -ℤ y} {y = negℤ (y -ℤ x)} (identity (x ∷ y ∷ []) (search quote depth 12) tt) ∙ magnitude-neg (y -ℤ x)
 
 pub square-magnitude : (x : ℤ) → squared (magnitude x) ≡ squared x
 square-magnitude (pos n) = refl

@@ -1,16 +1,16 @@
 -- The order of the whole numbers: its laws with sums, products and squares, cancellation, and no zero divisors.
 -- What is linear is proved by the module Linear; the last section has two laws for what is not.
 -- Assumes nothing.
-use mathlib.Core.Path.{_≡_, refl, sym, ap, _∙_, subst, subst₂}
+use mathlib.Core.Path.{_≡_, sym, ap, _∙_, subst, subst₂}
 use mathlib.Core.List.{List, [], _∷_}
 use mathlib.Core.Logic.{_⊎_, inl, inr}
 use Prim.Native.Nat.{ℕ, zero, suc, _+_, _*_, _≤_, _<_, zero-le}
-use native.Mathlib.Nat.{zero-lt-suc}
 use native.Mathlib.Decide.{decLe}
 use native.Mathlib.Omega.{arith}
-use lib.Dec.{T, leb, ltb, leb→le, le→leb, ltb→lt, lt→ltb}
-use lib.IntN.{ℤ, pos, negsuc, negℤ, natAbs, _+ℤ_, _-ℤ_, _*ℤ_, zero-*ℤ, *ℤ-zero, *ℤ-comm}
-use lib.Signed.{leZ, _≤ℤ_, _<ℤ_, ≤ℤ-refl, <ℤ-≤ℤ-trans, <ℤ-irrefl, yes-nonNeg, pos-natAbs}
+use lib.Dec.{leb→le, le→leb, lt→ltb}
+use lib.IntN.{ℤ, pos, negsuc, negℤ, natAbs, _+ℤ_, _-ℤ_, _*ℤ_, *ℤ-zero, *ℤ-comm}
+use lib.Signed.{_≤ℤ_, _<ℤ_, ≤ℤ-refl, <ℤ-≤ℤ-trans, <ℤ-irrefl, yes-nonNeg, pos-natAbs}
+use Rattle.whole.specs.Square.{squared}
 use Rattle.whole.specs.Differences.{Dif, of, view, dif-le, dif-lt}
 use Rattle.whole.specs.Identity.{identity, quote}
 use Rattle.whole.specs.Linear.{le-by, lt-by, eq-by, le-is, lt-is, eq-is}
@@ -48,9 +48,6 @@ pub le-of-lt : {x y : ℤ} → x ⋖ y → x ⩽ y
 le-of-lt {x} {y} h =
     let ρ : List ℤ = x ∷ y ∷ [] in le-by ρ (search quote depth 8) (omega (arith, lt-is ρ (search quote depth 8) h))
 
-pub lt-trans : {x y z : ℤ} → x ⋖ y → y ⋖ z → x ⋖ z
-lt-trans h k = lt-le-trans h (le-of-lt k)
-
 pub lt-irrefl : {x : ℤ} → x ⋖ x → ⊥
 lt-irrefl = <ℤ-irrefl
 
@@ -75,9 +72,6 @@ pos-le-is {m} {n} h = leb→le m n (h .le)
 
 pub pos-lt : {m n : ℕ} → m < n → pos m ⋖ pos n
 pos-lt {m} {n} h = record { lt = lt→ltb m n h }
-
-pub pos-lt-is : {m n : ℕ} → pos m ⋖ pos n → m < n
-pos-lt-is {m} {n} h = ltb→lt m n (h .lt)
 
 pub zero-le-pos : (n : ℕ) → pos 0 ⩽ pos n
 zero-le-pos n = pos-le zero-le
@@ -194,18 +188,11 @@ square-zero x e = go (zero-or-zero x x e)
     go (inl h) = h
     go (inr h) = h
 
+pub square-mul : (x y : ℤ) → squared x *ℤ squared y ≡ squared (x *ℤ y)
+square-mul x y = identity (x ∷ y ∷ []) (search quote depth 12) tt
+
 pub square-pos : {x : ℤ} → pos 0 ⋖ x → pos 0 ⋖ x *ℤ x
 square-pos h = mul-pos h h
 
 pub square-le : {x y : ℤ} → pos 0 ⩽ x → x ⩽ y → x *ℤ x ⩽ y *ℤ y
 square-le h e = mul-le-mul h e h e
-
-pub square-le-is : {x y : ℤ} → pos 0 ⩽ y → x *ℤ x ⩽ y *ℤ y → x ⩽ y
-square-le-is {x} {y} h e = go (le-or-lt x y)
-  where
-    larger : y ⋖ x → y *ℤ y ⋖ x *ℤ x
-    larger k = le-lt-trans (mul-le y h (le-of-lt k)) (subst₂ _⋖_ (*ℤ-comm x y) refl (mul-lt x (le-lt-trans h k) k))
-
-    go : (x ⩽ y) ⊎ (y ⋖ x) → x ⩽ y
-    go (inl a) = a
-    go (inr b) = absurd (lt-irrefl (lt-le-trans (larger b) e))

@@ -1,11 +1,10 @@
 -- The whole numbers are a commutative ring with no zero divisors. The laws of the sum alone are in lib.IntN (+ℤ-comm, +ℤ-assoc, +ℤ-idl,
 -- +ℤ-idr, +ℤ-invr, *ℤ-comm); these are the others. An identity that is no single law is one line of the module Identity.
 -- Assumes nothing.
-use mathlib.Core.Path.{_≡_, refl, sym, ap, ap₂, _∙_, subst}
-use Prim.Native.Nat.{ℕ, zero, suc, _+_, _*_}
+use mathlib.Core.Path.{_≡_, sym, ap, ap₂, _∙_}
 use native.Mathlib.Omega.{arith}
-use lib.IntN.{ℤ, pos, negsuc, negℤ, _+ℤ_, _-ℤ_, _*ℤ_, +ℤ-invr, +ℤ-assoc, +ℤ-idr, +ℤ-idl, +ℤ-comm, *ℤ-comm}
-use Rattle.whole.specs.Differences.{dif, dif-eq, dif-eq-is, Dif, of, view, difs}
+use lib.IntN.{ℤ, pos, negsuc, negℤ, _+ℤ_, _*ℤ_, +ℤ-idl, *ℤ-comm}
+use Rattle.whole.specs.Differences.{dif-eq, dif-eq-is, Dif, of, view, difs}
 
 pub *ℤ-assoc : (x y z : ℤ) → (x *ℤ y) *ℤ z ≡ x *ℤ (y *ℤ z)
 *ℤ-assoc x y z = go (view x) (view y) (view z)

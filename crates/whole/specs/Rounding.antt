@@ -1,19 +1,18 @@
 -- Laws of the nearest whole number (module Nearest): how far it is from the fraction, where a tie goes, that it is the only such number, and
 -- how it moves with the fraction.
 -- Assumes nothing.
-pub mod Examples
-use mathlib.Core.Path.{_≡_, sym, subst, subst₂}
+use mathlib.Core.Path.{_≡_, sym, ap, _∙_, subst, subst₂}
 use mathlib.Core.List.{List, [], _∷_}
 use mathlib.Core.Logic.{_⊎_, inl, inr}
-use Prim.Native.Nat.{ℕ, zero, suc, _+_, _*_, _/_, _≤_, _<_, suc-le-suc}
+use Prim.Native.Nat.{ℕ, suc, _*_, _/_, _≤_, _<_, suc-le-suc}
 use native.Mathlib.Nat.{mul-div-le, lt-mul-div-succ, one-le-mul}
 use native.Mathlib.Numerals.{add-one}
 use native.Mathlib.Omega.{arith}
-use lib.IntN.{ℤ, pos, negsuc, negℤ, natAbs, _+ℤ_, _-ℤ_, _*ℤ_}
+use lib.IntN.{ℤ, pos, negsuc, negℤ, natAbs, _+ℤ_, _-ℤ_, _*ℤ_, +ℤ-idl}
 use lib.Signed.{shrZ}
 use Rattle.whole.specs.Square.{magnitude}
 use Rattle.whole.specs.Nearest.{nearest}
-use Rattle.whole.specs.Ring.{negℤ-*ℤ}
+use Rattle.whole.specs.Ring.{negℤ-*ℤ, *ℤ-negℤ}
 use Rattle.whole.specs.Identity.{identity, quote}
 use Rattle.whole.specs.Linear.{le-by, lt-by, le-is, lt-is}
 use Rattle.whole.specs.Order.{_⩽_, _⋖_, lt-le-trans, le-of-lt, le-antisymm, le-or-lt, lt-irrefl, le-shift, lt-shift, pos-le, pos-lt, pos-le-is, zero-le-pos, mul-pos, mul-le, mul-lt, cancel-lt}
@@ -41,21 +40,21 @@ floor-lt (negsuc a) m h =
 
 -- ---- the nearest whole number r to n / d lies above (2n - d) / 2d and not above (2n + d) / 2d
 
--- 2dr - 2n is at most d,
-pub nearest-le : (n : ℤ) (d : ℕ) → 0 < d → pos 2 *ℤ pos d *ℤ nearest n d -ℤ pos 2 *ℤ n ⩽ pos d
-unfolding nearest
-nearest-le n d h = shift n (pos d) (nearest n d) (floor-le (pos 2 *ℤ n +ℤ pos d) (2 * d) (omega arith))
-  where
-    shift : (n d r : ℤ) → pos 2 *ℤ d *ℤ r ⩽ pos 2 *ℤ n +ℤ d → pos 2 *ℤ d *ℤ r -ℤ pos 2 *ℤ n ⩽ d
-    shift n d r h = le-shift h (identity (n ∷ d ∷ r ∷ []) (search quote depth 12) tt)
-
--- and above -d: of the two whole numbers at a tie it is the upper one
+-- 2dr - 2n is above -d: of the two whole numbers at a tie it is the upper one,
 pub nearest-gt : (n : ℤ) (d : ℕ) → 0 < d → negℤ (pos d) ⋖ pos 2 *ℤ pos d *ℤ nearest n d -ℤ pos 2 *ℤ n
 unfolding nearest
-nearest-gt n d h = shift n (pos d) (nearest n d) (floor-lt (pos 2 *ℤ n +ℤ pos d) (2 * d) (omega arith))
+nearest-gt n d h = shift n (pos d) (nearest n d) (floor-lt _ (2 * d) (omega arith))
   where
     shift : (n d r : ℤ) → pos 2 *ℤ n +ℤ d ⋖ pos 2 *ℤ d *ℤ (r +ℤ pos 1) → negℤ d ⋖ pos 2 *ℤ d *ℤ r -ℤ pos 2 *ℤ n
     shift n d r h = lt-shift h (identity (n ∷ d ∷ r ∷ []) (search quote depth 12) tt)
+
+-- and at most d
+pub nearest-le : (n : ℤ) (d : ℕ) → 0 < d → pos 2 *ℤ pos d *ℤ nearest n d -ℤ pos 2 *ℤ n ⩽ pos d
+unfolding nearest
+nearest-le n d h = shift n (pos d) (nearest n d) (floor-le _ (2 * d) (omega arith))
+  where
+    shift : (n d r : ℤ) → pos 2 *ℤ d *ℤ r ⩽ pos 2 *ℤ n +ℤ d → pos 2 *ℤ d *ℤ r -ℤ pos 2 *ℤ n ⩽ d
+    shift n d r h = le-shift h (identity (n ∷ d ∷ r ∷ []) (search quote depth 12) tt)
 
 -- so it is within half of n / d: |2dr - 2n| ≤ d
 pub nearest-within : (n : ℤ) (d : ℕ) → 0 < d → magnitude (pos 2 *ℤ pos d *ℤ nearest n d -ℤ pos 2 *ℤ n) ⩽ pos d
@@ -107,16 +106,13 @@ pub nearest-scale : (n : ℤ) (d m : ℕ) → 0 < d → 0 < m → nearest (pos m
 nearest-scale n d m h k =
     sym
     (nearest-only (pos m *ℤ n) (m * d) (one-le-mul k h) (nearest n d)
-    (subst₂ _⋖_ (negated (pos m) (pos d)) (same n (pos d) (pos m) (nearest n d)) (mul-lt (pos m) (pos-lt k) (nearest-gt n d h)))
+    (subst₂ _⋖_ (*ℤ-negℤ (pos m) (pos d)) (same n (pos d) (pos m) (nearest n d)) (mul-lt (pos m) (pos-lt k) (nearest-gt n d h)))
     (subst (λ (z : ℤ). z ⩽ pos m *ℤ pos d) (same n (pos d) (pos m) (nearest n d))
     (mul-le (pos m) (zero-le-pos m) (nearest-le n d h))))
   where
     same : (n d m r : ℤ)
         → m *ℤ (pos 2 *ℤ d *ℤ r -ℤ pos 2 *ℤ n) ≡ pos 2 *ℤ (m *ℤ d) *ℤ r -ℤ pos 2 *ℤ (m *ℤ n)
     same n d m r = identity (n ∷ d ∷ m ∷ r ∷ []) (search quote depth 12) tt
-
-    negated : (m d : ℤ) → m *ℤ negℤ d ≡ negℤ (m *ℤ d)
-    negated m d = identity (m ∷ d ∷ []) (search quote depth 12) tt
 
 -- with the numerator: a larger fraction has no smaller nearest number
 pub nearest-mono : (d : ℕ) → 0 < d → {n m : ℤ} → n ⩽ m → nearest n d ⩽ nearest m d
@@ -145,16 +141,13 @@ nearest-mono d h {n} {m} e = go (le-or-lt (nearest n d) (nearest m d))
 -- a whole number is its own nearest
 pub nearest-whole : (d : ℕ) → 0 < d → (k : ℤ) → nearest (k *ℤ pos d) d ≡ k
 nearest-whole d h k =
-    sym
-    (nearest-only (k *ℤ pos d) d h k
-    (subst (λ (z : ℤ). negℤ (pos d) ⋖ z) (sym (same (pos d) k)) (negative (pos d) (pos-lt h)))
-    (subst (λ (z : ℤ). z ⩽ pos d) (sym (same (pos d) k)) (zero-le-pos d)))
+    ap (λ (z : ℤ). nearest z d) (sym (+ℤ-idl (k *ℤ pos d))) ∙ nearest-shift (pos 0) d h k ∙ ap (λ (z : ℤ). z +ℤ k) none ∙ +ℤ-idl k
   where
-    same : (d k : ℤ) → pos 2 *ℤ d *ℤ k -ℤ pos 2 *ℤ (k *ℤ d) ≡ pos 0
-    same d k = identity (d ∷ k ∷ []) (search quote depth 12) tt
-
-    negative : (d : ℤ) → pos 0 ⋖ d → negℤ d ⋖ pos 0
-    negative d h = lt-shift h (identity (d ∷ []) (search quote depth 12) tt)
+    none : nearest (pos 0) d ≡ pos 0
+    none =
+        sym
+        (nearest-only (pos 0) d h (pos 0) (lt-by (pos d ∷ []) (search quote depth 12) (omega arith))
+        (le-by (pos d ∷ []) (search quote depth 12) (omega arith)))
 
 -- a bound of the fraction is one of its nearest number
 pub nearest-bound : (n : ℤ) (d b : ℕ) → 0 < d → natAbs n ≤ b * d → natAbs (nearest n d) ≤ b

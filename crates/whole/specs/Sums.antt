@@ -1,19 +1,17 @@
--- Laws of finite sums (module Sum): equal terms, linearity, order, bounds, splitting, and sums over a list's elements.
+-- Laws of finite sums (module Sum): equal terms, linearity, order, bounds and splitting.
 -- An equation between linear combinations of sums over the same range is proved term by term:
 --     sum-eq n (search sums depth 12) (λ i h. identity .. (search quote depth 20) tt)
 -- Assumes nothing.
 pub mod Examples
 use mathlib.Core.Path.{_≡_, refl, sym, ap, ap₂, _∙_, subst, subst₂}
-use mathlib.Core.List.{List, [], _∷_}
 use Prim.Native.Nat.{ℕ, zero, suc, _+_, _*_, _≤_, _<_}
 use native.Mathlib.Nat.{add-zero, add-suc}
 use native.Mathlib.Omega.{arith}
-use lib.ListN.{length, getD}
-use lib.IntN.{ℤ, pos, negsuc, negℤ, natAbs, _+ℤ_, _-ℤ_, _*ℤ_, +ℤ-idl, +ℤ-idr, +ℤ-assoc, *ℤ-zero, zero-*ℤ, negℤ-+ℤ, sucℤ-*ℤ, *ℤ-comm}
+use lib.IntN.{ℤ, pos, negℤ, natAbs, _+ℤ_, _*ℤ_, +ℤ-idl, +ℤ-idr, +ℤ-assoc, *ℤ-zero, zero-*ℤ, negℤ-+ℤ, sucℤ-*ℤ, *ℤ-comm}
 use Rattle.whole.specs.Square.{squared, magnitude}
 use Rattle.whole.specs.Sum.{sum}
 use Rattle.whole.specs.Ring.{*ℤ-+ℤ, +ℤ-swap}
-use Rattle.whole.specs.Order.{_⩽_, _⋖_, le-refl, le-trans, add-le, square-nonneg, pos-le, pos-le-is}
+use Rattle.whole.specs.Order.{_⩽_, le-refl, le-trans, add-le, square-nonneg, pos-le, pos-le-is}
 use Rattle.whole.specs.Magnitude.{magnitude-add}
 
 -- ---- terms
@@ -105,17 +103,6 @@ unfolding sum
 sum-first zero f = +ℤ-idl (f 0) ∙ sym (+ℤ-idr (f 0))
 sum-first (suc n) f =
     ap (λ (z : ℤ). z +ℤ f (suc n)) (sum-first n f) ∙ +ℤ-assoc (f 0) (sum n (λ i. f (suc i))) (f (suc n))
-
--- ---- the elements of a list
-
-abbrev pub total : List ℤ → ℤ
-total [] = pos 0
-total (x ∷ xs) = x +ℤ total xs
-
-pub sum-list : (l : List ℤ) → sum (length l) (λ i. getD l i (pos 0)) ≡ total l
-unfolding sum
-sum-list [] = refl
-sum-list (x ∷ l) = sum-first (length l) (λ i. getD (x ∷ l) i (pos 0)) ∙ ap (λ (z : ℤ). x +ℤ z) (sum-list l)
 
 -- ---- linear combinations of sums over the same range
 

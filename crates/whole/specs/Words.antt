@@ -9,14 +9,14 @@
 -- Assumes nothing.
 pub mod Examples
 use mathlib.Core.Path.{_≡_, refl, sym, ap, ap₂, _∙_, subst}
-use mathlib.Core.Bool.{Bool, true, false, _&&_}
-use Prim.Native.Nat.{ℕ, zero, suc, _+_, _*_, _/_, _^_, _≤_, _<_}
-use native.Mathlib.Nat.{le-refl, le-trans, le-of-eq, le-of-lt, le-step, lt-of-le-of-lt, lt-of-lt-of-le, add-le-add, mul-le-mul, mul-le-mul-right, div-le-self, zero-add, not-suc-le-zero}
-use native.Mathlib.Numerals.{add-one}
+use mathlib.Core.Bool.{Bool, true, false, cond, _&&_, true≢false}
+use Prim.Native.Nat.{ℕ, zero, suc, _+_, _-_, _*_, _/_, _^_, _≤_, _<_}
+use native.Mathlib.Nat.{le-refl, le-trans, le-of-eq, le-step, lt-of-le-of-lt, lt-of-lt-of-le, add-le-add, mul-le-mul, mul-le-mul-right, div-le-self, zero-add, not-suc-le-zero}
+use native.Mathlib.Omega.{arith}
 use lib.Dec.{T, eqb, leb, leb→le, ltb, ltb→lt}
-use lib.IntN.{ℤ, pos, negsuc, negℤ, natAbs, _+ℤ_, _-ℤ_, _*ℤ_, -ℤ-one}
-use lib.Signed.{mag, ltZ, nonNeg, quotZ, shrZ}
-use borrow.Author.Tests.{ltb-true}
+use lib.IntN.{ℤ, pos, negsuc, negℤ, subℕ, natAbs, _+ℤ_, _-ℤ_, _*ℤ_, +ℤ-idr, -ℤ-one}
+use lib.Signed.{mag, ltZ, quotZ, shrZ}
+use borrow.Author.Tests.{ltb-true, lt-ltb}
 use mir.Syntax.{w64}
 use mir.Val.{SFits, toZ, ofZ}
 use mir.Facts.{toZ-ofZ, toZ-pos, and-yes}
@@ -40,6 +40,23 @@ fits-of {z} h k = record { sfits = lt-of-le-of-lt (le-trans (mag-le z) h) k }
 -- what is read back of an element or of a call's result, of which its range is known
 pub back-of : {z : ℤ} → mag z < 2 ^ 63 → toZ w64 (ofZ w64 z) ≡ z
 back-of h = toZ-ofZ (record { sfits = h })
+
+-- from -1 up, any number of 63 bits can be taken: what is left is no less than the least number
+difference-fits : (a b : ℕ) → a < 2 ^ 63 → b < 2 ^ 63 → SFits w64 (subℕ a b)
+difference-fits a b h k = by-test (ltb a b)
+  where
+    by-test : (t : Bool) → SFits w64 (cond t (negsuc (b - suc a)) (pos (a - b)))
+    by-test true = record { sfits = omega arith }
+    by-test false = record { sfits = omega arith }
+
+less-fits : (z : ℤ) (k : ℕ) → ltZ z (negsuc 0) ≡ false → SFits w64 z → k < 2 ^ 63 → SFits w64 (z -ℤ pos k)
+less-fits z zero e f h = rw (+ℤ-idr z) f
+less-fits (pos a) (suc k) e f h = difference-fits a (suc k) (f .sfits) h
+less-fits (negsuc zero) (suc k) e f h = record { sfits = omega arith }
+less-fits (negsuc (suc a)) (suc k) e f h = absurd (true≢false (sym (lt-ltb 0 (suc a) (omega arith)) ∙ e))
+
+pub minus-fits : (z : ℤ) (k : ℕ) → ltZ z (negsuc 0) ≡ false → SFits w64 z → k < 2 ^ 63 → SFits w64 (z -ℤ toZ w64 k)
+minus-fits z k e f h = rw (toZ-pos w64 h) (less-fits z k e f h)
 
 -- the first k terms of a sum whose terms are at most b
 pub partial : (n k : ℕ) (f : ℕ → ℤ) (b : ℕ) → k ≤ n → ((i : ℕ) → i < n → natAbs (f i) ≤ b) → natAbs (sum k f) ≤ n * b
@@ -172,7 +189,7 @@ divisor z w t h = subst (λ (x : ℤ). 0 < ofZ w64 x) (sym (plain-is w t)) h
 one-less : (a : ℕ) → negsuc 0 -ℤ negsuc a ≡ pos a
 one-less a = -ℤ-one (pos (suc a))
 
-minus-one-less : (k : ℕ) → negsuc 0 -ℤ pos k ≡ negsuc k
+pub minus-one-less : (k : ℕ) → negsuc 0 -ℤ pos k ≡ negsuc k
 minus-one-less zero = refl
 minus-one-less (suc k) = ap (λ (j : ℕ). negsuc (suc j)) (zero-add k)
 

@@ -16,6 +16,7 @@ pub fn run(compare: &mut Compare, seeded: &mut Seeded, scale: usize) {
     }
     limits(compare, seeded);
     sizes_and_lengths(compare, seeded);
+    edges::far_slopes(compare, seeded);
 }
 
 /// Any lent line, most of them long enough.

@@ -3,13 +3,13 @@
 use crate::blocks::any_lent;
 use crate::case::*;
 use crate::compare::Compare;
-use crate::faults::bring_a_near;
+use crate::faults::{bring_a_near, long_lent, BLOCK_ORDER};
 use reference::seeded::Seeded;
-use reference::{Delays, BLOCKS, WEIGHTS};
+use reference::{worst, Delays, BLOCKS, WEIGHTS};
 
 pub fn run(compare: &mut Compare, seeded: &mut Seeded) {
     on_edges(compare, seeded);
-    on_scatter_edges(compare, seeded);
+    on_thresholds(compare, seeded);
     if seeded.below(8) == 0 {
         squares_that_wrap(compare, seeded);
         extremes(compare, seeded);
@@ -122,8 +122,8 @@ fn ripple(seeded: &mut Seeded) -> Vec<i64> {
     add
 }
 
-/// B is a line plus waves whose squares sum to an edge of DSG, or nearly.
-fn on_scatter_edges(compare: &mut Compare, seeded: &mut Seeded) {
+/// B is a line plus waves whose squares sum to a threshold of DSG, or nearly.
+fn on_thresholds(compare: &mut Compare, seeded: &mut Seeded) {
     let mut case = good(seeded);
     let values = corrected(&case);
     let (s, t) = sums(&values);
@@ -136,7 +136,7 @@ fn on_scatter_edges(compare: &mut Compare, seeded: &mut Seeded) {
     let ripple = ripple(seeded);
     case.columns[CLOCK] = (0..BLOCKS).map(|j| level + tilt * place(j) + waves[j] + ripple[j] - values[j]).collect();
     let lent = any_lent(seeded);
-    compare.block("blocks on an edge of DSG", Some(&case.bytes()), lent);
+    compare.block("blocks on a threshold of DSG", Some(&case.bytes()), lent);
 }
 
 /// Waves about multiples of 2^31: the sum of their squares is near a multiple of 2^64.
@@ -173,4 +173,17 @@ fn extremes(compare: &mut Compare, seeded: &mut Seeded) {
     }
     let lent = any_lent(seeded);
     compare.block("blocks with the largest values", Some(&case.bytes()), lent);
+}
+
+/// The track whose slopes lie 0.5192 of their unit from the exact ones, of either sign.
+pub fn far_slopes(compare: &mut Compare, seeded: &mut Seeded) {
+    for sign in [1, -1] {
+        let mut case = good(seeded);
+        case.delays = Delays::default();
+        case.columns.iter_mut().for_each(|column| column.fill(0));
+        case.measurements = worst::measurements(sign);
+        let lent = long_lent(seeded);
+        let answer = compare.block("blocks with slopes far from exact", Some(&case.bytes()), lent);
+        compare.faults("block", &BLOCK_ORDER, &[], answer);
+    }
 }

@@ -63,7 +63,7 @@ pub fn fit(values: &[i64]) -> Result<Fitted, u32> {
 }
 
 /// The least sum of squares whose DSG is d, for d from 1 up.
-fn edge(d: i64) -> i128 {
+fn threshold(d: i64) -> i128 {
     let root = i128::from(100 * d - 50);
     52 * root * root
 }
@@ -78,14 +78,14 @@ pub fn scatter(values: &[i64]) -> Result<i64, u32> {
         let residual = nearest(46852 * v - 901 * s - place(j) * t, 46852);
         q += i128::from(residual) * i128::from(residual);
     }
-    if q >= edge(MOST_DSG + 1) {
+    if q >= threshold(MOST_DSG + 1) {
         return Err(6);
     }
-    // the greatest d whose edge is not above q; under edge 1, which is 130000, it is 0
+    // the greatest d whose threshold is not above q; under threshold 1, which is 130000, it is 0
     let (mut low, mut above) = (0, MOST_DSG + 1);
     while above - low > 1 {
         let d = (low + above) / 2;
-        if edge(d) <= q {
+        if threshold(d) <= q {
             low = d;
         } else {
             above = d;

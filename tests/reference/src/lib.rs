@@ -13,6 +13,7 @@ pub mod published;
 mod schedule;
 pub mod seeded;
 mod track;
+pub mod worst;
 
 pub use block::{block, BLOCK_BYTES};
 pub use fit::{fit, scatter, smooth, Fitted, WEIGHTS};

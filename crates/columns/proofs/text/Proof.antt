@@ -24,7 +24,7 @@ array-share-prefix-line : tie.Need-array-share-prefix-line
 array-share-prefix-line c = search needs
 
 slice-aggregate-checksum : tie.Need-slice-aggregate-checksum
-slice-aggregate-checksum c = sym (length-take-le 111 (c .before .put-delays .last .0) (omega (arith, c .before .put-delays .ensures .long)))
+slice-aggregate-checksum c = sym (length-take-le _ (c .before .put-delays .last .0) (omega (arith, c .before .put-delays .ensures .long)))
 
 checksum-requires : tie.Need-checksum-requires
 checksum-requires c κs = search needs

@@ -1,5 +1,6 @@
 -- `decode::fill` meets its contract, by those of the two ways to fill.
 -- Assumes nothing.
+use mathlib.Core.Path.{sym, _∙_}
 use borrow.Author.Needs.{needs}
 use Rattle.decode.proofs.fill.Statement.{statement}
 use Rattle.decode.proofs.fill.Tie as tie
@@ -8,7 +9,7 @@ row-lies-requires : tie.Need-row-lies-requires
 row-lies-requires c κs = search needs
 
 fill-requires : tie.Need-fill-requires
-fill-requires c κs = c .before .before .row-lies .ensures (c .before .if1 .taken)
+fill-requires c κs = sym (c .before .before .row-lies .ensures) ∙ c .before .if1 .taken
 
 same-length : tie.Need-same-length
 same-length c = search needs

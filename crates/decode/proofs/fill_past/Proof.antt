@@ -1,13 +1,13 @@
 -- `decode::fill_past` meets its contract. The loop keeps the numbers stored, and those that follow from the next place on, together the whole.
 -- Assumes nothing.
 use mathlib.Core.Path.{_≡_, sym, _∙_, ap}
-use mathlib.Core.List.{List, _++_}
+use mathlib.Core.List.{_++_}
 use Prim.Native.Nat.{ℕ, _≤_, _-_, min}
 use native.Mathlib.Omega.{arith}
 use lib.ListN.{length, take, length-set}
 use borrow.Author.Needs.{needs}
 use Rattle.decode.specs.Number.{signedsAt}
-use Rattle.decode.proofs.Little.{back}
+use Rattle.whole.specs.Words.{back-of}
 use Rattle.decode.proofs.Signeds.{all-left, signeds-turn, signeds-done}
 use Rattle.decode.proofs.fill_past.Statement.{statement}
 use Rattle.decode.proofs.fill_past.Tie as tie
@@ -53,7 +53,7 @@ loop-again : tie.Need-loop-again Inv-loop μ-loop
 loop-again c =
     let l = c .before .before .before .loop in
     let a = c .before .before .before .before .before .before .args in
-    let stored = back (c .before .signed64 .result) (c .before .signed64 .ok) ∙ c .before .signed64 .ensures in (
+    let stored = back-of (c .before .signed64 .ok) ∙ c .before .signed64 .ensures in (
       simp length-set (omega arith),
       simp length-set (l .inv .1),
       omega (arith, c .clamped2 .ensures),

@@ -1,7 +1,7 @@
 -- `decode::signed64` meets its contract, by those of its two calls.
 -- Assumes nothing.
 use mathlib.Core.Path.{ap, _∙_}
-use Rattle.decode.proofs.Little.{back}
+use Rattle.whole.specs.Words.{back-of}
 use Rattle.decode.specs.Number.{twosComplement, signedAt}
 use borrow.Author.Needs.{needs}
 use Rattle.decode.proofs.signed64.Statement.{statement}
@@ -16,7 +16,7 @@ twos-complement-requires c κs = search needs
 returns : tie.Need-returns
 unfolding signedAt
 returns c =
-    back (c .twos-complement .result) (c .twos-complement .ok)
+    back-of (c .twos-complement .ok)
     ∙ c .twos-complement .ensures
     ∙ ap twosComplement (c .before .unsigned64 .ensures)
 

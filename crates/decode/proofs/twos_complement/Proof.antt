@@ -3,12 +3,13 @@
 use mathlib.Core.Path.{_≡_, _∙_}
 use Prim.Native.Nat.{_-_}
 use native.Mathlib.Omega.{arith}
-use lib.IntN.{pos, negsuc}
+use lib.IntN.{pos}
 use mir.Syntax.{w64}
-use mir.Val.{SFits, toZ}
-use mir.Facts.{toZ-ofZ}
+use mir.Val.{toZ}
+use mir.Facts.{sfits-lit, toZ-ofZ}
 use mir.ValLaws.{toZ-pos}
-use Rattle.decode.proofs.Little.{minus-one-less, lower-half, upper-half}
+use Rattle.whole.specs.Words.{minus-fits, minus-one-less}
+use Rattle.decode.proofs.Little.{lower-half, upper-half}
 use borrow.Author.Needs.{needs}
 use Rattle.decode.proofs.twos_complement.Statement.{statement}
 use Rattle.decode.proofs.twos_complement.Tie as tie
@@ -16,9 +17,6 @@ use Rattle.decode.proofs.twos_complement.Tie as tie
 -- what is left of the largest pattern is in the lower half
 low : (c : tie.Else1) → toZ w64 (18446744073709551615 - c .before .args .n) ≡ pos (18446744073709551615 - c .before .args .n)
 low c = toZ-pos w64 _ (omega arith)
-
-fits : (c : tie.Else1) → SFits w64 (negsuc (18446744073709551615 - c .before .args .n))
-fits c = record { sfits = omega arith }
 
 cast-result : tie.Need-cast-result
 cast-result c = search needs
@@ -33,10 +31,10 @@ cast-result-2 : tie.Need-cast-result-2
 cast-result-2 c = search needs
 
 sub-result-2 : tie.Need-sub-result-2
-sub-result-2 c = simp (low c, minus-one-less) (fits c)
+sub-result-2 c = search (minus-fits, sfits-lit, cast-result-2 c .sfits)
 
 returns-2 : tie.Need-returns-2
-returns-2 c = simp (low c, minus-one-less, toZ-ofZ (fits c)) (upper-half (c .before .args .n) (c .if1 .left))
+returns-2 c = toZ-ofZ (sub-result-2 c) ∙ simp (low c, minus-one-less) (upper-half (c .before .args .n) (c .if1 .left))
 
 pub twos-complement-spec : {M : Type 1} → statement M
 twos-complement-spec =

@@ -1,7 +1,7 @@
 -- `fields::sign` meets its contract: the test on the value is the definition's case.
 -- Assumes nothing.
 use mir.Facts.{toZ-ofZ}
-use Rattle.fields.proofs.Negative.{sign-below, sign-above}
+use Rattle.fields.proofs.Laws.{sign-below, sign-above}
 use Rattle.fields.proofs.sign.Statement.{statement}
 use Rattle.fields.proofs.sign.Tie as tie
 

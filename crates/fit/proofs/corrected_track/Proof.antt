@@ -2,20 +2,22 @@
 -- Assumes nothing.
 use borrow.Author.Needs.{needs}
 use mathlib.Core.Path.{_≡_, ap, _∙_}
-use Prim.Native.Nat.{ℕ, _+_, _*_, _^_, _≤_}
+use Prim.Native.Nat.{_*_, _^_}
+use native.Mathlib.Nat.{le-trans}
 use native.Mathlib.Omega.{arith}
-use lib.IntN.{natAbs, _+ℤ_, _-ℤ_}
+use lib.Dec.{lit≤}
+use lib.IntN.{_+ℤ_, _-ℤ_}
 use lib.ListN.{length}
 use mir.Syntax.{w64}
 use mir.Val.{toZ, ofZ}
+use mir.Facts.{toZ-ofZ}
 use Rattle.whole.specs.Table.{tabulate}
 use Rattle.whole.specs.Tables.{tabulate-length}
-use Rattle.whole.specs.Words.{Word, Within, known, fits, bound, plain-is, bounds}
-use Rattle.exact.specs.Corrected.{Given, at, block, toA}
+use Rattle.whole.specs.Words.{Word, known, equal, read, sum-of, negation-of, bound, back-of}
+use Rattle.exact.specs.Corrected.{Given, block}
 use Rattle.fit.specs.Track.{given, smoothedAt, valueA, valueC, valueD}
-use Rattle.limits.proofs.Lists.{within-limit}
-use Rattle.series.proofs.Weights.{smoothed-bound}
 use Rattle.fit.proofs.Arrays.{table-bound}
+use Rattle.fit.proofs.Largest.{smoothed-within, a-within}
 use Rattle.fit.proofs.Tracks.{Sized, sized, Limited, limited, a-table, b-table, track-judged}
 use Rattle.fit.proofs.corrected_track.Statement.{statement}
 use Rattle.fit.proofs.corrected_track.Tie as tie
@@ -42,10 +44,6 @@ smoothed-is : (c : tie.After-smooth-blocks) → c .smooth-blocks .result .values
 unfolding smoothedAt block
 smoothed-is c = c .smooth-blocks .ensures .1
 
-smoothed-within : (c : tie.Start) (j : ℕ) → natAbs (smoothedAt (g c) j) ≤ 3 * 10 ^ 12
-unfolding smoothedAt block
-smoothed-within c j = smoothed-bound (block (g c) j) (λ i. within-limit (10 ^ 12) (c .args .measurements .now) (limits c .in-measurements) (15 * j + i))
-
 smooth-blocks-requires : tie.Need-smooth-blocks-requires
 smooth-blocks-requires c κs = (sizes c .size-measurements, limits c .in-measurements)
 
@@ -55,31 +53,31 @@ refused-requires c κs = search needs
 returns : tie.Need-returns
 returns c = absurd (omega (arith, c .before .before .smooth-blocks .ensures .0, c .before .if1 .taken))
 
-add-delay : tie.Need-add-delay
-add-delay c =
-    let s = c .before .before .before in
-    let w = words s in
-    fits (search bounds depth 9) tt
-
-sub-delay : tie.Need-sub-delay
-sub-delay c =
-    let s = c .before .before .before in
-    let w = words s in
-    fits (search bounds depth 12) tt
-
 slice-aggregate-a-values : tie.Need-slice-aggregate-a-values
 slice-aggregate-a-values c = search needs
 
+delay-requires : tie.Need-delay-requires
+delay-requires c κs =
+    let w = words (c .before .before .before .before) in
+    (bound (read (w .0)) tt, bound (read (w .1)) tt, bound (read (w .2)) tt)
+
+-- INT + CAB - REF of what is given
+delay-is : (c : tie.After-delay)
+    → let a = c .before .before .before .before .before .args in toZ w64 (ofZ w64 (c .delay .result)) ≡ a .int +ℤ a .cab -ℤ a .refdly
+delay-is c =
+    let f = c .before .before .before .before .before .fits in
+    back-of (c .delay .ok) ∙ (simp (toZ-ofZ (f .int), toZ-ofZ (f .cab), toZ-ofZ (f .refdly)) at (c .delay .ensures))
+
 a-values-requires : tie.Need-a-values-requires
 a-values-requires c κs =
-    let s = c .before .before .before .before in
+    let s = c .before .before .before .before .before in
     let w = words s in
-    let e = smoothed-is (c .before .before .before) in
+    let e = smoothed-is (c .before .before .before .before) in
     let n = sizes s in
     let l = limits s in (
-      (ap length e ∙ tabulate-length _ 52, λ j. record { within = rw e (table-bound (smoothedAt (g s)) 52 (3 * 10 ^ 12) (smoothed-within s) j) }),
+      (ap length e ∙ tabulate-length _ 52, λ j. record { within = rw e (table-bound (smoothedAt (g s)) 52 (2 * 10 ^ 12) (λ i. le-trans (smoothed-within (g s) (s .pre .1) i) (lit≤ tt)) j) }),
       (
-        (bound (search bounds depth 12) tt, bound (search bounds depth 9) tt),
+        (bound (equal (delay-is c) (sum-of (sum-of (w .0) (w .1)) (negation-of (w .2)))) tt, bound (read (w .3)) tt),
         (
           (n .size-geometry, l .in-geometry),
           ((n .size-relativity, l .in-relativity), ((n .size-ionosphere, l .in-ionosphere), (n .size-troposphere, l .in-troposphere))),
@@ -90,51 +88,29 @@ a-values-requires c κs =
 slice-aggregate-b-values : tie.Need-slice-aggregate-b-values
 slice-aggregate-b-values c = search needs
 
--- the corrected values A, and their bound
-delay-is : (c : tie.Start)
-    → let a = c .args in
-    toZ w64 (ofZ w64 (toZ w64 (ofZ w64 (toZ w64 (ofZ w64 (a .int)) +ℤ toZ w64 (ofZ w64 (a .cab)))) -ℤ toZ w64 (ofZ w64 (a .refdly))))
-    ≡ a .int +ℤ a .cab -ℤ a .refdly
-delay-is c =
-    let w = words c in
-    plain-is (search bounds depth 12) tt
-
-gd-is : (c : tie.Start) → toZ w64 (ofZ w64 (c .args .gd)) ≡ c .args .gd
-gd-is c = let w = words c in plain-is (search bounds depth 9) tt
-
-a-is : (c : tie.After-a-values) → c .a-values .result ≡ tabulate (valueA (g (c .before .before .before .before .before))) 52
+-- the corrected values A
+a-is : (c : tie.After-a-values) → c .a-values .result ≡ tabulate (valueA (g (c .before .before .before .before .before .before))) 52
 a-is c =
-    let s = c .before .before .before .before .before in
-    c .a-values .ensures ∙ a-table (g s) _ _ _ (smoothed-is (c .before .before .before .before)) (delay-is s) (gd-is s)
-
-a-within : (c : tie.Start) (j : ℕ) → Within (4 * 10 ^ 12) (valueA (g c) j)
-unfolding valueA toA
-a-within c j =
-    let l = limits c in
-    let y : Word (smoothedAt (g c) j) = known (smoothed-within c j) in
-    let w = words c in
-    let geo : Word (at (c .args .geometry .now) j) = known (within-limit (2 * 10 ^ 11) _ (l .in-geometry) j) in
-    let rel : Word (at (c .args .relativity .now) j) = known (within-limit (10 ^ 10) _ (l .in-relativity) j) in
-    let ion : Word (at (c .args .ionosphere .now) j) = known (within-limit (10 ^ 10) _ (l .in-ionosphere) j) in
-    let tro : Word (at (c .args .troposphere .now) j) = known (within-limit (10 ^ 10) _ (l .in-troposphere) j) in
-    bound (search bounds depth 20) tt
+    let s = c .before .before .before .before .before .before in
+    c .a-values .ensures
+    ∙ a-table (g s) _ _ _ (smoothed-is (c .before .before .before .before .before)) (delay-is (c .before)) (toZ-ofZ (s .fits .gd))
 
 b-values-requires : tie.Need-b-values-requires
 b-values-requires c κs =
-    let s = c .before .before .before .before .before .before in
+    let s = c .before .before .before .before .before .before .before in
     let e = a-is (c .before) in (
       (
         ap length e ∙ tabulate-length _ 52,
-        λ j. record { within = rw e (table-bound (valueA (g s)) 52 (4 * 10 ^ 12) (λ i. a-within s i .within) j) },
+        λ j. record { within = rw e (table-bound (valueA (g s)) 52 (2 * 10 ^ 12) (λ i. le-trans (a-within (g s) (s .pre .1) i) (lit≤ tt)) j) },
       ),
       (sizes s .size-clock, limits s .in-clock),
     )
 
 copied-requires : tie.Need-copied-requires
-copied-requires c κs = let n = sizes (c .before .before .before .before .before .before .before) in search
+copied-requires c κs = let n = sizes (c .before .before .before .before .before .before .before .before) in search
 
 copied-requires-2 : tie.Need-copied-requires-2
-copied-requires-2 c κs = let n = sizes (c .before .before .before .before .before .before .before .before) in search
+copied-requires-2 c κs = let n = sizes (c .before .before .before .before .before .before .before .before .before) in search
 
 judged-requires : tie.Need-judged-requires
 judged-requires c κs = search needs
@@ -146,7 +122,7 @@ returns-2 c =
     let k = d .before in
     let b = k .before in
     let a = b .before .before in
-    let s = a .before .before .before .before .before in
+    let s = a .before .before .before .before .before .before in
     c .judged .ensures
     ∙ track-judged (g s) (a .a-values .result) (b .b-values .result) (k .copied .result) (d .copied2 .result) (s .pre .0) (s .pre .1) (a-is a)
     (b .b-values .ensures ∙ b-table (g s) (a .a-values .result) (a-is a)) (k .copied .ensures) (d .copied2 .ensures)
@@ -158,9 +134,8 @@ corrected-track-spec =
     smooth-blocks-requires
     refused-requires
     returns
-    add-delay
-    sub-delay
     slice-aggregate-a-values
+    delay-requires
     a-values-requires
     slice-aggregate-b-values
     b-values-requires

@@ -11,9 +11,9 @@ use Rattle.exact.specs.Corrected.{Given}
 use Rattle.exact.specs.Accurate.{AccurateTrack}
 use Rattle.limits.specs.Lists.{miscounted}
 use Rattle.fit.specs.declared.Tracked.{Tracked}
-use Rattle.fit.specs.Track.{given, figures, wrongSizes, outOfLimits, trackRule}
+use Rattle.fit.specs.Track.{given, wrongSizes, outOfLimits, trackRule}
 use Rattle.fit.proofs.Accuracy.{tracked-accurate}
-use Rattle.fit.proofs.Tracks.{inputsNumber, inputs-accepted, track-refused}
+use Rattle.fit.proofs.Tracks.{inputsNumber, inputs-accepted, inputs-refused}
 use borrow.Author.Needs.{needs}
 use Rattle.fit.proofs.track.Statement.{statement}
 use Rattle.fit.proofs.track.Tie as tie
@@ -73,7 +73,7 @@ refused-requires c κs = search needs
 
 -- both clauses, from the answer
 both : (s : tie.Start) (t : Tracked) → t ≡ trackRule (g s)
-    → (t ≡ trackRule (g s)) × (t .refusal ≡ 0 → AccurateTrack 52 (g s) (figures (t .«record»)))
+    → (t ≡ trackRule (g s)) × (t .refusal ≡ 0 → AccurateTrack 52 (g s) (t .«record» .numbers))
 both s t e = (e, tracked-accurate (g s) t e)
 
 returns : tie.Need-returns
@@ -81,7 +81,7 @@ returns c =
     let n = c .before .before in
     let s = n .before .before .before .before .before .before .before in
     let h : 0 < n .then .result = omega (arith, c .before .if1 .taken) in
-    both s (c .refused .result) (c .refused .ensures ∙ sym (track-refused (g s) (n .then .result) (refusal-is n) h))
+    both s (c .refused .result) (c .refused .ensures ∙ sym (inputs-refused (g s) (n .then .result) (refusal-is n) h))
 
 corrected-track-requires : tie.Need-corrected-track-requires
 corrected-track-requires c κs =

@@ -1,8 +1,7 @@
 -- `labels::refusal` meets its contract: it is the definition, each call by its own contract.
 -- Assumes nothing.
-use mir.Syntax.{w64}
-use mir.Val.{SFits}
 use mir.Facts.{toZ-ofZ}
+use Rattle.limits.proofs.Laws.{Fits}
 use Rattle.labels.specs.Content.{contentRule}
 use borrow.Author.Needs.{needs}
 use Rattle.labels.proofs.refusal.Statement.{statement}
@@ -36,47 +35,27 @@ then-requires-3 : tie.Need-then-requires-3
 then-requires-3 c κs = search needs
 
 -- each number reads back from its bits
-numbers-fit : (c : tie.Start) → SFits w64 (c .args .numbers .refsv)
-    × SFits w64 (c .args .numbers .srsv)
-    × SFits w64 (c .args .numbers .refsys)
-    × SFits w64 (c .args .numbers .srsys)
-    × SFits w64 (c .args .numbers .mdtr)
-    × SFits w64 (c .args .numbers .smdt)
-    × SFits w64 (c .args .numbers .mdio)
-    × SFits w64 (c .args .numbers .smdi)
-    × SFits w64 (c .args .numbers .dsg)
-    × SFits w64 (c .args .numbers .trkl)
-numbers-fit c =
-    (search needs, search needs, search needs, search needs, search needs, search needs, search needs, search needs, search needs, search needs)
+numbers-fit : (c : tie.Start) → Fits (c .args .numbers)
+numbers-fit c = search needs
 
 returns : tie.Need-returns
 unfolding contentRule
 returns c =
     let dsg = c .before .before .before .before in
-    let limits = dsg .before .before in
-    let start = limits .before .before .before .before .before .before .before .before .before in
-    let a = start .before .before .before .before in
-    let f = numbers-fit a in
+    let start = dsg .before .before .before in
+    let f = numbers-fit (start .before .before .before .before) in
     simp (
       c .then3 .ensures,
       c .before .then2 .ensures,
       c .before .before .then .ensures,
       c .before .before .before .when .ensures,
       dsg .dsg .ensures,
-      limits .limits .ensures,
+      dsg .before .before .limits .ensures,
       start .start .ensures,
       start .before .outside .ensures,
       start .before .before .before .labels-fit .ensures,
-      toZ-ofZ (f .0),
-      toZ-ofZ (f .1),
-      toZ-ofZ (f .2),
-      toZ-ofZ (f .3),
-      toZ-ofZ (f .4),
-      toZ-ofZ (f .5),
-      toZ-ofZ (f .6),
-      toZ-ofZ (f .7),
-      toZ-ofZ (f .8),
-      toZ-ofZ (f .9),
+      toZ-ofZ (f .dsg),
+      toZ-ofZ (f .trkl),
     )
 
 pub refusal-spec : {M : Type 1} → statement M

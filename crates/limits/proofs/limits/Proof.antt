@@ -3,6 +3,7 @@
 -- Assumes nothing.
 use Rattle.limits.specs.Limits.{limitsRule}
 use mir.Facts.{toZ-ofZ}
+use Rattle.limits.proofs.Laws.{Fits}
 use borrow.Author.Needs.{needs}
 use Rattle.limits.proofs.limits.Statement.{statement}
 use Rattle.limits.proofs.limits.Tie as tie
@@ -46,14 +47,18 @@ then-requires c κs = search needs
 then-requires-2 : tie.Need-then-requires-2
 then-requires-2 c κs = search needs
 
+-- each number reads back from its bits
+numbers-fit : (c : tie.Start) → Fits (c .args .numbers)
+numbers-fit c = search needs
+
 returns : tie.Need-returns
 unfolding limitsRule
 returns c =
     let w = c .before .before .before .before in
     let o8 = w .before in
-    let o4 = o8 .before .before .before .before in
-    let start = o4 .before .before .before .before in
-    let f = start .fits in
+    let o4 = o8 .before .before .before .before .before .before .before .before in
+    let start = o4 .before .before .before .before .before .before .before .before in
+    let f = numbers-fit start in
     simp (
       c .then2 .ensures,
       c .before .then .ensures,
@@ -61,13 +66,13 @@ returns c =
       c .before .before .before .when2 .ensures,
       w .when .ensures,
       o8 .outside8 .ensures,
-      o8 .before .outside7 .ensures,
-      o8 .before .before .outside6 .ensures,
-      o8 .before .before .before .outside5 .ensures,
+      o8 .before .before .outside7 .ensures,
+      o8 .before .before .before .before .outside6 .ensures,
+      o8 .before .before .before .before .before .before .outside5 .ensures,
       o4 .outside4 .ensures,
-      o4 .before .outside3 .ensures,
-      o4 .before .before .outside2 .ensures,
-      o4 .before .before .before .outside .ensures,
+      o4 .before .before .outside3 .ensures,
+      o4 .before .before .before .before .outside2 .ensures,
+      o4 .before .before .before .before .before .before .outside .ensures,
       toZ-ofZ (f .refsv),
       toZ-ofZ (f .srsv),
       toZ-ofZ (f .refsys),

@@ -3,12 +3,11 @@
 use borrow.Author.Needs.{needs}
 use native.Mathlib.Omega.{arith}
 use mathlib.Core.Path.{_≡_, sym, ap, ap₂, _∙_}
-use mathlib.Core.Bool.{Bool, not, _||_}
+use mathlib.Core.Bool.{not, _||_}
 use Prim.Native.Nat.{ℕ, _<_}
 use lib.ListN.{length}
 use lib.Dec.{lit<, eqb}
 use Rattle.labels.specs.declared.Labels.{Labels}
-use Rattle.labels.specs.declared.Numbers.{Numbers}
 use Rattle.line.specs.Line.{lineAnswer, lineAfter}
 use Rattle.line.proofs.Blocks.{missized, wrong-length, wrong-sizes, track-number, track-refuses, refused, written}
 use Rattle.line.proofs.block.Statement.{statement}
@@ -62,9 +61,6 @@ returns-3 c =
 labels-requires : tie.Need-labels-requires
 labels-requires c κs = search needs
 
-numbers-requires : tie.Need-numbers-requires
-numbers-requires c κs = search needs
-
 line-requires : tie.Need-line-requires
 line-requires c κs = search needs
 
@@ -75,7 +71,7 @@ returns-4 : tie.Need-returns-4
 returns-4 c =
     let w = c .before .before in
     let n = w .before .before in
-    let i = n .before .before .before in
+    let i = n .before .before in
     let t = i .before in
     let e = t .before in
     let u = e .before in
@@ -83,12 +79,11 @@ returns-4 c =
     let a = k .before .before .before .args in
     let b = a .block .now in
     let l = a .lent .now in
-    let labels = n .before .labels .ensures in
-    let numbers = n .numbers .ensures in
+    let labels = n .labels .ensures in
     written b l (t .track .result) (k .if1 .left) (sizes-are u ∙ e .if2 .left) (t .track .ensures .0) (t .track .ensures .1) (i .if3 .left)
     (w .line .result) (w .line .last .1 .1 .0)
-    (w .line .ensures .0 ∙ ap₂ (λ (x : Labels) (y : Numbers). lineAnswer x y (length l)) labels numbers)
-    (w .line .ensures .1 ∙ ap₂ (λ (x : Labels) (y : Numbers). lineAfter x y l) labels numbers)
+    (w .line .ensures .0 ∙ ap (λ (x : Labels). lineAnswer x (t .track .result .«record» .numbers) (length l)) labels)
+    (w .line .ensures .1 ∙ ap (λ (x : Labels). lineAfter x (t .track .result .«record» .numbers) l) labels)
 
 pub block-spec : {M : Type 1} → statement M
 block-spec =
@@ -101,7 +96,6 @@ block-spec =
     track-requires
     returns-3
     labels-requires
-    numbers-requires
     line-requires
     same-length
     returns-4)

@@ -9,7 +9,7 @@ use mir.Syntax.{w64}
 use mir.Val.{SFits}
 use mir.Facts.{toZ-ofZ}
 use Rattle.limits.specs.Refusal.{_when_, _then_}
-use Rattle.labels.specs.declared.Numbers.{Numbers}
+use Rattle.limits.specs.declared.Numbers.{Numbers}
 use Rattle.labels.specs.Content.{contentRule}
 use Rattle.columns.specs.Columns.{readNumbers}
 use Rattle.reader.specs.Read.{lengthDiffers}

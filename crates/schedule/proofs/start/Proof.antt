@@ -1,6 +1,6 @@
 -- `schedule::start` meets its contract: a date that passes the first test is within the schedule, and the rest is the search.
 -- Assumes nothing.
-use lib.Dec.{ltb}
+use Prim.Native.Nat.{_≤_}
 use native.Mathlib.Omega.{arith}
 use borrow.Author.Tests.{ltb-false}
 use Rattle.limits.specs.Refusal.{_when_, _then_}
@@ -10,15 +10,21 @@ use borrow.Author.Needs.{needs}
 use Rattle.schedule.proofs.start.Statement.{statement}
 use Rattle.schedule.proofs.start.Tie as tie
 
+-- a date that passed the first test
+dated : (c : tie.Else1) → (firstDate ≤ c .before .args .mjd) × (c .before .args .mjd ≤ lastDate)
+dated c =
+    let f = or-false _ _ (c .if1 .left) in
+    (ltb-false _ _ (f .0), ltb-false _ _ (f .1))
+
+sub-is-start : tie.Need-sub-is-start
+sub-is-start c = dated c .0
+
+is-start-requires : tie.Need-is-start-requires
+is-start-requires c κs = omega (arith, dated c)
+
 returns : tie.Need-returns
 unfolding startRule _when_ _then_
 returns c = simp (c .if1 .taken)
-
-sub-is-start : tie.Need-sub-is-start
-sub-is-start c = ltb-false (c .before .args .mjd) firstDate (or-false (ltb (c .before .args .mjd) firstDate) (ltb lastDate (c .before .args .mjd)) (c .if1 .left) .0)
-
-is-start-requires : tie.Need-is-start-requires
-is-start-requires c κs = omega (arith, ltb-false lastDate (c .before .args .mjd) (or-false (ltb (c .before .args .mjd) firstDate) (ltb lastDate (c .before .args .mjd)) (c .if1 .left) .1))
 
 when-requires : tie.Need-when-requires
 when-requires c κs = search needs

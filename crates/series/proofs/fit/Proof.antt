@@ -9,12 +9,12 @@ use lib.IntN.{ℤ}
 use mir.Syntax.{w64}
 use mir.Val.{toZ, ofZ}
 use Rattle.whole.specs.Nearest.{nearest}
-use Rattle.whole.specs.Words.{Word, told, back-of, bound, plain-is, bounds}
+use Rattle.whole.specs.Words.{back-of, bound, plain-is, bounds}
 use Rattle.exact.specs.Corrected.{at}
 use Rattle.limits.specs.Lists.{listRule}
 use Rattle.series.specs.Fit.{midpoint, slope, fitRule}
 use Rattle.limits.proofs.Lists.{list-accepted}
-use Rattle.series.proofs.Fitting.{midpoint-52, slope-52}
+use Rattle.series.proofs.Fitting.{total-word, moment-word, midpoint-52, slope-52}
 use Rattle.limits.proofs.Replies.{reply-accepted, reply-refused}
 use Rattle.series.proofs.fit.Statement.{statement}
 use Rattle.series.proofs.fit.Tie as tie
@@ -36,30 +36,23 @@ accepted c = sym (c .before .values-refusal .ensures) ∙ c .if1 .left
 sums-requires : tie.Need-sums-requires
 sums-requires c κs = list-accepted _ _ _ _ (accepted c)
 
--- the two sums that sums hands back
-abbrev total-word : (c : tie.After-sums) → Word (c .sums .result .total)
-total-word c = told (c .sums .ensures .0 .0) (c .sums .ensures .1 .0)
-
-abbrev moment-word : (c : tie.After-sums) → Word (c .sums .result .moment)
-moment-word c = told (c .sums .ensures .0 .1) (c .sums .ensures .1 .1)
-
 nearest-requires : tie.Need-nearest-requires
-nearest-requires c κs = let s = total-word (c .before) in (bound (search bounds depth 9) tt, lit< tt)
+nearest-requires c κs = let s = total-word (c .before .sums .ensures) in (bound (search bounds depth 9) tt, lit< tt)
 
 nearest-requires-2 : tie.Need-nearest-requires-2
-nearest-requires-2 c κs = let t = moment-word (c .before .before .before) in (bound (search bounds depth 9) tt, lit< tt)
+nearest-requires-2 c κs = let t = moment-word (c .before .before .before .sums .ensures) in (bound (search bounds depth 9) tt, lit< tt)
 
 midpoint-is : (c : tie.After-nearest2)
     → toZ w64 (ofZ w64 (c .before .before .nearest .result)) ≡ midpoint 1 52 (at (c .before .before .before .before .before .before .before .args .values .now))
 midpoint-is c =
-    let s = total-word (c .before .before .before .before) in
+    let s = total-word (c .before .before .before .before .sums .ensures) in
     let n = c .before .before .nearest in
     back-of (n .ok) ∙ n .ensures ∙ ap (λ (z : ℤ). nearest z 5200) (plain-is (search bounds depth 9) tt) ∙ sym (midpoint-52 _)
 
 slope-is : (c : tie.After-nearest2)
     → toZ w64 (ofZ w64 (c .nearest2 .result)) ≡ slope 1 52 (at (c .before .before .before .before .before .before .before .args .values .now))
 slope-is c =
-    let t = moment-word (c .before .before .before .before) in
+    let t = moment-word (c .before .before .before .before .sums .ensures) in
     let n = c .nearest2 in
     back-of (n .ok) ∙ n .ensures ∙ ap (λ (z : ℤ). nearest z 35139) (plain-is (search bounds depth 9) tt) ∙ sym (slope-52 _)
 

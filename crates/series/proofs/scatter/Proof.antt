@@ -7,14 +7,14 @@ use native.Mathlib.Omega.{arith}
 use lib.Dec.{lit<}
 use lib.IntN.{ℤ, pos, natAbs}
 use Rattle.whole.specs.Order.{_⩽_, pos-le, pos-lt}
-use Rattle.whole.specs.Words.{Word, told, count-read, fits, count, plain-is, bounds}
+use Rattle.whole.specs.Words.{count-read, fits, count, plain-is, bounds}
 use Rattle.limits.specs.Limits.{dsgRule}
 use Rattle.exact.specs.Corrected.{at}
 use Rattle.limits.specs.Reply.{reply}
 use Rattle.limits.specs.Lists.{listRule}
-use Rattle.series.specs.Fit.{total, moment}
 use Rattle.series.specs.Scatter.{squares, threshold, dsg, scatterRule}
 use Rattle.limits.proofs.Lists.{list-accepted}
+use Rattle.series.proofs.Fitting.{total-word, moment-word}
 use Rattle.series.proofs.Residuals.{squares-pos}
 use Rattle.series.proofs.Thresholds.{dsg-greatest, greatest, dsg-below, sigma-refused, sigma-accepted}
 use Rattle.limits.proofs.Laws.{then-refused, then-passed}
@@ -40,17 +40,10 @@ accepted c = sym (c .before .values-refusal .ensures) ∙ c .if1 .left
 sums-requires : tie.Need-sums-requires
 sums-requires c κs = list-accepted _ _ _ _ (accepted c)
 
--- the two sums that sums hands back
-abbrev total-word : (c : tie.After-sums) → Word (c .sums .result .total)
-total-word c = told (c .sums .ensures .0 .0) (c .sums .ensures .1 .0)
-
-abbrev moment-word : (c : tie.After-sums) → Word (c .sums .result .moment)
-moment-word c = told (c .sums .ensures .0 .1) (c .sums .ensures .1 .1)
-
 squares-requires : tie.Need-squares-requires
 squares-requires c κs =
-    let s = total-word (c .before .before) in
-    let t = moment-word (c .before .before) in (
+    let s = total-word (c .before .before .sums .ensures) in
+    let t = moment-word (c .before .before .sums .ensures) in (
       list-accepted _ _ _ _ (accepted (c .before .before .before)),
       (plain-is (search bounds depth 9) tt, plain-is (search bounds depth 9) tt),
     )

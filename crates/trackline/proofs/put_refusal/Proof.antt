@@ -1,7 +1,7 @@
 -- `trackline::put_refusal` meets its contract: the word is copied, and one or two digits are put behind it.
 -- Assumes nothing.
 use lib.Dec.{lit≤}
-use Rattle.trackline.specs.Printed.{Text}
+use Rattle.trackline.specs.Buffer.{Text}
 use Rattle.trackline.proofs.Texts.{copied, pushed, retext, refusedText, one-digit, two-digits}
 use borrow.Author.Needs.{needs}
 use Rattle.trackline.proofs.put_refusal.Statement.{statement}

@@ -1,7 +1,7 @@
 -- Worked examples of the nearest whole number.
 -- Assumes nothing.
 use mathlib.Core.Path.{_≡_, refl}
-use mathlib.Core.List.{List, [], _∷_, map}
+use mathlib.Core.List.{[], _∷_, map}
 use lib.IntN.{ℤ, pos, negsuc}
 use Rattle.whole.specs.Nearest.{nearest}
 

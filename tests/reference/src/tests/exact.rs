@@ -2,7 +2,7 @@
 
 use super::*;
 use crate::seeded::Seeded;
-use crate::{fit, nearest, scatter, smooth, WEIGHTS};
+use crate::{fit, nearest, scatter, smooth, worst, WEIGHTS};
 
 /// r is nearest to n / d, a tie going up: n / d - 1/2 < r <= n / d + 1/2.
 fn is_nearest(r: i64, n: i128, d: i128) -> bool {
@@ -66,11 +66,11 @@ fn smooth_fit_and_scatter_by_their_definitions() {
                 r * r
             })
             .sum();
-        let edge = |d: i128| 52 * (100 * d - 50) * (100 * d - 50);
+        let threshold = |d: i128| 52 * (100 * d - 50) * (100 * d - 50);
         match scatter(&v) {
-            Err(refusal) => assert!(refusal == 6 && edge(10_000) <= q),
+            Err(refusal) => assert!(refusal == 6 && threshold(10_000) <= q),
             Ok(0) => assert!(q < 130_000),
-            Ok(d) => assert!(edge(d.into()) <= q && q < edge(i128::from(d) + 1)),
+            Ok(d) => assert!(threshold(d.into()) <= q && q < threshold(i128::from(d) + 1)),
         }
     }
 }
@@ -130,6 +130,22 @@ fn within_the_exact_figures() {
         check_line(&wide(&given.columns[2]), 1, n.mdio, n.smdi);
     }
     assert!(accepted > 1_000, "{accepted} accepted");
+}
+
+/// 0.51 would be false of slopes: SRSV and SRSYS of this track are 0.519206 of their unit from the exact slope.
+#[test]
+fn slopes_0_5192_of_their_unit_off() {
+    for sign in [1, -1] {
+        let given = Given { measurements: worst::measurements(sign), ..Given::constant(0) };
+        let n = given.track().expect("accepted").numbers;
+        assert_eq!((n.srsv, n.srsys), (4 * sign, 4 * sign));
+        let exact: i128 = (0..52).map(|j| place(j) * exact_a(&given, j)).sum();
+        let unit = 35139 * 1105;
+        let off = (unit * i128::from(n.srsv) - exact) * i128::from(sign);
+        // 17569 / 35139 by the last rounding, 1352 x 552 / 1105 / 35139 by the smoothing
+        assert_eq!((off, unit), (20_160_049, 38_828_595));
+        assert!(51 * unit < 100 * off && 100 * off <= 52 * unit);
+    }
 }
 
 /// Exact A times 1105.

@@ -1,7 +1,7 @@
 -- `decode::inside::fill` meets its contract. The loop keeps the numbers stored, and those that follow, together the whole.
 -- Assumes nothing.
 use mathlib.Core.Path.{_≡_, sym, ap, ap₂, _∙_}
-use mathlib.Core.List.{List, _++_}
+use mathlib.Core.List.{_++_}
 use Prim.Native.Nat.{ℕ, _+_, _*_, _-_, _≤_, _<_}
 use native.Mathlib.Omega.{arith}
 use lib.ListN.{length, take, length-set}
@@ -9,9 +9,10 @@ use borrow.Author.Needs.{needs}
 use borrow.Author.Tests.{le-leb}
 use mir.Syntax.{w64}
 use mir.Val.{toZ, ofZ}
+use Rattle.whole.specs.Words.{back-of}
 use Rattle.decode.specs.Number.{twosComplement, signedsAt, signedAt}
-use Rattle.decode.proofs.Little.{back, unsigned-inside}
-use Rattle.decode.proofs.Signeds.{signeds-step, signeds-done}
+use Rattle.decode.proofs.Little.{unsigned-inside}
+use Rattle.decode.proofs.Signeds.{signeds-step, signeds-done, row-places}
 use Rattle.decode.proofs.inside.fill.Statement.{statement}
 use Rattle.decode.proofs.inside.fill.Tie as tie
 
@@ -31,7 +32,7 @@ lies : (c : tie.In-loop Inv-loop μ-loop)
 lies c =
     let i = c .before .loop .i in
     let h : i < length (c .before .before .before .args .out .now) = omega arith in
-    c .before .before .before .pre .lies i h
+    row-places _ _ _ _ (c .before .before .before .pre) i h
 
 -- what is stored is the row's number
 value : (c : tie.After-twos-complement Inv-loop μ-loop)
@@ -41,7 +42,7 @@ unfolding signedAt
 value c =
     let a = c .before .before .before .before .before .args in
     let p = a .at + a .stride * c .before .before .before .loop .i in
-    back (c .twos-complement .result) (c .twos-complement .ok)
+    back-of (c .twos-complement .ok)
     ∙ c .twos-complement .ensures
     ∙ ap twosComplement (c .before .unsigned64 .ensures ∙ unsigned-inside 8 p (a .bytes .now) (le-leb (p + 8) (length (a .bytes .now)) (lies (c .before .before))))
 

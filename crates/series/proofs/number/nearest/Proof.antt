@@ -4,15 +4,15 @@
 use borrow.Author.Needs.{needs}
 use mathlib.Core.Bool.{true, false, true≢false}
 use mathlib.Core.Path.{_≡_, refl, sym, ap, _∙_}
-use native.Mathlib.Nat.{le-of-lt}
+use native.Mathlib.Nat.{le-trans, le-of-lt}
 use native.Mathlib.Omega.{arith}
-use Prim.Native.Nat.{ℕ, _+_, _*_, _^_, _≤_}
-use lib.IntN.{ℤ, pos, negsuc, natAbs, _+ℤ_, _-ℤ_, _*ℤ_}
+use Prim.Native.Nat.{ℕ, _+_, _*_, _^_}
+use lib.IntN.{ℤ, pos, negsuc, _+ℤ_, _-ℤ_, _*ℤ_}
 use lib.Signed.{mag, ltZ, quotZ, shrZ}
 use mir.Syntax.{w64}
 use mir.Val.{toZ, ofZ}
 use Rattle.whole.specs.Nearest.{nearest}
-use Rattle.whole.specs.Words.{Word, known, count, count-read, equal, fits, bound, plain-is, bounds, divisor, turned, floor-below}
+use Rattle.whole.specs.Words.{Word, Within, mag-le, known, count, count-read, equal, fits, bound, plain-is, bounds, divisor, turned, floor-below}
 use Rattle.series.proofs.number.nearest.Statement.{statement}
 use Rattle.series.proofs.number.nearest.Tie as tie
 
@@ -46,21 +46,22 @@ cast-m c = search needs
 mul-m : tie.Need-mul-m
 mul-m c = let d = d-word c in fits (search bounds depth 9) tt
 
-folded-requires : tie.Need-folded-requires
-folded-requires c κs = search needs
+-- and how large it can be
+x-bound : (c : tie.Start) → Within (2 ^ 62 + 2 ^ 32) (doubled c)
+x-bound c =
+    let n = n-word c in
+    let d : Word (pos (c .args .d)) = count {b = 2 ^ 32} (le-of-lt (c .fits .d .fits)) in
+    bound (search bounds depth 9) tt
 
-mag-le : (z : ℤ) {b : ℕ} → natAbs z ≤ b → mag z ≤ b
-mag-le (pos a) h = h
-mag-le (negsuc a) h = omega arith
+folded-requires : tie.Need-folded-requires
+folded-requires c κs = rw (x-is c) (x-bound c)
 
 -- what is known of the folded number
 abbrev folded-word : (c : tie.After-folded) → Word (c .folded .result)
 folded-word c =
     let s = c .before in
-    let n = n-word s in
-    let d : Word (pos (s .args .d)) = count {b = 2 ^ 32} (le-of-lt (s .fits .d .fits)) in
     equal (c .folded .ensures ∙ ap (λ (z : ℤ). pos (mag z)) (x-is s))
-    (count {b = 2 ^ 62 + 2 ^ 32} (mag-le (doubled s) (bound {z = doubled s} {b = 2 ^ 62 + 2 ^ 32} (search bounds depth 9) tt .within)))
+    (count {b = 2 ^ 62 + 2 ^ 32} (le-trans (mag-le (doubled s)) (x-bound s .within)))
 
 floor-of-folded-below : (x : ℤ) (m : ℕ) → ltZ x (pos 0) ≡ true → negsuc 0 -ℤ quotZ (pos (mag x)) (pos m) ≡ shrZ x m
 floor-of-folded-below x m t = ap (λ (z : ℤ). negsuc 0 -ℤ quotZ z (pos m)) (sym (turned x t)) ∙ floor-below x m t

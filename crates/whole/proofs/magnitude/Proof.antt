@@ -1,28 +1,24 @@
--- `fields::magnitude` meets its contract: below 0 it is one more than -1 - value, whose steps all fit.
+-- `whole::magnitude` meets its contract: below 0 it is one more than -1 - value, whose steps all fit.
 -- Assumes nothing.
 use mathlib.Core.Path.{_≡_}
 use mathlib.Core.Bool.{true}
-use Prim.Native.Nat.{_+_}
-use lib.IntN.{pos, negsuc, natAbs, _-ℤ_}
+use lib.IntN.{pos, negsuc, _-ℤ_}
 use lib.Signed.{mag, ltZ}
 use mir.Syntax.{w64}
 use mir.Val.{SFits, Fits}
 use native.Mathlib.Omega.{arith}
 use mir.Facts.{toZ-ofZ}
-use Rattle.fields.proofs.Negative.{minus-one-less, magnitude-below, magnitude-fits, cast-above}
-use borrow.Author.Needs.{needs}
-use Rattle.fields.proofs.magnitude.Statement.{statement}
-use Rattle.fields.proofs.magnitude.Tie as tie
+use Rattle.whole.specs.Words.{turned}
+use Rattle.whole.proofs.Negative.{magnitude-below, cast-above}
+use Rattle.whole.proofs.magnitude.Statement.{statement}
+use Rattle.whole.proofs.magnitude.Tie as tie
 
 -- the test, on the value itself
 below : (c : tie.Then1) → ltZ (c .before .args .value) (pos 0) ≡ true
 below c = simp (toZ-ofZ (c .before .fits .value)) at (c .if1 .taken)
 
 flipped : (c : tie.Then1) → negsuc 0 -ℤ c .before .args .value ≡ pos (mag (c .before .args .value))
-flipped c = minus-one-less (c .before .args .value) (below c)
-
-size : (c : tie.Then1) → mag (c .before .args .value) + 1 ≡ natAbs (c .before .args .value)
-size c = magnitude-below (c .before .args .value) (below c)
+flipped c = turned (c .before .args .value) (below c)
 
 half : (c : tie.Then1) → SFits w64 (pos (mag (c .before .args .value)))
 half c = record { sfits = c .before .fits .value .sfits }
@@ -39,10 +35,10 @@ cast-result c =
 
 add-result : tie.Need-add-result
 add-result c =
-    simp (toZ-ofZ (c .before .fits .value), flipped c, toZ-ofZ (half c), size c) (magnitude-fits _ (c .before .fits .value))
+    simp (toZ-ofZ (c .before .fits .value), flipped c, toZ-ofZ (half c)) (omega (arith, half c))
 
 returns : tie.Need-returns
-returns c = simp (toZ-ofZ (c .before .fits .value), flipped c, toZ-ofZ (half c), size c)
+returns c = simp (toZ-ofZ (c .before .fits .value), flipped c, toZ-ofZ (half c)) (magnitude-below (c .before .args .value) (below c))
 
 cast-result-2 : tie.Need-cast-result-2
 cast-result-2 c = simp (toZ-ofZ (c .before .fits .value)) (cast-above _ (c .before .fits .value) (simp (toZ-ofZ (c .before .fits .value)) at (c .if1 .left)))

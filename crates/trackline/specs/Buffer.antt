@@ -1,0 +1,18 @@
+-- What the functions that fill the output buffer promise each other.
+-- Assumes nothing.
+use mathlib.Core.Path.{_≡_}
+use mathlib.Core.List.{List, [], _∷_, _++_}
+use Prim.Native.Nat.{ℕ, suc}
+use lib.ListN.{length, take}
+
+-- A text stands at the front of a buffer of 115 bytes: it ends at that place.
+pub record Text (out : List ℕ) (end : ℕ) (text : List ℕ) : Type 0 where
+  pub is : take end out ≡ text
+  pub ends : end ≡ length text
+  pub long : length out ≡ 115
+
+-- One byte more behind what stands up to a place.
+pub record Pushed (before after : List ℕ) (at byte next : ℕ) : Type 0 where
+  pub is : take next after ≡ take at before ++ byte ∷ []
+  pub next-is : next ≡ suc at
+  pub long : length after ≡ length before
