@@ -17,7 +17,8 @@ use Rattle.limits.specs.Lists.{anyBeyond}
 use Rattle.series.specs.Answers.{smoothReply, smoothNumbered}
 use Rattle.series.specs.Smooth.{smoothed, smoothRule}
 use Rattle.limits.proofs.Lists.{list-passes, any-drop, any-take}
-use Rattle.series.proofs.Replies.{reply-accepted, smooth-case}
+use Rattle.limits.proofs.Replies.{reply-accepted}
+use Rattle.series.proofs.Replies.{smooth-case}
 
 module _ (m : List ℤ) (from : ℕ) (fits : from + 15 ≤ length m) where
   part-length : length (take 15 (drop from m)) ≡ 15

@@ -24,8 +24,9 @@ use Rattle.limits.proofs.Laws.{or-false, magnitude-within, then-zero, when-zero
 use Rattle.fit.specs.declared.TrackRecord.{TrackRecord}
 use Rattle.exact.specs.Corrected.{Given, at, toA, toB}
 use Rattle.limits.specs.Lists.{miscounted, anyBeyond}
+use Rattle.limits.specs.Reply.{Reply}
 use Rattle.series.specs.declared.Fitted.{Fitted}
-use Rattle.series.specs.Answers.{Reply, fitReply, fitNumbered}
+use Rattle.series.specs.Answers.{fitReply, fitNumbered}
 use Rattle.series.specs.Fit.{midpoint, slope, fitRule}
 use Rattle.series.proofs.Fitting.{fit-accepted}
 use Rattle.limits.proofs.Laws.{then-refused, then-assoc}

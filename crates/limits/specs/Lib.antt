@@ -1,3 +1,4 @@
 pub mod Refusal
+pub mod Reply
 pub mod Limits
 pub mod Lists

@@ -21,7 +21,7 @@ use Rattle.exact.specs.Weights.{place}
 use Rattle.limits.specs.Lists.{anyBeyond}
 use Rattle.series.specs.Fit.{total, moment, midpoint, slope, fitRule}
 use Rattle.limits.proofs.Lists.{within-limit, list-passes}
-use Rattle.series.proofs.Replies.{reply-accepted}
+use Rattle.limits.proofs.Replies.{reply-accepted}
 
 -- two numbers that differ by at most m
 apart : (a b m : ℕ) → a ≤ b + m → b ≤ a + m → natAbs (pos a -ℤ pos b) ≤ m

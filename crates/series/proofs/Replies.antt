@@ -1,36 +1,12 @@
--- Laws of the replies (specs/Answers.antt).
+-- The case of an answer, by its reply (specs/Answers.antt).
 -- Assumes nothing.
-use mathlib.Core.Path.{_≡_, refl, ap}
-use Prim.Native.Nat.{ℕ, zero, suc, _<_}
-use native.Mathlib.Nat.{not-suc-le-zero}
+use mathlib.Core.Path.{_≡_, ap}
+use Prim.Native.Nat.{ℕ, _<_}
 use native.Mathlib.Omega.{arith}
 use lib.IntN.{ℤ}
+use Rattle.limits.specs.Reply.{Reply}
 use Rattle.series.specs.declared.Smoothed.{Smoothed}
-use Rattle.series.specs.Answers.{Reply, reply, smoothReply, smoothNumbered}
-
-pub reply-accepted : {A : Type 0} (zeros values : A) {number : ℕ} → number ≡ 0
-    → reply zeros number values ≡ record { number = 0; values = values }
-reply-accepted zeros values e = ap (λ (n : ℕ). reply zeros n values) e
-
-pub reply-refused : {A : Type 0} (zeros values : A) {number : ℕ} → 0 < number
-    → reply zeros number values ≡ record { number = number; values = zeros }
-reply-refused zeros values {number = zero} h = absurd (not-suc-le-zero h)
-reply-refused zeros values {number = suc n} h = refl
-
-pub reply-number : {A : Type 0} (zeros values : A) (number : ℕ) → reply zeros number values .number ≡ number
-reply-number zeros values zero = refl
-reply-number zeros values (suc n) = refl
-
--- what a reply without a refusal tells
-pub reply-values : {A : Type 0} (zeros values : A) (number : ℕ) {v : A} → record { number = 0; values = v } ≡ reply zeros number values
-    → (number ≡ 0) × (v ≡ values)
-reply-values zeros values zero e = (refl, ap (λ (t : Reply _). t .values) e)
-reply-values zeros values (suc n) e = absurd (never (ap (λ (t : Reply _). t .number) e))
-  where
-    never : 0 ≡ suc n → ⊥
-    never e = omega arith
-
--- ---- the case of Smooth's answer, by its reply
+use Rattle.series.specs.Answers.{smoothReply, smoothNumbered}
 
 pub smooth-case : (r : Smoothed) (v : ℤ) → smoothReply r ≡ record { number = 0; values = v } → smoothNumbered r
     → r ≡ Smoothed.Value v

@@ -23,7 +23,7 @@ use Rattle.limits.specs.Refusal.{_when_}
 use Rattle.limits.specs.Limits.{outside, dsgRule}
 use Rattle.exact.specs.Corrected.{at}
 use Rattle.limits.specs.Lists.{anyBeyond}
-use Rattle.series.specs.Answers.{reply}
+use Rattle.limits.specs.Reply.{reply}
 use Rattle.series.specs.Scatter.{squares, threshold, climb, dsg, scatterRule}
 use Rattle.limits.proofs.Lists.{list-passes}
 use Rattle.limits.proofs.Laws.{then-passed}

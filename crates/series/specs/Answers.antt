@@ -1,20 +1,12 @@
 -- What the answers of Smooth, Fit and Scatter mean in document 01's terms: the number of the refusal, 0 where there is none, and the values,
 -- 0 throughout where there is a refusal.
 -- Assumes nothing.
-use Prim.Native.Nat.{ℕ, zero, suc, _<_}
+use Prim.Native.Nat.{_<_}
 use lib.IntN.{ℤ, pos}
+use Rattle.limits.specs.Reply.{Reply}
 use Rattle.series.specs.declared.Smoothed.{Smoothed}
 use Rattle.series.specs.declared.Fitted.{Fitted}
 use Rattle.series.specs.declared.Scattered.{Scattered}
-
-pub record Reply (A : Type 0) : Type 0 where
-  pub number : ℕ
-  pub values : A
-
--- The reply of this number: the values where it is 0, the zeros where it is a refusal's.
-abbrev pub reply : {A : Type 0} → A → ℕ → A → Reply A
-reply zeros zero values = record { number = 0; values = values }
-reply zeros (suc number) values = record { number = suc number; values = zeros }
 
 -- The number and the values of each case.
 abbrev pub smoothReply : Smoothed → Reply ℤ

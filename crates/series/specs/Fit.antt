@@ -9,7 +9,7 @@ use Rattle.whole.specs.Sum.{sum}
 use Rattle.whole.specs.Nearest.{nearest}
 use Rattle.exact.specs.Corrected.{at}
 use Rattle.limits.specs.Lists.{listRule}
-use Rattle.series.specs.Answers.{Reply, reply}
+use Rattle.limits.specs.Reply.{Reply, reply}
 
 -- S and T of document 01: with 52 values, place 52 j is 2j - 51.
 unfoldable pub total : ℕ → (ℕ → ℤ) → ℤ

@@ -14,7 +14,7 @@ use Rattle.limits.specs.Limits.{dsgRule}
 use Rattle.exact.specs.Corrected.{at}
 use Rattle.exact.specs.Weights.{place}
 use Rattle.limits.specs.Lists.{listRule}
-use Rattle.series.specs.Answers.{Reply, reply}
+use Rattle.limits.specs.Reply.{Reply, reply}
 use Rattle.series.specs.Fit.{total, moment}
 
 -- The residual of value j: the value - S / n - 3 (2j - (n - 1)) T / (n (n² - 1)), nearest. With 52 values that is

@@ -9,7 +9,7 @@ use Rattle.whole.specs.Sum.{sum}
 use Rattle.whole.specs.Nearest.{nearest}
 use Rattle.exact.specs.Corrected.{at}
 use Rattle.limits.specs.Lists.{listRule}
-use Rattle.series.specs.Answers.{Reply, reply}
+use Rattle.limits.specs.Reply.{Reply, reply}
 
 -- The smoothed value of the measurements m 0 .. m 14: the nearest whole picosecond.
 unfoldable pub smoothed : (ℕ → ℤ) → ℤ

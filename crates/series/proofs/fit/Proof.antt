@@ -15,7 +15,7 @@ use Rattle.limits.specs.Lists.{listRule}
 use Rattle.series.specs.Fit.{midpoint, slope, fitRule}
 use Rattle.limits.proofs.Lists.{list-accepted}
 use Rattle.series.proofs.Fitting.{total-word, moment-word, midpoint-52, slope-52}
-use Rattle.series.proofs.Replies.{reply-accepted, reply-refused}
+use Rattle.limits.proofs.Replies.{reply-accepted, reply-refused}
 use Rattle.series.proofs.fit.Statement.{statement}
 use Rattle.series.proofs.fit.Tie as tie
 

@@ -10,7 +10,7 @@ use Rattle.whole.specs.Order.{_⩽_, pos-le, pos-lt}
 use Rattle.whole.specs.Words.{count-read, fits, count, plain-is, bounds}
 use Rattle.limits.specs.Limits.{dsgRule}
 use Rattle.exact.specs.Corrected.{at}
-use Rattle.series.specs.Answers.{reply}
+use Rattle.limits.specs.Reply.{reply}
 use Rattle.limits.specs.Lists.{listRule}
 use Rattle.series.specs.Scatter.{squares, threshold, dsg, scatterRule}
 use Rattle.limits.proofs.Lists.{list-accepted}
@@ -18,7 +18,7 @@ use Rattle.series.proofs.Fitting.{total-word, moment-word}
 use Rattle.series.proofs.Residuals.{squares-pos}
 use Rattle.series.proofs.Thresholds.{dsg-greatest, greatest, dsg-below, sigma-refused, sigma-accepted}
 use Rattle.limits.proofs.Laws.{then-refused, then-passed}
-use Rattle.series.proofs.Replies.{reply-accepted, reply-refused}
+use Rattle.limits.proofs.Replies.{reply-accepted, reply-refused}
 use Rattle.series.proofs.scatter.Statement.{statement}
 use Rattle.series.proofs.scatter.Tie as tie
 

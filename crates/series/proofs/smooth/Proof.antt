@@ -14,7 +14,7 @@ use Rattle.limits.specs.Lists.{listRule}
 use Rattle.series.specs.Smooth.{smoothed, smoothRule}
 use Rattle.limits.proofs.Lists.{list-accepted, within-limit}
 use Rattle.series.proofs.Weights.{weighted-bound}
-use Rattle.series.proofs.Replies.{reply-accepted, reply-refused}
+use Rattle.limits.proofs.Replies.{reply-accepted, reply-refused}
 use Rattle.series.proofs.smooth.Statement.{statement}
 use Rattle.series.proofs.smooth.Tie as tie
 

@@ -8,12 +8,13 @@ use Rattle.whole.specs.Words.{back-of}
 use Rattle.limits.specs.Refusal.{_then_}
 use Rattle.limits.specs.Limits.{limitsRule, dsgRule}
 use Rattle.series.specs.declared.Scattered.{Scattered}
-use Rattle.series.specs.Answers.{Reply, reply, scatterReply, scatterNumbered}
+use Rattle.limits.specs.Reply.{Reply, reply}
+use Rattle.series.specs.Answers.{scatterReply, scatterNumbered}
 use Rattle.fit.specs.declared.TrackRecord.{TrackRecord}
 use Rattle.fit.specs.Track.{numbersWith, recordOf, numbersRule, tracked}
 use Rattle.series.proofs.Thresholds.{scatter-passed}
 use Rattle.limits.proofs.Laws.{then-refused, then-passed}
-use Rattle.series.proofs.Replies.{reply-number, reply-values}
+use Rattle.limits.proofs.Replies.{reply-number, reply-values}
 use Rattle.fit.proofs.Tracks.{tracked-refused, tracked-accepted}
 use borrow.Author.Needs.{needs}
 use Rattle.fit.proofs.results.with_dsg.Statement.{statement}

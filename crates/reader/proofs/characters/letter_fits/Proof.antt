@@ -1,0 +1,13 @@
+-- `reader::characters::letter_fits` meets its contract: the tests are those of the definition.
+-- Assumes nothing.
+use borrow.Author.Needs.{needs}
+use Rattle.reader.specs.Kinds.{letterFits}
+use Rattle.reader.proofs.characters.letter_fits.Statement.{statement}
+use Rattle.reader.proofs.characters.letter_fits.Tie as tie
+
+returns : tie.Need-returns
+unfolding letterFits
+returns c = search needs
+
+pub letter-fits-spec : {M : Type 1} → statement M
+letter-fits-spec = tie.close (tie.spec returns)
