@@ -1,5 +1,5 @@
-// Every function that C calls, with numbers and byte slices, and nothing else: the start test, Line and Block. Each is one call, and its
-// contract is that call's. include/trackline.h declares them; the archive is made of this crate.
+// Every function that C calls, with numbers and slices of them, and nothing else: the start test, Line, Block and the reader. Each is one
+// call, and its contract is that call's. include/trackline.h declares them; the archive is made of this crate.
 ghost use mathlib.Core.Path.{_≡_};
 ghost use lib.ListN.{length};
 ghost use Rattle.schedule.specs.Schedule.{startRule};
@@ -9,8 +9,13 @@ ghost use Rattle.line.specs.Line.{lineAnswer, lineAfter};
 ghost use Rattle.hire.specs.Hire.{blockGiven};
 ghost use Rattle.line.specs.Block.{blockAnswer, blockAfter};
 ghost use Rattle.labels.specs.Given.{labelsOf, numbersOf};
+ghost use Rattle.reader.specs.Read.{commentOffset};
+ghost use Rattle.boundary.specs.Values.{readAnswer, readAfter};
 use line::Labels;
 use line::Numbers;
+use reader::Reading;
+
+mod values;
 
 #[no_mangle]
 pub extern "C" fn trackline_start(mjd: u32, second: u32) -> u32
@@ -94,4 +99,29 @@ pub extern "C" fn trackline_line(
         trkl,
     };
     line::line(labels, numbers, lent)
+}
+
+// The values of a line go to the first 23 of the lent places.
+#[no_mangle]
+pub extern "C" fn trackline_read(line: &[u8], lent: &mut [i64]) -> u32
+    ensures answer { λ r. ⌜ r ≡ readAnswer (now (line .entry)) (length (now (lent .entry))) ⌝ }
+    ensures written { λ _. ⌜ now (lent .exit) ≡ readAfter (now (line .entry)) (now (lent .entry)) ⌝ }
+{
+    let reading = reader::read(line);
+    match reading {
+        Reading::Refused(number) => number,
+        Reading::Line { labels, numbers } => {
+            let row = values::values(labels, numbers);
+            values::put(&row, lent)
+        }
+    }
+}
+
+// Where the comment begins: what is left of the line before it.
+#[no_mangle]
+pub extern "C" fn trackline_comment(line: &[u8]) -> usize
+    ensures { λ r. ⌜ r ≡ commentOffset (now (line .entry)) ⌝ }
+{
+    let comment = reader::comment(line);
+    line.len() - comment.len()
 }

@@ -218,6 +218,18 @@ module _ (line : List ℕ) where
   refused-case {r} {number} e a h =
       subst (λ (n : ℕ). 0 < n) (sym (ap (λ (t : Reading). readReply t .number) e) ∙ number-is r a) (subst readNumbered e h)
 
+  pub refused-number : {r : Reading} {number : ℕ} → r ≡ Reading.Refused number → readReply r ≡ readRule line → number ≡ readNumber line
+  refused-number {r} e a = sym (ap (λ (t : Reading). readReply t .number) e) ∙ number-is r a
+
+  pub accepted-values : {r : Reading} {labels : Labels} {numbers : Numbers} → r ≡ Reading.Line labels numbers → readReply r ≡ readRule line
+      → (labels ≡ readLabels line) × (numbers ≡ readNumbers line)
+  unfolding readRule
+  accepted-values {r} {labels} {numbers} e a =
+      let p : _≡_ {A = Labels × Numbers} (labels, numbers) (readLabels line, readNumbers line) =
+      sym (ap (λ (t : Reading). readReply t .values) e)
+      ∙ ap (λ (t : Reply (Labels × Numbers)). t .values) (a ∙ reply-accepted _ _ (accepted-case e a)) in
+      (ap (λ (t : Labels × Numbers). t .0) p, ap (λ (t : Labels × Numbers). t .1) p)
+
   -- ---- the offset of the comment
 
   pub offset-accepted : readNumber line ≡ 0 → commentOffset line ≡ lineLength
@@ -230,3 +242,11 @@ module _ (line : List ℕ) where
     where
       some : 0 < readNumber line → readNumber line ≡ 0 → ⊥
       some h e = omega arith
+
+  -- it lies within the line
+  pub offset-within : commentOffset line ≤ length line
+  offset-within = by-number (readNumber line) refl
+    where
+      by-number : (n : ℕ) → readNumber line ≡ n → commentOffset line ≤ length line
+      by-number zero e = omega (arith, offset-accepted e, accepted line e .0 .least)
+      by-number (suc n) e = omega (arith, offset-refused (omega arith))

@@ -1,0 +1,64 @@
+-- `boundary::trackline_read` meets its contract: the case of the reading tells the answer and what is put.
+-- Assumes nothing.
+use native.Mathlib.Omega.{arith}
+use Rattle.reader.proofs.Refusals.{accepted-case, accepted-values, refused-case, refused-number}
+use Rattle.boundary.proofs.Rows.{refused-is, read-is}
+use borrow.Author.Needs.{needs}
+use Rattle.boundary.proofs.trackline_read.Statement.{statement}
+use Rattle.boundary.proofs.trackline_read.Tie as tie
+
+read-requires : tie.Need-read-requires
+read-requires c κs = search needs
+
+enum-known-reading : tie.Need-enum-known-reading
+enum-known-reading c = search needs
+
+enum-known-reading-2 : tie.Need-enum-known-reading-2
+enum-known-reading-2 c = search needs
+
+values-requires : tie.Need-values-requires
+values-requires c κs = search needs
+
+slice-aggregate-put : tie.Need-slice-aggregate-put
+slice-aggregate-put c = search needs
+
+put-requires : tie.Need-put-requires
+put-requires c κs = search needs
+
+returns : tie.Need-returns
+returns c =
+    let at = c .before .before .before in
+    let a = at .before .before .args in
+    let e = c .before .reading .given .1 in
+    let number = refused-number (a .line .now) e (at .read .ensures .0) in
+    let some = refused-case (a .line .now) e (at .read .ensures .0) (at .read .ensures .1) in
+    refused-is (a .line .now) (a .lent .now) number (omega arith)
+
+same-length : tie.Need-same-length
+same-length c = search needs
+
+returns-2 : tie.Need-returns-2
+returns-2 c =
+    let put = c .before .put in
+    let values = c .before .before .before .before in
+    let told = values .before in
+    let at = told .before .before .before in
+    let a = at .before .before .args in
+    let e = told .before .reading2 .given .1 in
+    let v = accepted-values (a .line .now) e (at .read .ensures .0) in
+    read-is (a .line .now) (a .lent .now) (accepted-case (a .line .now) e (at .read .ensures .0)) (v .0) (v .1)
+    (values .values .ensures) (put .ensures .0) (put .ensures .1)
+
+pub trackline-read-spec : {M : Type 1} → statement M
+trackline-read-spec =
+    tie.close
+    (tie.spec
+    read-requires
+    enum-known-reading
+    enum-known-reading-2
+    values-requires
+    slice-aggregate-put
+    put-requires
+    returns
+    same-length
+    returns-2)

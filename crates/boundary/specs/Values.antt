@@ -1,0 +1,54 @@
+-- The rows of numbers that a C caller lends, and what stands in them afterwards (include/trackline.h).
+-- Assumes nothing.
+use Prim.Native.Nat.{ℕ}
+use mathlib.Core.Bool.{cond}
+use mathlib.Core.List.{List, [], _∷_, _++_}
+use lib.Dec.{ltb, eqb}
+use lib.IntN.{ℤ, pos}
+use lib.ListN.{length, drop}
+use Rattle.limits.specs.Refusal.{_when_, _then_}
+use Rattle.labels.specs.declared.Labels.{Labels}
+use Rattle.limits.specs.declared.Numbers.{Numbers}
+use Rattle.columns.specs.Columns.{readLabels, readNumbers}
+use Rattle.reader.specs.Read.{readNumber}
+
+-- A lent row afterwards: the values in its first places where the answer is 0, and else as it was lent.
+unfoldable pub rowAfter : (answer : ℕ) (values lent : List ℤ) → List ℤ
+rowAfter answer values lent = cond (eqb answer 0) (values ++ drop (length values) lent) lent
+
+-- The 23 values of a line: its labels, in the order of the hire block, and its ten numbers.
+abbrev pub valuesOf : Labels → Numbers → List ℤ
+valuesOf l n =
+    pos (l .constellation)
+    ∷ pos (l .satellite)
+    ∷ pos (l .cl)
+    ∷ pos (l .fr)
+    ∷ pos (l .hc)
+    ∷ pos (l .frc1)
+    ∷ pos (l .frc2)
+    ∷ pos (l .frc3)
+    ∷ pos (l .mjd)
+    ∷ pos (l .start)
+    ∷ pos (l .elv)
+    ∷ pos (l .azth)
+    ∷ pos (l .ioe)
+    ∷ n .refsv
+    ∷ n .srsv
+    ∷ n .refsys
+    ∷ n .srsys
+    ∷ n .mdtr
+    ∷ n .smdt
+    ∷ n .mdio
+    ∷ n .smdi
+    ∷ n .dsg
+    ∷ n .trkl
+    ∷ []
+
+-- The reader's refusals, then 9 where fewer than 23 places are lent. `room` is their number.
+unfoldable pub readAnswer : (line : List ℕ) (room : ℕ) → ℕ
+readAnswer line room = readNumber line then 9 when ltb room 23
+
+-- The lent places afterwards.
+unfoldable pub readAfter : (line : List ℕ) (lent : List ℤ) → List ℤ
+readAfter line lent =
+    rowAfter (readAnswer line (length lent)) (valuesOf (readLabels line) (readNumbers line)) lent
