@@ -3,10 +3,16 @@
 -- Assumes nothing.
 use Prim.Native.Nat.{ℕ, zero, suc, _+_, _-_, _/_, _%_}
 use Prim.Native.Char.{code}
+use Prim.Native.String.{String, [] as []ˢ, _∷_ as _∷ˢ_}
 use mathlib.Core.Bool.{cond}
 use mathlib.Core.List.{List, [], _∷_, _++_}
 use lib.Dec.{ltb}
 use lib.IntN.{ℤ, pos, negsuc, natAbs}
+
+-- The bytes of a text of plain characters.
+unfoldable pub bytesOf : String → List ℕ
+bytesOf []ˢ = []
+bytesOf (c ∷ˢ s) = code c ∷ bytesOf s
 
 -- The last `columns` decimal digits of n.
 unfoldable pub decimal : (columns n : ℕ) → List ℕ

@@ -1,26 +1,18 @@
 -- The sample line of document 01 ("The hire block"): the definitions give it to the letter, and Line accepts its labels and numbers.
 -- Assumes nothing.
 use mathlib.Core.Path.{_≡_, refl}
-use mathlib.Core.List.{List, [], _∷_}
-use Prim.Native.Nat.{ℕ}
 use Prim.Native.Char.{code}
-use Prim.Native.String.{String, [] as []ˢ, _∷_ as _∷ˢ_}
 use lib.IntN.{pos}
 use Rattle.limits.specs.Refusal.{_when_, _then_}
 use Rattle.limits.specs.Limits.{outside, limitsRule, dsgRule}
 use Rattle.schedule.specs.Schedule.{broughtIn, startMinute, some, isStart, startRule}
-use Rattle.fields.specs.Text.{decimal, sign, signed, hexDigit, hexadecimal, byteSum, checksum}
+use Rattle.fields.specs.Text.{bytesOf, decimal, sign, signed, hexDigit, hexadecimal, byteSum, checksum}
 use Rattle.labels.specs.declared.Labels.{Labels}
 use Rattle.limits.specs.declared.Numbers.{Numbers}
 use Rattle.labels.specs.Labels.{constellationFits, codeFits, labelsFit}
 use Rattle.labels.specs.Content.{contentRule}
 use Rattle.line.specs.Line.{lineAnswer}
 use Rattle.columns.specs.Text.{clock, trackColumns, clockColumns, delayColumns, columns, spaced, lineText}
-
--- the bytes of a text of plain characters
-unfoldable pub bytesOf : String → List ℕ
-bytesOf []ˢ = []
-bytesOf (c ∷ˢ s) = code c ∷ bytesOf s
 
 abbrev pub labels : Labels
 labels =

@@ -12,7 +12,7 @@ use lib.Seq.{take-add, drop-drop, drop-length}
 use borrow.Author.Tests.{ltb-false, le-ltb, eqb-true}
 use Rattle.limits.specs.Refusal.{_when_, _then_}
 use Rattle.limits.proofs.Laws.{or-false}
-use Rattle.fields.specs.Text.{hexDigit, hexadecimal, checksum}
+use Rattle.fields.specs.Text.{bytesOf, hexDigit, hexadecimal, checksum}
 use Rattle.fields.specs.Read.{readDecimal, readSigned}
 use Rattle.labels.specs.declared.Labels.{Labels}
 use Rattle.limits.specs.declared.Numbers.{Numbers}
@@ -21,7 +21,7 @@ use Rattle.columns.specs.Text.{lineLength, clock, trackColumns, clockColumns, d
 use Rattle.columns.specs.Columns.{byteIn, field, readLabels, readNumbers}
 use Rattle.line.specs.Line.{lineAnswer, lineAfter}
 use Rattle.line.proofs.Accepted.{after-is}
-use Rattle.reader.specs.Kinds.{bytesOf, kinds, allowed, printable, checked}
+use Rattle.reader.specs.Kinds.{kinds, allowed, printable, checked}
 use Rattle.reader.specs.Read.{isMinusZero, minusZero, clockBeyond, readNumber, commentOffset}
 use Rattle.reader.specs.Fields.{digits, hexDigits}
 use Rattle.reader.proofs.Allowed.{both}

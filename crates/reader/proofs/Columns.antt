@@ -11,7 +11,8 @@ use lib.ListN.{length, take, drop, getD, length-replicate, length-drop}
 use lib.Seq.{length-take-le, drop-cons, getD-drop}
 use Rattle.fields.specs.Read.{readDecimal}
 use Rattle.columns.specs.Columns.{field}
-use Rattle.reader.specs.Kinds.{bytesOf, allows, kinds, allowed}
+use Rattle.fields.specs.Text.{bytesOf}
+use Rattle.reader.specs.Kinds.{allows, kinds, allowed}
 use Rattle.reader.specs.Fields.{digits, hexDigits, Holds, Digits, Signed}
 use Rattle.reader.proofs.Allowed.{allowed-length, allowed-at, allowed-drop, allowed-take, allowed-cut}
 use Rattle.reader.proofs.Decimals.{read-bound}

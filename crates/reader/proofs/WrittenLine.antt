@@ -14,7 +14,7 @@ use borrow.Author.Tests.{le-ltb, eq-eqb}
 use Rattle.limits.proofs.Laws as limits
 use Rattle.schedule.specs.Schedule.{startRule}
 use Rattle.schedule.proofs.Minutes as schedule
-use Rattle.fields.specs.Text.{decimal, sign, signed, hexDigit, hexadecimal, checksum}
+use Rattle.fields.specs.Text.{bytesOf, decimal, sign, signed, hexDigit, hexadecimal, checksum}
 use Rattle.fields.specs.Read.{readDecimal, readSigned}
 use Rattle.fields.proofs.Laws.{length-decimal, read-decimal}
 use Rattle.labels.specs.declared.Labels.{Labels}
@@ -190,7 +190,7 @@ written-reads-back l n lent e cl most p =
     few k h = omega arith
 
 -- The sample line of document 01 reads to its labels and numbers.
-pub sample-reads : readRule (sample.bytesOf "G05 FF 50722 000200 0780 450 1800 +0000000010 +00000 +0000000010 +00000 0000 007 0000 +000 0000 +000 00 00 L1C 26")
+pub sample-reads : readRule (bytesOf "G05 FF 50722 000200 0780 450 1800 +0000000010 +00000 +0000000010 +00000 0000 007 0000 +000 0000 +000 00 00 L1C 26")
     ≡ record { number = 0; values = (sample.labels, sample.numbers) }
 unfolding lineAnswer printable
 sample-reads =

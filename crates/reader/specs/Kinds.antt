@@ -2,19 +2,13 @@
 -- Assumes nothing.
 use Prim.Native.Nat.{ℕ, _+_, _/_}
 use Prim.Native.Char.{code}
-use Prim.Native.String.{String, [] as []ˢ, _∷_ as _∷ˢ_}
 use mathlib.Core.Bool.{Bool, true, false, _&&_, _||_}
 use mathlib.Core.List.{List, [], _∷_}
 use lib.Dec.{leb, eqb}
 use lib.ListN.{take}
-use Rattle.fields.specs.Text.{hexDigit, checksum}
+use Rattle.fields.specs.Text.{bytesOf, hexDigit, checksum}
 use Rattle.labels.specs.Labels.{codeFits}
 use Rattle.columns.specs.Columns.{byteIn}
-
--- The bytes of a text of plain characters.
-unfoldable pub bytesOf : String → List ℕ
-bytesOf []ˢ = []
-bytesOf (c ∷ˢ s) = code c ∷ bytesOf s
 
 -- A byte from low to high, both among them.
 abbrev pub within : (low high byte : ℕ) → Bool

@@ -25,7 +25,8 @@ use Rattle.columns.specs.Text.{lineLength, lineText}
 use Rattle.line.specs.Line.{lineAnswer}
 use Rattle.hire.specs.Hire.{blockLabels, blockGiven}
 use Rattle.line.specs.Block.{blockNumbers, blockAnswer}
-use Rattle.line.proofs.Sample.{bytesOf, labels, numbers, sample, sample-accepted}
+use Rattle.fields.specs.Text.{bytesOf}
+use Rattle.line.proofs.Sample.{labels, numbers, sample, sample-accepted}
 use Rattle.labels.specs.declared.Labels.{Labels}
 use Rattle.limits.specs.declared.Numbers.{Numbers}
 use Rattle.line.proofs.Blocks.{missized, line-answers}

@@ -11,7 +11,8 @@ use mathlib.Core.Bool.{Bool, not}
 use Prim.Native.Nat.{ℕ, _-_, _≤_}
 use native.Mathlib.Omega.{arith}
 use Rattle.limits.specs.Refusal.{_when_, _then_}
-use Rattle.reader.specs.Kinds.{bytesOf, kinds, allowed, printable, checked}
+use Rattle.fields.specs.Text.{bytesOf}
+use Rattle.reader.specs.Kinds.{kinds, allowed, printable, checked}
 use Rattle.reader.specs.Read.{charactersNumber}
 use borrow.Author.Needs.{needs}
 use Rattle.reader.proofs.characters.refusal.Statement.{statement}
