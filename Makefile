@@ -86,7 +86,7 @@ beside: archive programs cggtts
 	$(CC) $(CFLAGS) $(STRICT) -Iinclude examples/receiver.c $(ARCHIVE) -o target/receiver
 	target/receiver | cmp - crates/trackline/stdout
 	$(CC) $(CFLAGS) $(STRICT) -Iinclude tests/c/stack.c $(ARCHIVE) -pthread -o target/stack
-	target/stack
+	python3 tests/c/stack.py target/stack
 	python3 tests/layout.py
 	python3 tests/trackline/test_trackline.py
 	python3 tests/cggtts/test_cggtts.py
