@@ -58,7 +58,10 @@ int64_t ps_at(const uint8_t *block, size_t at);
 int64_t measurement_at(const uint8_t *block, size_t i);
 int64_t correction_at(const uint8_t *block, size_t j, size_t in_group);
 
-/* check.c: the hint for a text that was not packed, if it is one. labels.c, limits.c, figures.c, starts.c: each explains what a block is refused for. */
+/*
+ * check.c: the hint for a text that was not packed, if it is one. labels.c, limits.c, figures.c, starts.c: each explains
+ * what a block is refused for.
+ */
 void explain_text(const struct bytes *block);
 void explain_labels(const uint8_t *block);
 void explain_limits(const uint8_t *block);

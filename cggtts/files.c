@@ -97,7 +97,8 @@ int read_file(const char *name, struct bytes *bytes)
 /* Whether it may be a text for hireblock: a value is set, and there is no byte of 0. */
 int looks_like_text(const struct bytes *bytes)
 {
-    return bytes->length > 0 && memchr(bytes->at, 0, bytes->length) == NULL && memchr(bytes->at, '=', bytes->length) != NULL;
+    return bytes->length > 0 && memchr(bytes->at, 0, bytes->length) == NULL
+        && memchr(bytes->at, '=', bytes->length) != NULL;
 }
 
 /* Whether two names are of one file that stands. */

@@ -70,5 +70,6 @@ int line_command(int argc, char **argv)
             return wrong_use("line: a block would be overwritten");
         }
     }
-    return given.output == NULL ? print_lines(given.count, given.names) : write_lines(given.output, given.count, given.names);
+    return given.output == NULL ? print_lines(given.count, given.names)
+                                : write_lines(given.output, given.count, given.names);
 }

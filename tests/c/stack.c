@@ -1,7 +1,7 @@
 /*
  * How much stack each function takes, measured. A thread on a stack of our own fills what lies below its frame with one
- * byte, calls, and looks for the lowest byte that has changed. The manual page trackline(3) promises the figures in MOST; the
- * test fails if a call takes more. tests/c/stack.py compares what is printed with the figures that the documents give.
+ * byte, calls, and looks for the lowest byte that has changed. The manual page trackline(3) promises the figures in MOST;
+ * the test fails if a call takes more. tests/c/stack.py compares what is printed with the figures that documents give.
  *
  *     cc -std=c11 -Iinclude tests/c/stack.c libtrackline.a -pthread -o stack && ./stack
  */

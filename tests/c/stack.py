@@ -1,10 +1,10 @@
 #!/usr/bin/env python3
-"""Runs tests/c/stack.c, built as target/stack, and compares what it measures with the figures in trackline(3) and docs/TRUST.md.
+"""Runs tests/c/stack.c and compares what it measures with the figures in trackline(3) and docs/TRUST.md.
 
     python3 tests/c/stack.py target/stack
 
-A figure may be rounded or another compiler's: it may lie a tenth off what is measured here, and no more. What is promised is
-tested by the program itself.
+A figure may be rounded or another compiler's: it may lie a tenth off what is measured here, and no more. What is
+promised is tested by the program itself.
 """
 import pathlib
 import re
@@ -29,16 +29,20 @@ def main(program):
     printed = subprocess.run([program], stdout=subprocess.PIPE, text=True, cwd=ROOT)
     print(printed.stdout, end='')
     found = {name[10:]: (int(figure), int(most)) for name, _, figure, most in re.findall(MEASURED, printed.stdout)}
-    faults = [] if len(found) == 3 and printed.returncode == 0 else ['the stack was not measured, or is above what is promised']
-    for path, pattern, names, unit in DOCUMENTS if not faults else ():
+    if len(found) != 3 or printed.returncode:
+        print('stack: FAILED: the stack was not measured, or is above what is promised', file=sys.stderr)
+        return 1
+    faults = []
+    for path, pattern, names, unit in DOCUMENTS:
         text = ' '.join((ROOT / path).read_text().split())
         said = re.search(pattern, text)
         for name, figure in zip(names, said.groups() if said else [''] * len(names)):
             measured = found[name][0]
             if not figure or abs(number(figure) * unit - measured) > measured / 10:
-                faults.append('%s: trackline_%s takes %d bytes, and it says %s' % (path, name, measured, figure or 'nothing'))
+                faults.append('%s: trackline_%s takes %d bytes, and it says %s' % (
+                    path, name, measured, figure or 'nothing'))
     promised = re.search(PROMISED, ' '.join((ROOT / 'man/trackline.3').read_text().split()))
-    if not faults and (not promised or [number(word) for word in promised.groups()] != [found['block'][1], found['line'][1]]):
+    if not promised or [number(word) for word in promised.groups()] != [found['block'][1], found['line'][1]]:
         faults.append('man/trackline.3 does not promise what tests/c/stack.c tests')
     for fault in faults:
         print('stack: FAILED: %s' % fault, file=sys.stderr)

@@ -175,7 +175,8 @@ class Messages(unittest.TestCase):
 
     def test_a_minus_that_is_none(self):
         for dash in '\u2212\u2013':
-            message = "'%s5' begins with the character U+%04X, which only looks like a minus: write '-5'" % (dash, ord(dash))
+            message = "'%s5' begins with the character U+%04X, which only looks like a minus: write '-5'" % (
+                dash, ord(dash))
             self.refused('INT = %s5' % dash, message, 1, 7)
             self.refused('clock = 0 x 51 %s5' % dash, message, 1, 16)
 
@@ -188,8 +189,9 @@ class Messages(unittest.TestCase):
         self.refused('HC = FF', "'FF' is no whole number", 1, 6)
         self.refused('clock = 0x3E8 0 x 51', "'0x3E8' is hexadecimal, %s 1000" % decimal, 1, 9)
         self.refused('clock = 0x52', "'0x52' may be hexadecimal, %s '0 x 52' to repeat 0" % decimal, 1, 9)
-        self.refused('clock = 7112x 714 0 x 50', "'7112x' is no whole number: to repeat 7112 write '7112 x' and a count", 1, 9)
-        self.refused('clock = 0x 52 0 x 50', "'0x' is no whole number: to repeat 0 write '0 x' and a count", 1, 9)
+        joined = "'%sx' is no whole number: to repeat %s write '%s x' and a count"
+        self.refused('clock = 7112x 714 0 x 50', joined % ('7112', '7112', '7112'), 1, 9)
+        self.refused('clock = 0x 52 0 x 50', joined % ('0', '0', '0'), 1, 9)
         self.refused('clock = (-0x26) x 2', "'-0x26' may be hexadecimal, %s '-0 x 26' to repeat -0" % decimal, 1, 10)
 
     def test_start(self):
@@ -201,8 +203,8 @@ class Messages(unittest.TestCase):
         for time in '24:00:00', '00:60:00', '00:00:60':
             self.refused('start = ' + time, '%s is no time of the day' % time, 1, 9)
         for word in '0:02:00', '13:30', '1:30:00', '13:30:00Z', '13:30:', ':':
-            self.refused('start = ' + word, "'%s' is no time: write hh:mm:ss, two digits each, or the second of the day" % word,
-                         1, 9)
+            self.refused('start = ' + word,
+                         "'%s' is no time: write hh:mm:ss, two digits each, or the second of the day" % word, 1, 9)
         self.assertEqual(faults('start = 0'), [])
         self.assertEqual(faults('start = 133000'), [])
 
@@ -249,7 +251,8 @@ class Messages(unittest.TestCase):
         self.refused('clock =\n' + '1 x 13\n' * 5, 'clock needs 52 numbers and has 65, in 5 rows of 13', 2, 1)
 
     def test_a_row_that_another_makes_up_for(self):
-        message = 'this row has %d numbers, the others %d, and another row makes up for it: what stands between is shifted'
+        message = ('this row has %d numbers, the others %d, and another row makes up for it: '
+                   'what stands between is shifted')
 
         def wrapped(name, *counts):
             numbers = iter(range(1000))
@@ -257,9 +260,11 @@ class Messages(unittest.TestCase):
 
         counts = [15] * 52
         counts[17], counts[30] = 14, 16
-        self.assertEqual(faults(wrapped('measurements', *counts)), [(19, 1, message % (14, 15)), (32, 1, message % (16, 15))])
+        self.assertEqual(faults(wrapped('measurements', *counts)),
+                         [(19, 1, message % (14, 15)), (32, 1, message % (16, 15))])
         counts[17:19], counts[30] = [16, 15], 14
-        self.assertEqual(faults(wrapped('measurements', *counts)), [(19, 1, message % (16, 15)), (32, 1, message % (14, 15))])
+        self.assertEqual(faults(wrapped('measurements', *counts)),
+                         [(19, 1, message % (16, 15)), (32, 1, message % (14, 15))])
         for k in range(4):
             counts = [13] * 4
             counts[k], counts[(k + 2) % 4] = 12, 14
@@ -270,10 +275,9 @@ class Messages(unittest.TestCase):
         # a number moved over the line's end; rows that are no table; several rows in one; a count that is written
         counts = [15] * 52
         counts[17:19], counts[40:43] = [14, 16], [17, 14, 14]
-        for name, text in (('measurements', wrapped('measurements', *counts)), ('clock', wrapped('clock', 10, 12, 14, 16)),
-                           ('clock', wrapped('clock', 13, 26, 13)), ('clock', wrapped('clock', 20, 32)),
-                           ('clock', 'clock = 0 x 41\n1 2 3\n4 5 6\n7 8 9\n1 2')):
-            self.assertEqual(faults(text), [], name)
+        for text in (wrapped('measurements', *counts), wrapped('clock', 10, 12, 14, 16), wrapped('clock', 13, 26, 13),
+                     wrapped('clock', 20, 32), 'clock = 0 x 41\n1 2 3\n4 5 6\n7 8 9\n1 2'):
+            self.assertEqual(faults(text), [], text)
 
     def test_all_faults_are_named_in_order(self):
         text = 'HC = 256\nclock = 1 two 3 x 0\nFRC = L1\nclock = five\nMJD 1.5\nrelativity = 0x52'

@@ -161,7 +161,8 @@ class Streams(unittest.TestCase):
     def test_standard_output_that_can_not_be_written(self):
         with open('/dev/full', 'wb') as full:
             result = subprocess.run([sys.executable, str(TOOL)], stdout=full, stderr=subprocess.PIPE)
-        self.assertEqual((result.returncode, result.stderr), (2, b'lastdigit: standard output: No space left on device\n'))
+        self.assertEqual((result.returncode, result.stderr),
+                         (2, b'lastdigit: standard output: No space left on device\n'))
         reader, writer = os.pipe()
         os.close(reader)
         with open(writer, 'wb') as pipe:
