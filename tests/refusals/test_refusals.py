@@ -107,7 +107,7 @@ class Card(unittest.TestCase):
         self.all_are(4, [tried(geometry=[0] * 52), negative('geometry'), tried(geometry=other)])
         for microseconds, first, last in (6, 250, 530), (10, 150, 650), (100, 15, 765):
             self.all_are(4, [jumped(sign * microseconds * 10 ** 6, second) for sign in (1, -1)
-                             for second in (first, 300, 390, 480, last)])
+                             for second in (*range(first, last, 60), last)])
 
     def test_5(self):
         for name in 'troposphere', 'ionosphere':
@@ -116,8 +116,8 @@ class Card(unittest.TestCase):
     def test_6(self):
         late = WORKED['geometry'][1:] + WORKED['geometry'][-1:]
         self.all_are(6, [tried(geometry=late), late_by(15)])
-        self.all_are(6, [jumped(5 * 10 ** 6, second) for second in (60, 200, 390, 580, 700)])
-        self.all_are(6, [jumped(4 * 10 ** 6, second) for second in (100, 250, 530, 700)])
+        self.all_are(6, [jumped(5 * 10 ** 6, second) for second in (*range(60, 700, 40), 700)])
+        self.assertEqual({jumped(4 * 10 ** 6, second) for second in range(1, 780, 60)}, {0, 6})
         self.all_are(6, [jumped(sign * 10 ** 7, second) for sign in (1, -1) for second in (15, 60, 100, 700, 765)])
 
     def test_a_marker_in_each_second(self):
