@@ -2,6 +2,7 @@
 
 use crate::case::*;
 use crate::compare::Lent;
+use reference::good::{good_labels, good_numbers};
 use reference::seeded::Seeded;
 use reference::{Labels, Numbers, BLOCK_BYTES};
 
