@@ -47,9 +47,9 @@ fn one_faulty(compare: &mut Compare, seeded: &mut Seeded, faults: &[Fault]) {
 /// The lines printed in the format documents.
 fn printed(compare: &mut Compare) {
     for case in published() {
-        for (labels, numbers) in [&case.printed, &case.put_in] {
+        for form in [&case.printed, &case.put_in] {
             for lent in [Lent::Null, Lent::Bytes(0), Lent::Bytes(112), Lent::Bytes(113), Lent::Bytes(114)] {
-                compare.line(case.name, labels, numbers, lent);
+                compare.line(case.name, &form.labels, &form.numbers, lent);
             }
         }
     }
