@@ -436,6 +436,31 @@ static void written(uint8_t *line, struct bytes *b)
     reference_line(&g, line, COLUMNS);
 }
 
+/* A start of the line's day by the clock, or by one that shows a minute from 60, a second of 60 or an hour from 24. */
+static void set_clock(uint8_t *line, struct bytes *b)
+{
+    char clock[32];
+    uint32_t mjd = 0;
+    for (size_t i = 7; i < 12; i++) {
+        mjd = 10 * mjd + (line[i] & 15);
+    }
+    unsigned minute = a_start(mjd, below(b, 90)) / 60, hour = minute / 60, second = 0;
+    size_t kind = take(b, 1);
+    minute %= 60;
+    if ((kind & 1) && hour > 0 && minute < 40) {
+        hour--;
+        minute += 60;
+    }
+    if ((kind & 2) && minute > 0) {
+        minute--;
+        second = 60;
+    }
+    hour += kind & 4 ? 24 : 0;
+    snprintf(clock, sizeof clock, "%02u%02u%02u", hour, minute, second);
+    memcpy(line + 13, clock, 6);
+    repair(line);
+}
+
 /* One change to a line; gives its length. */
 static size_t edit_line(uint8_t *line, size_t length, struct bytes *b)
 {
@@ -449,6 +474,7 @@ static size_t edit_line(uint8_t *line, size_t length, struct bytes *b)
     case 3: line[COLUMNS - 2 + at % 2] |= 0x20; break;
     case 4: length = COLUMNS + at % 32; break;
     case 5: length = at; break;
+    case 6: set_clock(line, b); break;
     default: repair(line);
     }
     return length;
@@ -482,6 +508,7 @@ int LLVMFuzzerInitialize(int *argc, char ***argv)
     given_memory = guard(LONGEST_BLOCK, PROT_READ);
     line_memory = guard(LONGEST_LINE, PROT_READ | PROT_WRITE);
     values_memory = guard(MOST_VALUES * sizeof(int64_t), PROT_READ | PROT_WRITE);
+    setvbuf(stdout, NULL, _IOLBF, 0); /* abort does not write what is still held back */
     atexit(report);
     return 0;
 }
