@@ -4,7 +4,7 @@
 # make beside        the tests without the proofs from nothing
 # make proofs        the proofs from nothing (rt ci)
 # make bench         the technician's cases and the published lines: what each gave and what it should be
-# make speed         the proved library beside the plain Rust implementation, on the same blocks
+# make speed         the proved library beside the plain Rust implementation, on the same blocks and lines
 # make instructions  the instructions of both, part by part, with valgrind
 # make fuzz          a bounded fuzz run over the C boundary, with clang: make fuzz SECONDS=120
 # make program       trackline, proved: target/bin/trackline
@@ -37,8 +37,11 @@ INSTALLED := $(DESTDIR)$(abspath $(PREFIX))
 # What the archive is made of: every crate but the programs.
 SOURCES := crates.txt $(shell find crates -name must-fail -prune -o -path crates/trackline -prune -o -path crates/bench -prune -o -type f -print)
 
+PROGRAM := target/bin/trackline
+PROGRAM_SOURCES := $(shell find crates -name must-fail -prune -o -path 'crates/trackline/*' -type f -print)
+
 # What install puts below the prefix, and uninstall removes.
-PROGRAMS := target/bin/trackline $(CGGTTS) tools/hireblock
+PROGRAMS := $(PROGRAM) $(CGGTTS) tools/hireblock
 PAGES := $(wildcard man/*.[1-8])
 DOCUMENTS := docs/REFUSALS.md docs/HIRE-BLOCK.md
 EXAMPLES := examples/receiver.c examples/sample.txt examples/sample.blk
@@ -50,6 +53,7 @@ INSTALLS := $(addprefix bin/,$(notdir $(PROGRAMS))) include/trackline.h lib/libt
 .PHONY: help run test beside proofs bench speed instructions fuzz program programs cggtts archive shared install uninstall clean
 # rt ci clears target/, where everything else is built.
 .NOTPARALLEL:
+.PHONY: one-prefix
 
 help:
 	@sed -n 's/^# make /make /p' Makefile
@@ -60,10 +64,14 @@ run:
 	@$(MAKE) --no-print-directory program >&2
 	@target/bin/trackline < "$(BLOCK)"
 
-program:
+program: $(PROGRAM)
+
+# rt leaves a program that is up to date as it was, so its time is set here.
+$(PROGRAM): $(SOURCES) $(PROGRAM_SOURCES)
 	@mkdir -p target
 	@echo "proving and building trackline; from nothing this takes a minute or two (target/trackline.log)"
 	@rt check trackline > target/trackline.log 2>&1 || { cat target/trackline.log >&2; exit 1; }
+	@touch $@
 
 # What the proofs do not cover comes first, so that the proofs' own line is the last.
 test: beside proofs
@@ -86,7 +94,7 @@ beside: archive programs cggtts
 	$(CC) $(CFLAGS) $(STRICT) -Iinclude examples/receiver.c $(ARCHIVE) -o target/receiver
 	target/receiver | cmp - crates/trackline/stdout
 	$(CC) $(CFLAGS) $(STRICT) -Iinclude tests/c/stack.c $(ARCHIVE) -pthread -o target/stack
-	target/stack
+	python3 tests/c/stack.py target/stack
 	python3 tests/layout.py
 	python3 tests/trackline/test_trackline.py
 	python3 tests/cggtts/test_cggtts.py
@@ -132,7 +140,12 @@ $(CGGTTS): $(CGGTTS_SOURCES) cggtts/cggtts.h include/trackline.h Makefile $(ARCH
 	@mkdir -p $(@D)
 	$(CC) $(CFLAGS) $(STRICT) -DVERSION='"$(VERSION)"' -Iinclude $(CGGTTS_SOURCES) $(ARCHIVE) -lm -o $@
 
-install: program $(ARCHIVE) $(SHARED) $(CGGTTS)
+# make's own lists of files are parted by blanks, so a prefix can't have one.
+one-prefix:
+	@test $(words $(PREFIX)) = 1 || { echo "make: PREFIX is '$(PREFIX)', and has to be one folder without blanks" >&2; exit 1; }
+
+# What is built already is installed without rt.
+install: one-prefix $(PROGRAM) $(ARCHIVE) $(SHARED) $(CGGTTS)
 	mkdir -p "$(INSTALLED)" && cd "$(INSTALLED)" && install -d $(sort $(dir $(INSTALLS)))
 	install $(PROGRAMS) "$(INSTALLED)/bin"
 	install -m 644 include/trackline.h "$(INSTALLED)/include"
@@ -145,7 +158,7 @@ install: program $(ARCHIVE) $(SHARED) $(CGGTTS)
 	install -m 644 $(DOCUMENTS) "$(INSTALLED)/share/doc/trackline"
 	install -m 644 $(EXAMPLES) "$(INSTALLED)/share/trackline/examples"
 
-uninstall:
+uninstall: one-prefix
 	test ! -d "$(INSTALLED)" || { cd "$(INSTALLED)" && rm -f $(INSTALLS); }
 
 clean:

@@ -28,6 +28,7 @@ struct bytes {
 int read_file(const char *name, struct bytes *bytes);
 int write_file(const char *name, const struct bytes *bytes);
 int append_bytes(struct bytes *bytes, const void *more, size_t length);
+int looks_like_text(const struct bytes *bytes);
 int same_file(const char *one, const char *other);
 void free_bytes(struct bytes *bytes);
 
@@ -43,13 +44,25 @@ void report_refusal(const char *file, uint32_t number);
 void explain(const char *form, ...);
 int wrong_use(const char *form, ...);
 
+/* arguments.c: what stands behind a subcommand. Answers ACCEPTED, or FAILED after a message. */
+struct arguments {
+    const char *output; /* what -o names, or NULL */
+    int count;
+    char **names;
+};
+int read_arguments(int argc, char **argv, int with_output, struct arguments *found);
+
 /* block.c: the numbers in a hire block. */
 uint64_t unsigned_at(const uint8_t *block, size_t at, size_t width);
 int64_t ps_at(const uint8_t *block, size_t at);
 int64_t measurement_at(const uint8_t *block, size_t i);
 int64_t correction_at(const uint8_t *block, size_t j, size_t in_group);
 
-/* labels.c, limits.c, figures.c, starts.c: each explains what a block is refused for. */
+/*
+ * check.c: the hint for a text that was not packed, if it is one. labels.c, limits.c, figures.c, starts.c: each explains
+ * what a block is refused for.
+ */
+void explain_text(const struct bytes *block);
 void explain_labels(const uint8_t *block);
 void explain_limits(const uint8_t *block);
 void explain_figures(const uint8_t *block, uint32_t number);

@@ -2,7 +2,6 @@
 #include "cggtts.h"
 
 #include <inttypes.h>
-#include <unistd.h>
 
 static void explain_sizes(const uint8_t *block)
 {
@@ -11,12 +10,20 @@ static void explain_sizes(const uint8_t *block)
             unsigned_at(block, TRACKLINE_AT_GROUPS_SIZE, TRACKLINE_WIDTH_GROUPS_SIZE));
 }
 
+void explain_text(const struct bytes *block)
+{
+    if (block->length != TRACKLINE_BLOCK_BYTES && looks_like_text(block)) {
+        explain("this may be a text, which 'hireblock pack' packs");
+    }
+}
+
 /* What a refused block is refused for. Only a block of the right length is looked into. */
 static void explain_refusal(const struct bytes *block, uint32_t number)
 {
     switch (number) {
     case TRACKLINE_LENGTH:
         explain("it has %zu bytes", block->length);
+        explain_text(block);
         break;
     case TRACKLINE_COUNT:
         explain_sizes(block->at);
@@ -64,16 +71,13 @@ static int check(const char *name)
 
 int check_command(int argc, char **argv)
 {
+    struct arguments given;
     int status = ACCEPTED;
-    opterr = 0;
-    if (getopt(argc, argv, "") != -1) {
-        return wrong_use("check: an option that it does not have");
+    if (read_arguments(argc, argv, 0, &given) != ACCEPTED) {
+        return FAILED;
     }
-    if (argc == optind) {
-        return wrong_use("check: no file");
-    }
-    for (int i = optind; i < argc; i++) {
-        int one = check(argv[i]);
+    for (int i = 0; i < given.count; i++) {
+        int one = check(given.names[i]);
         status = one > status ? one : status;
     }
     return status;

@@ -3,6 +3,7 @@
 
 #include <errno.h>
 #include <fcntl.h>
+#include <signal.h>
 #include <stdio.h>
 #include <stdlib.h>
 #include <string.h>
@@ -93,6 +94,13 @@ int read_file(const char *name, struct bytes *bytes)
     return ACCEPTED;
 }
 
+/* Whether it may be a text for hireblock: a value is set, and there is no byte of 0. */
+int looks_like_text(const struct bytes *bytes)
+{
+    return bytes->length > 0 && memchr(bytes->at, 0, bytes->length) == NULL
+        && memchr(bytes->at, '=', bytes->length) != NULL;
+}
+
 /* Whether two names are of one file that stands. */
 int same_file(const char *one, const char *other)
 {
@@ -137,6 +145,22 @@ static int replace(const char *name, const char *beside, const struct stat *old,
     return 0;
 }
 
+/* The same, with the signals that end the program kept back until the file beside has gone. */
+static int replace_undisturbed(const char *name, const char *beside, const struct stat *old, const struct bytes *bytes)
+{
+    sigset_t ending, before;
+    sigemptyset(&ending);
+    sigaddset(&ending, SIGHUP);
+    sigaddset(&ending, SIGINT);
+    sigaddset(&ending, SIGTERM);
+    sigprocmask(SIG_BLOCK, &ending, &before);
+    int answer = replace(name, beside, old, bytes);
+    int error = errno;
+    sigprocmask(SIG_SETMASK, &before, NULL);
+    errno = error;
+    return answer;
+}
+
 /* A device, a pipe or a link can't be put in place, so it is written to. */
 static int write_whole(const char *name, const struct bytes *bytes)
 {
@@ -152,7 +176,7 @@ static int write_whole(const char *name, const struct bytes *bytes)
         return -1;
     }
     snprintf(beside, room, "%s.%ld.part", name, (long)getpid());
-    int answer = replace(name, beside, stands ? &old : NULL, bytes);
+    int answer = replace_undisturbed(name, beside, stands ? &old : NULL, bytes);
     int error = errno;
     free(beside);
     errno = error;

@@ -2,7 +2,6 @@
 #include "cggtts.h"
 
 #include <string.h>
-#include <unistd.h>
 
 enum { LINE_END = 2, LINE_ROOM = TRACKLINE_LINE_BYTES + LINE_END };
 
@@ -16,9 +15,12 @@ static int put_line(const char *name, struct bytes *lines)
         return status;
     }
     uint32_t answer = trackline_block(block.at, block.length, line, TRACKLINE_LINE_BYTES);
-    free_bytes(&block);
     if (answer != TRACKLINE_ACCEPTED) {
         report_refusal(name, answer);
+        explain_text(&block);
+    }
+    free_bytes(&block);
+    if (answer != TRACKLINE_ACCEPTED) {
         return REFUSED;
     }
     memcpy(line + TRACKLINE_LINE_BYTES, "\r\n", LINE_END);
@@ -59,24 +61,15 @@ static int write_lines(const char *output, int count, char **names)
 
 int line_command(int argc, char **argv)
 {
-    const char *output = NULL;
-    int option;
-    opterr = 0;
-    while ((option = getopt(argc, argv, "o:")) != -1) {
-        if (option != 'o') {
-            return wrong_use(optopt == 'o' ? "line: -o without a file" : "line: an option that it does not have");
-        }
-        output = optarg;
+    struct arguments given;
+    if (read_arguments(argc, argv, 1, &given) != ACCEPTED) {
+        return FAILED;
     }
-    int count = argc - optind;
-    char **names = argv + optind;
-    if (count == 0) {
-        return wrong_use("line: no file");
-    }
-    for (int i = 0; output != NULL && i < count; i++) {
-        if (same_file(output, names[i])) {
+    for (int i = 0; given.output != NULL && i < given.count; i++) {
+        if (same_file(given.output, given.names[i])) {
             return wrong_use("line: a block would be overwritten");
         }
     }
-    return output == NULL ? print_lines(count, names) : write_lines(output, count, names);
+    return given.output == NULL ? print_lines(given.count, given.names)
+                                : write_lines(given.output, given.count, given.names);
 }

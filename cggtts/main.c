@@ -17,7 +17,7 @@ static const struct command {
     const char *purpose;
     int (*run)(int argc, char **argv);
 } COMMANDS[] = {
-    {"line", "[-o OUT] FILE..", "print the data line of each hire block, or write them to OUT", line_command},
+    {"line", "FILE.. [-o OUT]", "print the data line of each hire block, or write them to OUT", line_command},
     {"check", "FILE..", "say whether each hire block is accepted, and what is to blame if not", check_command},
 };
 
@@ -58,10 +58,14 @@ static int run(int argc, char **argv)
     if (argc < 2) {
         return wrong_use("a subcommand is missing");
     }
-    if (strcmp(argv[1], "--help") == 0) {
+    int help = strcmp(argv[1], "--help") == 0, version = strcmp(argv[1], "--version") == 0;
+    if ((help || version) && argc > 2) {
+        return wrong_use("%s: '%s' is one word too many", argv[1], argv[2]);
+    }
+    if (help) {
         return print_help(NULL);
     }
-    if (strcmp(argv[1], "--version") == 0) {
+    if (version) {
         print_text("cggtts " VERSION "\n");
         return ACCEPTED;
     }

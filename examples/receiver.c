@@ -3,7 +3,11 @@
  * the block over, and sends the line on. Copy what you need. With the library installed (pkg-config may have to be told
  * where, by PKG_CONFIG_PATH=PREFIX/lib/pkgconfig):
  *
- *     cc -std=c11 receiver.c $(pkg-config --cflags --libs trackline) -o receiver
+ *     cc -std=c11 receiver.c $(pkg-config --cflags --libs trackline) \
+ *         -Wl,-rpath,$(pkg-config --variable=libdir trackline) -o receiver
+ *
+ * The run path (-rpath) lets the program find the shared library below any PREFIX; where ldconfig knows its folder it can
+ * be left out.
  *
  * The track here is the sample: every measurement 1000 ps, no corrections.
  */

@@ -70,8 +70,9 @@ extern "C" {
 #define TRACKLINE_IN_GROUP_CLOCK 32
 
 /*
- * Refusals: X(number, name, text) for each, so that a program's messages come from here. docs/REFUSALS.md says what to do
- * about each. 10 does not arise, as the other limits leave no room for it.
+ * Refusals: X(number, name, text) for each, so that a program's messages come from here. share/doc/trackline/REFUSALS.md
+ * below the folder of the installation says what to do about each. 10 does not arise, as the other limits leave no room
+ * for it.
  */
 #define TRACKLINE_REFUSALS(X)                                                                         \
     X(1, TRACKLINE_COUNT, "the block's two sizes are not 780 and 52")                                 \

@@ -43,11 +43,29 @@ HOME=$scratch/home bash -eu "$scratch/commands" >"$scratch/log" 2>&1 || {
 # the command in the example's own head
 (
     cd "$prefix/share/trackline/examples"
-    sed -n 's/^ \*     cc /cc /p' receiver.c >"$scratch/commands"
+    sed -n 's/^ \*     //p' receiver.c >"$scratch/commands"
+    [ "$(wc -l <"$scratch/commands")" -eq 2 ]
     PKG_CONFIG_PATH=$prefix/lib/pkgconfig bash -eu "$scratch/commands"
-    LD_LIBRARY_PATH=$prefix/lib ./receiver | cmp - "$expected"
+    env -u LD_LIBRARY_PATH ./receiver | cmp - "$expected"
     rm receiver
 ) || fail "the command in the head of receiver.c"
+
+# the commands in the sample's own head, with the installed programs
+(
+    cd "$prefix/share/trackline/examples"
+    sed -n 's/^#     //p' sample.txt >"$scratch/commands"
+    PATH=$prefix/bin:$PATH bash -eu "$scratch/commands" | cmp - "$expected"
+    cmp track.blk sample.blk
+    rm track.blk
+) || fail "the commands in the head of sample.txt"
+
+# what the installed papers name is there: no link leads out of the folder, and no path is that of the sources
+for paper in "$prefix"/share/doc/trackline/*.md; do
+    ! grep -n '](\.\./' "$paper" || fail "$(basename "$paper") links to the sources"
+done
+! grep -n 'docs/' "$prefix/include/trackline.h" || fail 'the header names a path of the sources'
+[ -f "$prefix/$(sed -n 's|.* \(share/doc/[A-Za-z/.-]*\).*|\1|p' "$prefix/include/trackline.h")" ] ||
+    fail 'the header names no installed paper'
 
 # the libraries: first the shared one, then the archive
 export PKG_CONFIG_PATH=$prefix/lib/pkgconfig
@@ -74,7 +92,8 @@ for source in man/*.[1-8]; do
     page=man${source##*.}/$(basename "$source")
     cmp "$source" "$prefix/share/man/$page" || fail "$page is not installed"
     command -v man >/dev/null || continue
-    MANWIDTH=80 man --warnings -l "$prefix/share/man/$page" >"$scratch/page" 2>"$scratch/warnings"
+    MANWIDTH=80 man --warnings -M "$prefix/share/man" "${source##*.}" "$(basename "${source%.*}")" \
+        >"$scratch/page" 2>"$scratch/warnings" || fail "$page can't be read: $(cat "$scratch/warnings")"
     [ ! -s "$scratch/warnings" ] || fail "$page: $(cat "$scratch/warnings")"
     grep -q "$(basename "$source" | sed 's/\..*//')" "$scratch/page" || fail "$page is empty"
 done
@@ -82,8 +101,22 @@ for program in "$prefix"/bin/*; do
     [ -f "$prefix/share/man/man1/$(basename "$program").1" ] || fail "$(basename "$program") has no manual page"
 done
 
-# a package is staged under DESTDIR and speaks of its own prefix
-"$make" --no-print-directory install PREFIX=/usr DESTDIR="$scratch/stage" >"$scratch/log" 2>&1
+# a package is staged under DESTDIR and speaks of its own prefix; what is built is installed without the prover
+mkdir "$scratch/path"
+printf '#!/bin/sh\necho "rt is called" >&2\nexit 1\n' >"$scratch/path/rt"
+chmod +x "$scratch/path/rt"
+PATH=$scratch/path:$PATH "$make" --no-print-directory install PREFIX=/usr DESTDIR="$scratch/stage" >"$scratch/log" 2>&1 || {
+    cat "$scratch/log" >&2
+    fail 'make install of what is built'
+}
+for blank in 'a prefix' ''; do
+    for target in install uninstall; do
+        ! "$make" --no-print-directory $target PREFIX="$blank" DESTDIR="$scratch/blank" >"$scratch/log" 2>&1 ||
+            fail "make $target with the prefix '$blank'"
+        grep -q 'has to be one folder without blanks' "$scratch/log" || fail "make $target does not name the prefix '$blank'"
+    done
+done
+[ ! -e "$scratch/blank" ] || fail 'make install with a blank writes something'
 (cd "$prefix" && find . -type f -o -type l) | sort >"$scratch/installed"
 (cd "$scratch/stage/usr" && find . -type f -o -type l) | sort | diff "$scratch/installed" - || fail 'DESTDIR'
 grep -qx 'prefix=/usr' "$scratch/stage/usr/lib/pkgconfig/trackline.pc" || fail 'the prefix in trackline.pc'

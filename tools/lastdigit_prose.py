@@ -228,6 +228,12 @@ def scattering(fit, exact, tool):
     n, written = tool.BLOCKS, 100 * fit.dsg
     ours, theirs = tool.root(Fraction(fit.q, n)), exact.root
     tie = tool.root(Fraction(tool.threshold(fit.dsg), n))
+    # the squares of the places 2j - (n - 1) add up to this, and so T over it is the slope for one step of a place
+    squares = sum((2 * j - (n - 1)) ** 2 for j in range(n))
+    whole = '%d' if Fraction(n * (n * n - 1), 3) == squares else 'NOT %d'
+    yield 'B - S / %d - (2j - %d) T / %d, where %s = n(n² - 1) / 3 for n = %d' % (n, n - 1, squares, whole % squares, n)
+    yield '(%d B - %s S - (2j - %d) T) / %d, as %s = %d / %d' % (
+        squares, Fraction(squares, n), n - 1, squares, Fraction(squares, n), squares, n)
     yield 'One residual, that of block %d' % FOLLOWED
     exact_one = exact.residuals[FOLLOWED]
     yield 'the residual from rounded values is nearer to %d, the exact one nearer to %d.' % (

@@ -10,6 +10,7 @@ import os
 import pathlib
 import re
 import resource
+import signal
 import stat
 import subprocess
 import sys
@@ -59,11 +60,11 @@ class Use(Scratch):
     def test_help(self):
         status, output, errors = run('--help')
         self.assertEqual((status, errors), (0, ''))
-        for words in (b'cggtts line [-o OUT] FILE..', b'cggtts check FILE..', b'Exit status: 0 accepted'):
+        for words in (b'cggtts line FILE.. [-o OUT]', b'cggtts check FILE..', b'Exit status: 0 accepted'):
             self.assertIn(words, output)
         status, output, errors = run('line', '--help')
         self.assertEqual((status, errors), (0, ''))
-        self.assertIn(b'cggtts line [-o OUT] FILE..', output)
+        self.assertIn(b'cggtts line FILE.. [-o OUT]', output)
         self.assertNotIn(b'cggtts check', output)
 
     def test_version(self):
@@ -73,10 +74,15 @@ class Use(Scratch):
     def test_wrong_use(self):
         for arguments, reason in (((), 'a subcommand is missing'), (('burn', 'x'), "no subcommand 'burn'"),
                                   (('-x',), "no subcommand '-x'"), (('line',), 'line: no file'),
-                                  (('line', '-x', SAMPLE), 'line: an option that it does not have'),
+                                  (('line', '-x', SAMPLE), "line: no option '-x'"),
+                                  (('line', SAMPLE, '--out=x'), "line: no option '--out=x'"),
+                                  (('line', SAMPLE, '-o'), 'line: -o without a file'),
+                                  (('--version', 'x'), "--version: 'x' is one word too many"),
+                                  (('--help', 'line'), "--help: 'line' is one word too many"),
                                   (('line', '-o'), 'line: -o without a file'), (('line', '-o', 'x'), 'line: no file'),
                                   (('check',), 'check: no file'),
-                                  (('check', '-o', 'x', SAMPLE), 'check: an option that it does not have')):
+                                  (('check', '-o', 'x', SAMPLE), "check: no option '-o'"),
+                                  (('check', '--'), 'check: no file')):
             self.assertEqual(run(*arguments), (2, b'', 'cggtts: %s; try cggtts --help\n' % reason), arguments)
 
 
@@ -143,6 +149,17 @@ class LineToFile(Scratch):
         self.assertEqual(os.listdir(self.folder), ['lines'])
         self.assertEqual(run('line', '-o', '-', SAMPLE), (0, SAMPLE_LINE, ''))
 
+    def test_the_option_may_stand_anywhere(self):
+        out = self.folder / 'lines'
+        for arguments in ((SAMPLE, WORKED, '-o', out), (SAMPLE, '-o', out, WORKED), (SAMPLE, WORKED, '-o%s' % out),
+                          ('-o', out, '--', SAMPLE, WORKED), (SAMPLE, '-o', out, '--', WORKED)):
+            self.assertEqual(run('line', *arguments), (0, b'', ''), arguments)
+            self.assertEqual(out.read_bytes(), SAMPLE_LINE + WORKED_LINE)
+            out.unlink()
+        message = 'cggtts: -o: No such file or directory\n'
+        self.assertEqual(run('line', '--', SAMPLE, '-o'), (2, SAMPLE_LINE, message))
+        self.assertEqual(run('line', SAMPLE, '-o', '-'), (0, SAMPLE_LINE, ''))
+
     def test_mode(self):
         out = self.folder / 'lines'
         run('line', '-o', out, SAMPLE, umask=0o027)
@@ -194,7 +211,35 @@ int close(int file)
 '''
 
 
+# A signal in the midst of writing.
+SIGNAL_IN_WRITE = '''
+#include <signal.h>
+#include <sys/syscall.h>
+#include <unistd.h>
+ssize_t write(int file, const void *bytes, size_t count)
+{
+    static int once;
+    if (file > 2 && !once++) {
+        count = 50;
+        syscall(SYS_write, file, bytes, count);
+        kill(getpid(), SIGTERM);
+        return 50;
+    }
+    return syscall(SYS_write, file, bytes, count);
+}
+'''
+
+
 class System(Scratch):
+    def test_a_signal_leaves_no_part_behind(self):
+        shim, out = self.folder / 'shim.so', self.folder / 'lines'
+        subprocess.run([os.environ.get('CC', 'cc'), '-shared', '-fPIC', '-xc', '-', '-o', shim], input=SIGNAL_IN_WRITE,
+                       text=True, check=True)
+        environment = dict(os.environ, LD_PRELOAD=str(shim))
+        self.assertEqual(run('line', '-o', out, SAMPLE, WORKED, env=environment), (-signal.SIGTERM, b'', ''))
+        self.assertEqual(sorted(os.listdir(self.folder)), ['lines', 'shim.so'])
+        self.assertEqual(out.read_bytes(), SAMPLE_LINE + WORKED_LINE)
+
     def test_a_failed_close_is_noticed(self):
         shim = self.folder / 'shim.so'
         subprocess.run([os.environ.get('CC', 'cc'), '-shared', '-fPIC', '-xc', '-', '-o', shim], input=FAILING_CLOSE,
@@ -244,6 +289,14 @@ class Check(Scratch):
     def test_length(self):
         for length in (0, 1, 8377, 8379, 100000):
             self.explained(11, (block() * 12)[:length], 'it has %d bytes' % length)
+
+    def test_a_text_that_was_not_packed(self):
+        text = (ROOT / 'examples' / 'sample.txt').read_bytes()
+        hint = "this may be a text, which 'hireblock pack' packs"
+        self.explained(11, text, 'it has %d bytes' % len(text), hint)
+        refusal = '-: refused 11: %s\n  %s\n' % (MEANINGS[11], hint)
+        self.assertEqual(run('line', '-', data=text), (1, b'', refusal))
+        self.explained(11, b'a = 5\0', 'it has 6 bytes')
 
     def test_sizes(self):
         self.explained(1, block({'measurements size': 779}), 'the sizes are 779 and 52')

@@ -92,7 +92,6 @@ class Packing(unittest.TestCase):
         self.assertEqual(packed(self.changed('measurements', '1000x700 1000 x 80')), wanted)
         self.assertEqual(packed(self.changed('measurements', '\n 1000 X 15 # a\n\n(1000 1000x2)x255')), wanted)
         self.assertEqual(packed(self.changed('geometry', '0 x52')), wanted)
-        self.assertEqual(packed(self.changed('geometry', '0x 52')), wanted)
         self.assertEqual(packed(self.text.replace('satellite', 'SATELLITE').replace('\n', '\r\n')), wanted)
         self.assertEqual(packed('sizes = 780 52\n' + self.text), wanted)
 
@@ -153,13 +152,33 @@ class Messages(unittest.TestCase):
         whole = 'the block holds -9223372036854775808 to 9223372036854775807'
         for value in ('9223372036854775808', '-9223372036854775809'):
             self.refused('INT = ' + value, '%s does not fit: %s' % (value, whole), 1, 7)
-        self.refused('INT = 1.5', "'1.5' is no whole number", 1, 7)
+        self.refused('HC = 1.5', "'1.5' is no whole number", 1, 6)
+        self.refused('INT = 1.5', "'1.5' is no whole number: INT is in ps", 1, 7)
         self.refused('INT = ' + 'q' * 50, "'%s...' is no whole number" % ('q' * 37), 1, 7)
         for digits in 41, 5000:
             self.refused('INT = ' + '9' * digits, 'a number of %d digits does not fit: %s' % (digits, whole), 1, 7)
         self.assertEqual(faults('INT = -' + '0' * 41 + '5'), [])
         self.refused('MJD =  # later', 'MJD has no value', 1, 6)
         self.refused('MJD = 50 722', "'722' is one word too many for MJD", 1, 10)
+
+    def test_units(self):
+        unit = ': %s is in ps'
+        self.assertEqual(faults('INT = 38.6 ns'), [(1, 7, "'38.6' is no whole number" + unit % 'INT'),
+                                                   (1, 12, "'ns' is one word too many for INT, which is in ps")])
+        self.refused('GD = -38.6ns', "'-38.6ns' is no whole number" + unit % 'GD', 1, 6)
+        self.refused('clock = 1e3 0 x 51', "'1e3' is no whole number" + unit % 'clock', 1, 9)
+        tenths = "'%s' is no whole number: %s is in tenths of a degree, %d for %s"
+        self.refused('ELV = 45.0', tenths % ('45.0', 'ELV', 450, '45.0'), 1, 7)
+        self.refused('AZTH = 214.5', tenths % ('214.5', 'AZTH', 2145, '214.5'), 1, 8)
+        self.refused('AZTH = 214.55', "'214.55' is no whole number: AZTH is in tenths of a degree", 1, 8)
+        self.refused('ELV = 45 deg', "'deg' is one word too many for ELV, which is in tenths of a degree", 1, 10)
+
+    def test_a_minus_that_is_none(self):
+        for dash in '\u2212\u2013':
+            message = "'%s5' begins with the character U+%04X, which only looks like a minus: write '-5'" % (
+                dash, ord(dash))
+            self.refused('INT = %s5' % dash, message, 1, 7)
+            self.refused('clock = 0 x 51 %s5' % dash, message, 1, 16)
 
     def test_hexadecimal_is_refused_everywhere(self):
         decimal = 'and numbers are decimal here: write'
@@ -170,6 +189,9 @@ class Messages(unittest.TestCase):
         self.refused('HC = FF', "'FF' is no whole number", 1, 6)
         self.refused('clock = 0x3E8 0 x 51', "'0x3E8' is hexadecimal, %s 1000" % decimal, 1, 9)
         self.refused('clock = 0x52', "'0x52' may be hexadecimal, %s '0 x 52' to repeat 0" % decimal, 1, 9)
+        joined = "'%sx' is no whole number: to repeat %s write '%s x' and a count"
+        self.refused('clock = 7112x 714 0 x 50', joined % ('7112', '7112', '7112'), 1, 9)
+        self.refused('clock = 0x 52 0 x 50', joined % ('0', '0', '0'), 1, 9)
         self.refused('clock = (-0x26) x 2', "'-0x26' may be hexadecimal, %s '-0 x 26' to repeat -0" % decimal, 1, 10)
 
     def test_start(self):
@@ -180,7 +202,9 @@ class Messages(unittest.TestCase):
             self.refused('start = ' + word, zeros % (word, 'hh:mm:ss, or no leading zeros'), 1, 9)
         for time in '24:00:00', '00:60:00', '00:00:60':
             self.refused('start = ' + time, '%s is no time of the day' % time, 1, 9)
-        self.refused('start = 0:02:00', "'0:02:00' is no whole number", 1, 9)
+        for word in '0:02:00', '13:30', '1:30:00', '13:30:00Z', '13:30:', ':':
+            self.refused('start = ' + word,
+                         "'%s' is no time: write hh:mm:ss, two digits each, or the second of the day" % word, 1, 9)
         self.assertEqual(faults('start = 0'), [])
         self.assertEqual(faults('start = 133000'), [])
 
@@ -225,6 +249,35 @@ class Messages(unittest.TestCase):
                      'this row has 27 numbers, the others 26: clock needs 52 numbers and has 53', 2, 1)
         self.refused('clock =\n' + '1 x 13\n' * 3, 'clock needs 52 numbers and has 39, in 3 rows of 13', 2, 1)
         self.refused('clock =\n' + '1 x 13\n' * 5, 'clock needs 52 numbers and has 65, in 5 rows of 13', 2, 1)
+
+    def test_a_row_that_another_makes_up_for(self):
+        message = ('this row has %d numbers, the others %d, and another row makes up for it: '
+                   'what stands between is shifted')
+
+        def wrapped(name, *counts):
+            numbers = iter(range(1000))
+            return '%s =\n' % name + '\n'.join(' '.join(str(next(numbers)) for _ in range(n)) for n in counts)
+
+        counts = [15] * 52
+        counts[17], counts[30] = 14, 16
+        self.assertEqual(faults(wrapped('measurements', *counts)),
+                         [(19, 1, message % (14, 15)), (32, 1, message % (16, 15))])
+        counts[17:19], counts[30] = [16, 15], 14
+        self.assertEqual(faults(wrapped('measurements', *counts)),
+                         [(19, 1, message % (16, 15)), (32, 1, message % (14, 15))])
+        for k in range(4):
+            counts = [13] * 4
+            counts[k], counts[(k + 2) % 4] = 12, 14
+            self.assertEqual(len(faults(wrapped('clock', *counts))), 2)
+        # the last row is what is left over, and may make up for another too
+        self.assertEqual(faults(wrapped('measurements', *[16] * 48, 12)), [])
+        self.assertEqual(len(faults(wrapped('measurements', *[16] * 30, 15, *[16] * 17, 13))), 2)
+        # a number moved over the line's end; rows that are no table; several rows in one; a count that is written
+        counts = [15] * 52
+        counts[17:19], counts[40:43] = [14, 16], [17, 14, 14]
+        for text in (wrapped('measurements', *counts), wrapped('clock', 10, 12, 14, 16), wrapped('clock', 13, 26, 13),
+                     wrapped('clock', 20, 32), 'clock = 0 x 41\n1 2 3\n4 5 6\n7 8 9\n1 2'):
+            self.assertEqual(faults(text), [], text)
 
     def test_all_faults_are_named_in_order(self):
         text = 'HC = 256\nclock = 1 two 3 x 0\nFRC = L1\nclock = five\nMJD 1.5\nrelativity = 0x52'

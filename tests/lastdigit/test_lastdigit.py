@@ -5,6 +5,7 @@
 """
 import importlib.machinery
 import importlib.util
+import os
 import pathlib
 import random
 import re
@@ -144,6 +145,29 @@ class Blocks(unittest.TestCase):
         self.assertEqual((result.returncode, result.stderr), (2, message))
         for arguments in ('-j', '52'), ('a.blk', '--check', DOCUMENT), ('a.blk', '--svg', 'a.svg'):
             self.assertEqual(run_tool(*arguments).returncode, 2)
+
+
+class Streams(unittest.TestCase):
+    def test_standard_input(self):
+        for block, named in (WORKED, ROOT / 'examples' / 'worked.blk'), (SAMPLE, ROOT / 'examples' / 'sample.blk'):
+            result = subprocess.run([sys.executable, str(TOOL), '-'], input=block, capture_output=True)
+            self.assertEqual((result.returncode, result.stdout.decode()), (0, run_tool(named).stdout))
+        result = subprocess.run([sys.executable, str(TOOL), '-'], input=b'', capture_output=True)
+        self.assertEqual((result.returncode, result.stderr),
+                         (1, b'lastdigit: -: refused 11 (docs/REFUSALS.md): it has no line\n'))
+        result = subprocess.run(['/bin/sh', '-c', '"$0" "$1" - 0>/dev/null', sys.executable, str(TOOL)], capture_output=True)
+        self.assertEqual((result.returncode, result.stderr), (2, b'lastdigit: standard input: Bad file descriptor\n'))
+
+    def test_standard_output_that_can_not_be_written(self):
+        with open('/dev/full', 'wb') as full:
+            result = subprocess.run([sys.executable, str(TOOL)], stdout=full, stderr=subprocess.PIPE)
+        self.assertEqual((result.returncode, result.stderr),
+                         (2, b'lastdigit: standard output: No space left on device\n'))
+        reader, writer = os.pipe()
+        os.close(reader)
+        with open(writer, 'wb') as pipe:
+            result = subprocess.run([sys.executable, str(TOOL)], stdout=pipe, stderr=subprocess.PIPE)
+        self.assertEqual((result.returncode, result.stderr), (2, b'lastdigit: standard output: Broken pipe\n'))
 
 
 class Picture(unittest.TestCase):

@@ -53,6 +53,12 @@ def jumped(ps, first):
     return measured(lambda second, value: value + ps * (second >= first))
 
 
+def late_by(seconds):
+    """The measurements that many seconds late; those that are missing are filled with the nearest."""
+    numbers = WORKED['measurements']
+    return measured(lambda second, _: numbers[min(max(second - seconds, 0), 779)])
+
+
 def scaled(names, times, over=1):
     """The named parts in another unit."""
     def scale(value):
@@ -99,7 +105,9 @@ class Card(unittest.TestCase):
         self.all_are(4, [scaled([name], 1000) for name in ('troposphere', 'ionosphere')])
         other = [75000000000 - 900000 * (7 + 15 * j) for j in range(52)]
         self.all_are(4, [tried(geometry=[0] * 52), negative('geometry'), tried(geometry=other)])
-        self.all_are(4, [jumped(10 ** 7, 390), jumped(-10 ** 9, 390)])
+        for microseconds, first, last in (6, 250, 530), (10, 150, 650), (100, 15, 765):
+            self.all_are(4, [jumped(sign * microseconds * 10 ** 6, second) for sign in (1, -1)
+                             for second in (*range(first, last, 60), last)])
 
     def test_5(self):
         for name in 'troposphere', 'ionosphere':
@@ -107,7 +115,10 @@ class Card(unittest.TestCase):
 
     def test_6(self):
         late = WORKED['geometry'][1:] + WORKED['geometry'][-1:]
-        self.all_are(6, [jumped(5 * 10 ** 6, 390), tried(geometry=late)])
+        self.all_are(6, [tried(geometry=late), late_by(15)])
+        self.all_are(6, [jumped(5 * 10 ** 6, second) for second in (*range(60, 700, 40), 700)])
+        self.assertEqual({jumped(4 * 10 ** 6, second) for second in range(1, 780, 60)}, {0, 6})
+        self.all_are(6, [jumped(sign * 10 ** 7, second) for sign in (1, -1) for second in (15, 60, 100, 700, 765)])
 
     def test_a_marker_in_each_second(self):
         """12 of the 780 places of a lone 0 leave the slope as it is."""
@@ -124,6 +135,26 @@ class Card(unittest.TestCase):
         self.all_are(0, [scaled(('measurements',) + COLUMNS + DELAYS, 1, 1000)])
         self.all_are(0, [scaled([name], 1000) for name in ('relativity',) + DELAYS])
         self.all_are(0, [negative(name) for name in ('relativity', 'clock') + DELAYS])
+
+    def test_what_shows_in_the_scatter_alone(self):
+        self.all_are(0, [late_by(seconds) for seconds in (1, -1, 10, -10)])
+        numbers = WORKED['measurements']
+        self.all_are(0, [marked(numbers[second - 1], [second]) for second in range(1, 780, 41)])
+        self.all_are(0, [jumped(sign * 3 * 10 ** 6, second) for sign in (1, -1) for second in range(1, 780, 26)])
+        self.all_are(0, [jumped(10 ** 7, second) for second in (1, 5, 775, 779)])
+
+    def test_what_is_left_out(self):
+        self.all_are(0, [tried(**{name: [0] * 52}) for name in ('ionosphere', 'troposphere', 'clock')])
+        self.all_are(0, [tried(**{name: [0] * 52 for name in ('ionosphere', 'troposphere', 'clock')})])
+        self.all_are(0, [tried(ELV=WORKED['ELV'] // 10, AZTH=WORKED['AZTH'] // 10)])
+
+    def test_places_in_what_is_shown(self):
+        """Measurement 17 is the third number of row 2, geometry 17 the fifth of row 2."""
+        parts = {**WORKED, 'measurements': list(range(780)), 'geometry': list(range(52))}
+        rows = [row.split() for row in hireblock.show(parts).split('\n')]
+        for name, third in ('measurements', 2), ('geometry', 4):
+            first = 1 + next(k for k, row in enumerate(rows) if row[:1] == [name])
+            self.assertEqual(rows[first + 1][third], '17')
 
     def test_exchanged_air_shows_in_its_own_figures_alone(self):
         def line(**parts):

@@ -2,6 +2,7 @@
 
 use crate::case::*;
 use crate::compare::Lent;
+use reference::good::{good_labels, good_numbers};
 use reference::seeded::Seeded;
 use reference::{Labels, Numbers, BLOCK_BYTES};
 
@@ -193,7 +194,7 @@ fn spoil_number(numbers: &mut Numbers, fault: Fault, seeded: &mut Seeded) {
 /// A line that is long enough; the lengths that are asked for by name come most often.
 pub fn long_lent(seeded: &mut Seeded) -> Lent {
     let any = seeded.range(113, 300) as usize;
-    Lent::Bytes(seeded.pick(&[113, 113, 114, 114, 4096, any]))
+    Lent::Of(seeded.pick(&[113, 113, 114, 114, 4096, any]))
 }
 
 /// A line that is too short.
@@ -202,7 +203,7 @@ pub fn short_lent(seeded: &mut Seeded) -> Lent {
     if seeded.below(4) == 0 {
         return Lent::Null;
     }
-    Lent::Bytes(seeded.pick(&[0, 112, 112, any]))
+    Lent::Of(seeded.pick(&[0, 112, 112, any]))
 }
 
 fn lent_for(faults: &[Fault], seeded: &mut Seeded) -> Lent {

@@ -47,9 +47,9 @@ fn one_faulty(compare: &mut Compare, seeded: &mut Seeded, faults: &[Fault]) {
 /// The lines printed in the format documents.
 fn printed(compare: &mut Compare) {
     for case in published() {
-        for (labels, numbers) in [&case.printed, &case.put_in] {
-            for lent in [Lent::Null, Lent::Bytes(0), Lent::Bytes(112), Lent::Bytes(113), Lent::Bytes(114)] {
-                compare.line(case.name, labels, numbers, lent);
+        for form in [&case.printed, &case.put_in] {
+            for lent in [Lent::Null, Lent::Of(0), Lent::Of(112), Lent::Of(113), Lent::Of(114)] {
+                compare.line(case.name, &form.labels, &form.numbers, lent);
             }
         }
     }
@@ -148,7 +148,7 @@ fn number_edges(compare: &mut Compare, seeded: &mut Seeded) {
             for which in 0..10 {
                 let (labels, mut numbers, _) = faulty_line(&[], seeded);
                 *number(&mut numbers, which) = value;
-                for lent in [Lent::Null, Lent::Bytes(0), Lent::Bytes(112), Lent::Bytes(113), Lent::Bytes(114)] {
+                for lent in [Lent::Null, Lent::Of(0), Lent::Of(112), Lent::Of(113), Lent::Of(114)] {
                     compare.line("lines by a number", &labels, &numbers, lent);
                 }
             }

@@ -1,0 +1,53 @@
+#!/usr/bin/env python3
+"""Runs tests/c/stack.c and compares what it measures with the figures in trackline(3) and docs/TRUST.md.
+
+    python3 tests/c/stack.py target/stack
+
+A figure may be rounded or another compiler's: it may lie a tenth off what is measured here, and no more. What is
+promised is tested by the program itself.
+"""
+import pathlib
+import re
+import subprocess
+import sys
+
+ROOT = pathlib.Path(__file__).resolve().parents[2]
+MEASURED = r'stack: (trackline_\w+) takes (at most )?(\d+) bytes, promised (\d+)\n'
+# a figure that a document gives, and the functions whose figures it names, in order
+DOCUMENTS = (
+    ('man/trackline.3', r'that gave ([\d,]+), ([\d,]+) and at most ([\d,]+) bytes', ('block', 'line', 'start'), 1),
+    ('docs/TRUST.md', r'`trackline_block` takes about ([\d.]+) kB', ('block',), 1000),
+)
+PROMISED = r'takes up to ([\d,]+) bytes .+? up to ([\d,]+)\.'
+
+
+def number(text):
+    return float(text.replace(',', ''))
+
+
+def main(program):
+    printed = subprocess.run([program], stdout=subprocess.PIPE, text=True, cwd=ROOT)
+    print(printed.stdout, end='')
+    found = {name[10:]: (int(figure), int(most)) for name, _, figure, most in re.findall(MEASURED, printed.stdout)}
+    if len(found) != 3 or printed.returncode:
+        print('stack: FAILED: the stack was not measured, or is above what is promised', file=sys.stderr)
+        return 1
+    faults = []
+    for path, pattern, names, unit in DOCUMENTS:
+        text = ' '.join((ROOT / path).read_text().split())
+        said = re.search(pattern, text)
+        for name, figure in zip(names, said.groups() if said else [''] * len(names)):
+            measured = found[name][0]
+            if not figure or abs(number(figure) * unit - measured) > measured / 10:
+                faults.append('%s: trackline_%s takes %d bytes, and it says %s' % (
+                    path, name, measured, figure or 'nothing'))
+    promised = re.search(PROMISED, ' '.join((ROOT / 'man/trackline.3').read_text().split()))
+    if not promised or [number(word) for word in promised.groups()] != [found['block'][1], found['line'][1]]:
+        faults.append('man/trackline.3 does not promise what tests/c/stack.c tests')
+    for fault in faults:
+        print('stack: FAILED: %s' % fault, file=sys.stderr)
+    return 1 if faults else 0
+
+
+if __name__ == '__main__':
+    sys.exit(main(sys.argv[1]))
