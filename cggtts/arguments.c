@@ -4,7 +4,7 @@
 #include <string.h>
 
 /* The files are gathered at the front of argv, in their order. */
-int read_arguments(int argc, char **argv, int with_output, struct arguments *found)
+int read_arguments(int argc, char **argv, int allowed, struct arguments *found)
 {
     int files_only = 0;
     memset(found, 0, sizeof *found);
@@ -15,7 +15,7 @@ int read_arguments(int argc, char **argv, int with_output, struct arguments *fou
             found->names[found->count++] = word;
         } else if (strcmp(word, "--") == 0) {
             files_only = 1;
-        } else if (!with_output || word[1] != 'o') {
+        } else if (!(allowed & WITH_OUTPUT) || word[1] != 'o') {
             return wrong_use("%s: no option '%s'", argv[0], word);
         } else if (word[2] == '\0' && i + 1 == argc) {
             return wrong_use("%s: -o without a file", argv[0]);
@@ -23,5 +23,5 @@ int read_arguments(int argc, char **argv, int with_output, struct arguments *fou
             found->output = word[2] != '\0' ? word + 2 : argv[++i];
         }
     }
-    return found->count == 0 ? wrong_use("%s: no file", argv[0]) : ACCEPTED;
+    return found->count == 0 && !(allowed & NO_FILE) ? wrong_use("%s: no file", argv[0]) : ACCEPTED;
 }

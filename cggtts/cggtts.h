@@ -45,12 +45,13 @@ void explain(const char *form, ...);
 int wrong_use(const char *form, ...);
 
 /* arguments.c: what stands behind a subcommand. Answers ACCEPTED, or FAILED after a message. */
+enum { WITH_OUTPUT = 1, NO_FILE = 2 }; /* allowed: an option -o; that no file is named */
 struct arguments {
     const char *output; /* what -o names, or NULL */
     int count;
     char **names;
 };
-int read_arguments(int argc, char **argv, int with_output, struct arguments *found);
+int read_arguments(int argc, char **argv, int allowed, struct arguments *found);
 
 /* block.c: the numbers in a hire block. */
 uint64_t unsigned_at(const uint8_t *block, size_t at, size_t width);
@@ -67,9 +68,24 @@ void explain_labels(const uint8_t *block);
 void explain_limits(const uint8_t *block);
 void explain_figures(const uint8_t *block, uint32_t number);
 void explain_start(const uint8_t *block);
+const char *shown(uint8_t byte, char *room); /* labels.c: a byte that may not be visible, in a room of 8 bytes */
+
+/* columns.c: the fields of a data line by their columns, counted from 1, and what a refused line is refused for. */
+enum form { LETTER, WHOLE, HEXADECIMAL, TENTHS, CLOCK, CHARACTERS };
+struct field {
+    const char *name;
+    size_t first, last;
+    enum form form;
+    enum trackline_value place; /* of its value, the first of several */
+    const char *unit;
+};
+enum { FIELDS = 22 };
+extern const struct field FIELD[FIELDS];
+void explain_line(const uint8_t *line, size_t length, uint32_t number);
 
 /* The subcommands. Each takes what main was given from its own name on, and answers the exit status. */
 int line_command(int argc, char **argv);
 int check_command(int argc, char **argv);
+int read_command(int argc, char **argv);
 
 #endif

@@ -45,7 +45,7 @@ static void explain_range(const uint8_t *block, const struct range *range, const
 }
 
 /* A byte as it can be shown: what is no visible character, and the backslash, as \x and two digits. */
-static const char *shown(uint8_t byte, char *room)
+const char *shown(uint8_t byte, char *room)
 {
     int visible = byte > ' ' && byte < 0x7F && byte != '\\';
     sprintf(room, visible ? "%c" : "\\x%02X", byte);

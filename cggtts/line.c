@@ -62,7 +62,7 @@ static int write_lines(const char *output, int count, char **names)
 int line_command(int argc, char **argv)
 {
     struct arguments given;
-    if (read_arguments(argc, argv, 1, &given) != ACCEPTED) {
+    if (read_arguments(argc, argv, WITH_OUTPUT, &given) != ACCEPTED) {
         return FAILED;
     }
     for (int i = 0; given.output != NULL && i < given.count; i++) {

@@ -1,10 +1,11 @@
 /*
- * trackline: one CGGTTS data line of 113 columns from a 13-minute satellite track.
+ * trackline: one CGGTTS data line of 113 columns from a 13-minute satellite track, and what stands in such a line.
  *
- * Each function answers 0 when it accepts and the number of its refusal otherwise. A slice is a pointer and a length;
- * NULL with length 0 is an empty slice. A function that accepts writes the first 113 bytes of the lent line, with no
- * byte of zero after them; one that refuses writes nothing. The two slices of a call must not overlap. Nothing is kept
- * between calls, so that threads may call at once on lines of their own.
+ * Each function but trackline_comment answers 0 when it accepts and the number of its refusal otherwise. A slice is a
+ * pointer and a length; NULL with length 0 is an empty slice. A function that accepts writes the first 113 bytes of the
+ * lent line, with no byte of zero after them, or the first 23 of the lent values; one that refuses writes nothing. The
+ * two slices of a call must not overlap. Nothing is kept between calls, so that threads may call at once on lines of
+ * their own.
  */
 #ifndef TRACKLINE_H
 #define TRACKLINE_H
@@ -16,8 +17,9 @@
 extern "C" {
 #endif
 
-/* Columns of a line, and bytes of a hire block. */
+/* Columns of a line, bytes of a line with the longest comment behind them, and bytes of a hire block. */
 #define TRACKLINE_LINE_BYTES 113
+#define TRACKLINE_LONGEST_LINE 140
 #define TRACKLINE_BLOCK_BYTES 8378
 
 /*
@@ -83,13 +85,16 @@ extern "C" {
     X(6, TRACKLINE_SCATTER, "DSG is below 0 or has more than four digits")                            \
     X(7, TRACKLINE_LABEL, "a label is out of its range, or the track length is not 780")              \
     X(8, TRACKLINE_START, "no track of that day starts at that second")                               \
-    X(9, TRACKLINE_LENT, "the lent line is under 113 bytes")                                          \
+    X(9, TRACKLINE_LENT, "the lent line is under 113 bytes, or fewer than 23 values are lent")        \
     X(10, TRACKLINE_CORRECTED, "a corrected value is beyond its limit")                               \
-    X(11, TRACKLINE_LENGTH, "the block is not 8378 bytes long")
+    X(11, TRACKLINE_LENGTH, "the block is not 8378 bytes long")                                       \
+    X(12, TRACKLINE_LINE_LENGTH, "the line is not 113 to 140 bytes long")                             \
+    X(13, TRACKLINE_CHARACTER, "a character is not allowed in its column, or TRKL is not 0780")       \
+    X(14, TRACKLINE_CHECKSUM, "CK is not the two capital digits of the sum of the columns before it")
 
 #define TRACKLINE_NUMBER(number, name, text) name = number,
 enum trackline_refusal {
-    TRACKLINE_ACCEPTED = 0, /* the line is written */
+    TRACKLINE_ACCEPTED = 0, /* the line is written, or its values are */
     TRACKLINE_REFUSALS(TRACKLINE_NUMBER)
 };
 #undef TRACKLINE_NUMBER
@@ -119,6 +124,49 @@ uint32_t trackline_line(uint8_t constellation, uint8_t satellite, uint8_t cl, ui
  * Whether a track of that day starts at that second of the day: 0, or 7 for a day out of range, or 8.
  */
 uint32_t trackline_start(uint32_t mjd, uint32_t second);
+
+/*
+ * The places of a line's values: its labels and its ten numbers, in the order and the units of trackline_line. The
+ * constellation and each character of FRC is its byte; start is the second of the day.
+ */
+enum trackline_value {
+    TRACKLINE_VALUE_CONSTELLATION,
+    TRACKLINE_VALUE_SATELLITE,
+    TRACKLINE_VALUE_CL,
+    TRACKLINE_VALUE_FR,
+    TRACKLINE_VALUE_HC,
+    TRACKLINE_VALUE_FRC1,
+    TRACKLINE_VALUE_FRC2,
+    TRACKLINE_VALUE_FRC3,
+    TRACKLINE_VALUE_MJD,
+    TRACKLINE_VALUE_START,
+    TRACKLINE_VALUE_ELV,
+    TRACKLINE_VALUE_AZTH,
+    TRACKLINE_VALUE_IOE,
+    TRACKLINE_VALUE_REFSV,
+    TRACKLINE_VALUE_SRSV,
+    TRACKLINE_VALUE_REFSYS,
+    TRACKLINE_VALUE_SRSYS,
+    TRACKLINE_VALUE_MDTR,
+    TRACKLINE_VALUE_SMDT,
+    TRACKLINE_VALUE_MDIO,
+    TRACKLINE_VALUE_SMDI,
+    TRACKLINE_VALUE_DSG,
+    TRACKLINE_VALUE_TRKL,
+    TRACKLINE_VALUES /* how many there are: 23 */
+};
+
+/*
+ * What stands in a line, without its line end. Tried in this order: 12, 14, 13, 7, 8, 9; 8 also for an hour above 23 or a
+ * minute or a second above 59. 9: fewer than 23 values are lent.
+ */
+uint32_t trackline_read(const uint8_t *line, size_t line_len, int64_t *values, size_t values_len);
+
+/*
+ * Where the comment of a line begins: at byte 113, counted from 0, or, where the line is refused, at line_len, so that it
+ * is then empty. It is the rest of the line from there, up to 27 bytes of 20 to 7E hexadecimal.
+ */
+size_t trackline_comment(const uint8_t *line, size_t line_len);
 
 #ifdef __cplusplus
 }

@@ -83,7 +83,7 @@ pkg-config --exact-version "$(sed -n 's/^VERSION := //p' Makefile)" trackline ||
 
 # what the shared library exports and needs
 exports=$(nm -D --defined-only "$prefix/lib/libtrackline.so" | awk '{print $3}' | sort | xargs)
-[ "$exports" = 'trackline_block trackline_line trackline_start' ] || fail "the shared library exports: $exports"
+[ "$exports" = 'trackline_block trackline_comment trackline_line trackline_read trackline_start' ] || fail "the shared library exports: $exports"
 needs=$(ldd "$prefix/lib/libtrackline.so" | awk '{print $1}' | grep -vE '^(linux-vdso|libc|/lib.*/ld-linux|statically)' || true)
 [ -z "$needs" ] || fail "the shared library needs: $needs"
 

@@ -1,7 +1,7 @@
 /*
- * Calls the three functions from C, as a receiver's control program does: the paper's cases, each refusal, the order
- * of two faults, and every byte of lent lines of all the lengths that matter. Expected answers and lines are written
- * out here and come from the paper or were worked out by hand.
+ * Calls the functions from C, as a receiver's control program does: the paper's cases, each refusal, the order of two
+ * faults, and every byte of lent lines, and every lent value, of all the lengths that matter. Expected answers and lines
+ * are written out here and come from the paper or were worked out by hand.
  *
  *     cc -std=c11 -Wall -Wextra -Werror -pedantic -Iinclude tests/c/boundary_test.c libtrackline.a && ./a.out
  */
@@ -324,6 +324,134 @@ static void places(void)
     expect_true("places: the line", kept_but(wanted, 113));
 }
 
+/* ---- reading a line back */
+
+static const int64_t SAMPLE_VALUES[23] = {
+    'G', 5, 255, 0, 0, 'L', '1', 'C', 50722, 120, 450, 1800, 7, 10, 0, 10, 0, 0, 0, 0, 0, 0, 780};
+static const int64_t WIDEST_VALUES[23] = {
+    'R', 99, 10, 24, 99, '0', 'Z', '9', 50723, 86280, 900, 3599, 96,
+    -9999999999, 99999, 9999999999, -99999, 9999, -999, 7, 999, 9999, 780};
+
+enum { PLACES = 32 };
+
+/* Reads into so many lent values: the answer, these values in the first places, and all else as it was. */
+static void read_as(const char *what, const uint8_t *line, size_t length, size_t lent, uint32_t wanted, const int64_t *values)
+{
+    int64_t places[PLACES];
+    for (size_t i = 0; i < PLACES; i++) {
+        places[i] = -1 - (int64_t)i;
+    }
+    expect(what, trackline_read(line, length, places, lent), wanted);
+    int right = 1;
+    for (size_t i = 0; i < PLACES; i++) {
+        right &= places[i] == (wanted == 0 && i < 23 ? values[i] : -1 - (int64_t)i);
+    }
+    expect_true(what, right);
+    expect_true("where the comment begins", trackline_comment(line, length) == (wanted == 0 || wanted == 9 ? 113 : length));
+}
+
+static void values_of_lines(void)
+{
+    const uint8_t *sample = (const uint8_t *)SAMPLE, *widest = (const uint8_t *)WIDEST;
+    static const size_t tried[] = {23, 24, PLACES};
+    for (size_t i = 0; i < 3; i++) {
+        read_as("the sample line", sample, 113, tried[i], 0, SAMPLE_VALUES);
+        read_as("the widest line", widest, 113, tried[i], 0, WIDEST_VALUES);
+    }
+    read_as("22 values", sample, 113, 22, 9, NULL);
+    read_as("no value", sample, 113, 0, 9, NULL);
+    expect("NULL for values", trackline_read(sample, 113, NULL, 0), 9);
+    expect("NULL for a line", trackline_read(NULL, 0, NULL, 0), 12);
+    expect_true("the comment of no line", trackline_comment(NULL, 0) == 0);
+    expect_true("the header's places", TRACKLINE_VALUE_CONSTELLATION == 0 && TRACKLINE_VALUE_MJD == 8
+                && TRACKLINE_VALUE_REFSV == 13 && TRACKLINE_VALUE_TRKL == 22 && TRACKLINE_VALUES == 23);
+}
+
+/* The sample line with a comment of so many bytes behind it; the reader is given just as many. */
+static void comments(void)
+{
+    static const char behind[] = " tilde ~, space and !\"#$%&'()*";
+    uint8_t line[150];
+    memcpy(line, SAMPLE, 113);
+    for (size_t length = 100; length <= 145; length++) {
+        size_t comment = length < 113 ? 0 : length - 113;
+        for (size_t i = 0; i < comment; i++) {
+            line[113 + i] = (uint8_t)behind[i % (sizeof behind - 1)];
+        }
+        read_as("by its length", line, length, 23, length < 113 || length > 140 ? 12 : 0, SAMPLE_VALUES);
+    }
+    for (unsigned byte = 0; byte < 256; byte++) {
+        line[139] = (uint8_t)byte;
+        read_as("the last byte of a comment", line, 140, 23, byte >= 0x20 && byte <= 0x7E ? 0 : 13, SAMPLE_VALUES);
+    }
+}
+
+/* The sample line with another text from a column on, and its CK, worked out by hand from 26. */
+static const struct spoiled {
+    size_t column;
+    const char *text, *ck;
+    uint32_t wanted;
+} SPOILED[] = {
+    {112, "27", "27", 14}, {112, "62", "62", 14}, {112, "  ", "  ", 14},
+    {2, " 5", "26", 14},        /* a blank, and CK as it was */
+    {2, " 5", "16", 13},        /* blank fill */
+    {5, "ff", "66", 13},        /* small hexadecimal digits */
+    {1, "S", "32", 13},         /* no constellation */
+    {4, "-", "33", 13},         /* no space */
+    {47, "-", "28", 13},        /* a minus before a zero */
+    {35, "-", "28", 0},         /* and before a ten */
+    {35, "0", "2B", 13},        /* no sign */
+    {108, "l", "46", 13},       /* a small letter in FRC */
+    {21, "0781", "27", 13},     /* the track length */
+    {2, "00", "21", 7},         /* satellite 0 */
+    {8, "50721", "25", 7},      /* the date */
+    {78, "256", "2C", 7},       /* IOE of G */
+    {102, "01", "27", 7},       /* FR of G */
+    {14, "000201", "27", 8},    /* no start */
+    {14, "240200", "2C", 8},    /* an hour above 23 */
+    {14, "006200", "2C", 8},    /* a minute above 59 */
+    {14, "000160", "2B", 8},    /* a second above 59: the total is 120, a start */
+};
+
+static void refused_lines(void)
+{
+    uint8_t line[113];
+    for (size_t i = 0; i < sizeof SPOILED / sizeof SPOILED[0]; i++) {
+        int64_t ten_below[23];
+        memcpy(ten_below, SAMPLE_VALUES, sizeof ten_below);
+        ten_below[13] = -10;
+        memcpy(line, SAMPLE, 113);
+        memcpy(line + SPOILED[i].column - 1, SPOILED[i].text, strlen(SPOILED[i].text));
+        memcpy(line + 111, SPOILED[i].ck, 2);
+        read_as(SPOILED[i].text, line, 113, 23, SPOILED[i].wanted, ten_below);
+        read_as("with 22 values", line, 113, 22, SPOILED[i].wanted == 0 ? 9 : SPOILED[i].wanted, NULL);
+    }
+    memcpy(line, WIDEST, 113);
+    line[112] = 'f';
+    read_as("a small letter in CK", line, 113, 23, 14, NULL);
+}
+
+/* Two faults: the earlier of 12, 14, 13, 7, 8 is answered. */
+static void order_of_read(void)
+{
+    static const struct {
+        const char *minus, *satellite, *clock, *ck;
+        size_t length;
+        uint32_t wanted;
+    } cases[] = {
+        {"-", "00", "000201", "24", 112, 12}, {"-", "00", "000201", "25", 113, 14}, {"-", "00", "000201", "24", 113, 13},
+        {"+", "00", "000201", "22", 113, 7}, {"+", "05", "000201", "27", 113, 8}, {"+", "05", "000200", "26", 113, 0}};
+    uint8_t line[113];
+    for (size_t i = 0; i < sizeof cases / sizeof cases[0]; i++) {
+        memcpy(line, SAMPLE, 113);
+        memcpy(line + 46, cases[i].minus, 1);
+        memcpy(line + 1, cases[i].satellite, 2);
+        memcpy(line + 13, cases[i].clock, 6);
+        memcpy(line + 111, cases[i].ck, 2);
+        read_as("order of the reader", line, cases[i].length, 23, cases[i].wanted, SAMPLE_VALUES);
+    }
+}
+
 int main(void)
 {
     lengths();
@@ -333,6 +461,10 @@ int main(void)
     order_of_block();
     corrections();
     places();
+    values_of_lines();
+    comments();
+    refused_lines();
+    order_of_read();
     printf("c boundary: %d checks, %d failed\n", checked, failed);
     return failed != 0;
 }

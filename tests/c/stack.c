@@ -18,6 +18,9 @@ enum { STACK = 1 << 20, FILL = 0xA5, EDGE = 256 };
 
 static uint8_t block[TRACKLINE_BLOCK_BYTES];
 static uint8_t line[TRACKLINE_LINE_BYTES];
+static const uint8_t commented[] = "G05 FF 50722 000200 0780 450 1800 +0000000010 +00000 +0000000010 +00000 "
+                                   "0000 007 0000 +000 0000 +000 00 00 L1C 26 with a comment behind it";
+static int64_t values[TRACKLINE_VALUES];
 static uint8_t *stack;
 
 static uint32_t call_block(void)
@@ -36,13 +39,24 @@ static uint32_t call_start(void)
     return trackline_start(50722, 120);
 }
 
+static uint32_t call_read(void)
+{
+    return trackline_read(commented, sizeof commented - 1, values, TRACKLINE_VALUES);
+}
+
+static uint32_t call_comment(void)
+{
+    return trackline_comment(commented, sizeof commented - 1) != TRACKLINE_LINE_BYTES;
+}
+
 static struct measured {
     const char *name;
     uint32_t (*call)(void);
     size_t most;  /* what trackline(3) says */
     size_t bytes; /* what it took; EDGE if it is no more than that */
 } MOST[] = {
-    {"trackline_block", call_block, 24000, 0}, {"trackline_line", call_line, 1000, 0}, {"trackline_start", call_start, 1000, 0}};
+    {"trackline_block", call_block, 24000, 0}, {"trackline_line", call_line, 1000, 0}, {"trackline_start", call_start, 1000, 0},
+    {"trackline_read", call_read, 1000, 0}, {"trackline_comment", call_comment, 1000, 0}};
 
 /* The thread. */
 static void *measure(void *which)

@@ -33,7 +33,10 @@ MEANINGS = {1: "the block's two sizes are not 780 and 52",
             6: 'DSG is below 0 or has more than four digits',
             7: 'a label is out of its range, or the track length is not 780',
             8: 'no track of that day starts at that second',
-            11: 'the block is not 8378 bytes long'}
+            11: 'the block is not 8378 bytes long',
+            12: 'the line is not 113 to 140 bytes long',
+            13: 'a character is not allowed in its column, or TRKL is not 0780',
+            14: 'CK is not the two capital digits of the sum of the columns before it'}
 OWN = ' (worked out by cggtts, not by the library)'
 
 
@@ -60,7 +63,8 @@ class Use(Scratch):
     def test_help(self):
         status, output, errors = run('--help')
         self.assertEqual((status, errors), (0, ''))
-        for words in (b'cggtts line FILE.. [-o OUT]', b'cggtts check FILE..', b'Exit status: 0 accepted'):
+        for words in (b'cggtts line FILE.. [-o OUT]', b'cggtts check FILE..', b'cggtts read [FILE..]',
+                      b'Exit status: 0 accepted'):
             self.assertIn(words, output)
         status, output, errors = run('line', '--help')
         self.assertEqual((status, errors), (0, ''))
@@ -82,7 +86,8 @@ class Use(Scratch):
                                   (('line', '-o'), 'line: -o without a file'), (('line', '-o', 'x'), 'line: no file'),
                                   (('check',), 'check: no file'),
                                   (('check', '-o', 'x', SAMPLE), "check: no option '-o'"),
-                                  (('check', '--'), 'check: no file')):
+                                  (('check', '--'), 'check: no file'),
+                                  (('read', '-o', 'x'), "read: no option '-o'")):
             self.assertEqual(run(*arguments), (2, b'', 'cggtts: %s; try cggtts --help\n' % reason), arguments)
 
 
@@ -409,6 +414,159 @@ class Check(Scratch):
         for far in (86400, 2 ** 32 - 1):
             self.explained(8, block({'start': far}), 'start is %d, and a day has 86400 seconds' % far,
                            nearest % (last, 'none'))
+
+
+SAMPLE_COLUMNS, WORKED_COLUMNS = SAMPLE_LINE.decode()[:111], WORKED_LINE.decode()[:111]
+WORKED_SHOWN = '''\
+  constellation  GPS                    G
+  satellite      17                     17
+  CL             FF                     FF
+  MJD            60600                  60600
+  start          13:30:00, second 48600 133000
+  TRKL           780 s                  0780
+  ELV            58.3 degrees           583
+  AZTH           214.5 degrees          2145
+  REFSV          123343.1 ns            +0001233431
+  SRSV           0.9 ps/s               +00009
+  REFSYS         -31.5 ns               -0000000315
+  SRSYS          -4.1 ps/s              -00041
+  DSG            0.3 ns                 0003
+  IOE            87                     087
+  MDTR           9.7 ns                 0097
+  SMDT           0.5 ps/s               +005
+  MDIO           20.2 ns                0202
+  SMDI           -2.1 ps/s              -021
+  FR             0                      00
+  HC             5                      05
+  FRC            L1C
+  CK             8C
+'''
+
+
+def line_with(changes=(), columns=SAMPLE_COLUMNS):
+    """A line with other texts from their columns on, and the CK of that, worked out here."""
+    for column, text in changes:
+        columns = columns[:column - 1] + text + columns[column - 1 + len(text):]
+    return columns + '%02X' % (sum(columns.encode('latin-1')) % 256)
+
+
+class Read(Scratch):
+    def shown(self, line, *rows):
+        """The line is accepted, and these rows stand among what is shown of it."""
+        status, output, errors = run('read', data=line.encode('latin-1'))
+        self.assertEqual((status, errors), (0, ''))
+        for row in rows:
+            self.assertIn(row, output.decode().splitlines())
+
+    def refused(self, number, line, *explanations):
+        wanted = '-:1: refused %d: %s\n' % (number, MEANINGS[number]) + ''.join('  %s\n' % text for text in explanations)
+        self.assertEqual(run('read', data=line.encode('latin-1')), (1, b'', wanted))
+
+    def test_a_line(self):
+        shown = WORKED_SHOWN.encode()
+        line = WORKED_LINE[:113]
+        for end in (b'', b'\n', b'\r\n'):
+            self.assertEqual(run('read', data=line + end), (0, b'-:1\n' + shown, ''))
+            self.assertEqual(run('read', '-', data=line + end), (0, b'-:1\n' + shown, ''))
+        path = self.kept('day', line)
+        self.assertEqual(run('read', path), (0, b'%s:1\n' % str(path).encode() + shown, ''))
+        self.assertEqual(run('read', data=line + b' L3B 100 %s ~\r\n'),
+                         (0, b'-:1\n' + shown + b'  comment         L3B 100 %s ~\n', ''))
+
+    def test_lines_of_files(self):
+        day = self.kept('day', WORKED_LINE + b'G05\r\n\r\n' + SAMPLE_LINE[:113] + b'\n' + WORKED_LINE)
+        status, output, errors = run('read', day, '-', data=WORKED_LINE)
+        self.assertEqual(status, 1)
+        self.assertEqual(re.findall(rb'(?m)^(\S+):(\d+)$', output),
+                         [(str(day).encode(), b'1'), (str(day).encode(), b'4'), (str(day).encode(), b'5'), (b'-', b'1')])
+        self.assertEqual(output.count(b'\n\n'), 3)
+        self.assertTrue(output.endswith(b'\n\n-:1\n' + WORKED_SHOWN.encode()))
+        self.assertEqual(errors, ''.join('%s:%d: refused 12: %s\n  it has %d bytes\n' % (day, number, MEANINGS[12], length)
+                                         for number, length in ((2, 3), (3, 0))))
+
+    def test_values(self):
+        self.shown(line_with([(47, '-00005'), (66, '-99999'), (87, '-001'), (97, '+999')]),
+                   '  SRSV           -0.5 ps/s              -00005', '  SRSYS          -9999.9 ps/s           -99999',
+                   '  SMDT           -0.1 ps/s              -001', '  SMDI           99.9 ps/s              +999')
+        self.shown(line_with([(35, '-9999999999'), (54, '+9999999999'), (82, '9999'), (92, '0007'), (73, '9999')]),
+                   '  REFSV          -999999999.9 ns        -9999999999', '  REFSYS         999999999.9 ns         +9999999999',
+                   '  MDTR           999.9 ns               9999', '  MDIO           0.7 ns                 0007',
+                   '  DSG            999.9 ns               9999')
+        self.shown(line_with([(5, '0A'), (26, '900'), (30, '3599'), (105, '99'), (108, '0Z9')]),
+                   '  CL             0A                     0A', '  ELV            90.0 degrees           900',
+                   '  AZTH           359.9 degrees          3599', '  HC             99                     99',
+                   '  FRC            0Z9')
+        self.shown(line_with([(8, '50723'), (14, '235800')]), '  start          23:58:00, second 86280 235800')
+
+    def test_constellations(self):
+        for letter, name in (('G', 'GPS'), ('E', 'Galileo'), ('C', 'BeiDou'), ('J', 'QZSS')):
+            self.shown(line_with([(1, letter)]), '  constellation  %-22s %s' % (name, letter))
+        self.shown(line_with([(1, 'R99'), (102, '24')]), '  constellation  GLONASS                R',
+                   '  satellite      99                     99', '  FR             24                     24')
+
+    def test_length(self):
+        for length in (0, 1, 112, 141, 8378):
+            self.refused(12, (line_with() + 'x' * 8378)[:length], 'it has %d bytes' % length)
+
+    def test_check(self):
+        told = 'CK, columns 112 and 113, is %s, and the columns before it give %s'
+        self.refused(14, SAMPLE_COLUMNS + '27', told % ('27', '26'))
+        self.refused(14, SAMPLE_COLUMNS + '\0\\', told % (r'\x00\x5C', '26'))
+        self.refused(14, WORKED_COLUMNS + '8c', told % ('8c', '8C'))
+
+    def test_characters(self):
+        for column, byte, what in (
+                (1, 'S', '(constellation) is S, not G, R, E, C or J'), (2, ' ', '(satellite) is a blank, not a digit'),
+                (4, '-', '(before CL) is -, not a blank'),
+                (5, 'f', '(CL) is f, not a digit or a capital letter A to F'),
+                (12, '\0', r'(MJD) is \x00, not a digit'), (35, '0', '(REFSV) is 0, not a sign'),
+                (72, '\t', r'(before DSG) is \x09, not a blank'), (100, '\xff', r'(SMDI) is \xFF, not a digit'),
+                (110, 'c', '(FRC) is c, not a capital letter or a digit'), (111, '0', '(before CK) is 0, not a blank')):
+            self.refused(13, line_with([(column, byte)]), 'column %d %s' % (column, what))
+        self.refused(13, line_with([(90, 'x'), (24, '1'), (60, ' ')]) + '\7', 'column 60 (REFSYS) is a blank, not a digit')
+        self.refused(13, line_with([(47, '-')]) + 'note\x7f', r'column 118 (comment) is \x7F, not a byte from 20 to 7E')
+        self.refused(13, line_with() + '\r', r'column 114 (comment) is \x0D, not a byte from 20 to 7E')
+
+    def test_a_minus_before_a_zero(self):
+        for column, name in ((47, 'SRSV'), (66, 'SRSYS'), (87, 'SMDT'), (97, 'SMDI')):
+            self.refused(13, line_with([(column, '-')]), 'column %d (%s) is a minus before a zero, which has a plus' % (column, name))
+        self.refused(13, line_with([(35, '-0000000000'), (54, '-0000000000')]),
+                     'column 35 (REFSV) is a minus before a zero, which has a plus')
+        self.refused(13, line_with([(54, '-0000000000'), (21, '0765')]),
+                     'column 54 (REFSYS) is a minus before a zero, which has a plus')
+
+    def test_track_length(self):
+        self.refused(13, line_with([(21, '0765')]), 'columns 21 to 24 (TRKL) are 0765, not 0780')
+
+    def test_labels(self):
+        self.refused(7, line_with([(2, '00'), (78, '256'), (102, '01'), (26, '901'), (30, '3600'), (8, '50721')]),
+                     'FR is 1, not 0 for G', 'IOE is 256, not 0 to 255 for G', 'satellite is 0, not 1 to 99',
+                     'MJD is 50721, not 50722 to 99999', 'ELV is 901, not 0 to 900', 'AZTH is 3600, not 0 to 3599')
+        self.refused(7, line_with([(1, 'R')]), 'FR is 0, not 1 to 24 for R')
+
+    def test_starts(self):
+        self.refused(8, line_with([(14, '000201')]), 'start is 121 (00:02:01)',
+                     'nearest starts of MJD 50722: before it 120 (00:02:00), after it 1080 (00:18:00)')
+        for text, columns, part, value, most in (('240200', '14 and 15', 'hour', 24, 23), ('006200', '16 and 17', 'minute', 62, 59),
+                                                 ('000160', '18 and 19', 'second', 60, 59), ('999999', '14 and 15', 'hour', 99, 23)):
+            self.refused(8, line_with([(14, text)]),
+                         'columns %s, the %s of the start, are %d, not 00 to %d' % (columns, part, value, most))
+
+    def test_files_that_can_not_be_read_or_written(self):
+        message = 'cggtts: no/such.line: No such file or directory\n'
+        self.assertEqual(run('read', 'no/such.line'), (2, b'', message))
+        status, output, errors = run('read', 'no/such.line', '-', data=WORKED_LINE)
+        self.assertEqual((status, output, errors), (2, b'-:1\n' + WORKED_SHOWN.encode(), message))
+        self.assertEqual(run('read', '-', '-', data=WORKED_LINE)[::2], (2, 'cggtts: -: standard input can be read only once\n'))
+        with open('/dev/full', 'wb') as full:
+            self.assertEqual(run('read', data=WORKED_LINE, stdout=full),
+                             (2, None, 'cggtts: standard output: No space left on device\n'))
+
+    def test_what_line_prints_is_read(self):
+        lines = run('line', SAMPLE, WORKED)[1]
+        status, output, errors = run('read', data=lines)
+        self.assertEqual((status, errors), (0, ''))
+        self.assertTrue(output.endswith(b'-:2\n' + WORKED_SHOWN.encode()))
 
 
 if __name__ == '__main__':
