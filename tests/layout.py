@@ -3,7 +3,8 @@
 
     python3 tests/layout.py
 
-tests/blocks.py has it from the paper; include/trackline.h, docs/HIRE-BLOCK.md and man/hireblock.5 must say the same.
+tests/blocks.py has it from the paper; include/trackline.h, docs/HIRE-BLOCK.md and man/hireblock.5 must say the same. The
+header's places of a line's values are those of what trackline_line is given.
 """
 import pathlib
 import re
@@ -34,8 +35,15 @@ def wrong_in_header(text):
     wanted.update({'IN_GROUP_' + name: at for name, (at, _) in in_group().items()})
     wanted.update({'WIDTH_' + name: width for name, (at, width) in paper().items() if at < 26})
     wanted.update({'WIDTH_PS': 8, 'WIDTH_GROUP': 40, 'MEASUREMENTS': 780, 'GROUPS': 52, 'BLOCK_BYTES': LENGTH,
-                   'LINE_BYTES': 113})
+                   'LINE_BYTES': 113, 'LONGEST_LINE': 140})
     return sorted(set(wanted.items()) ^ set(found.items()))
+
+
+def wrong_in_values(text):
+    given = re.search(r'trackline_line\((.*?)\);', text, re.S).group(1)
+    names = [name.upper() for name in re.findall(r' (\w+)(?:,|$)', given)][:23]
+    found = re.findall(r'(?m)^    TRACKLINE_VALUE_(\w+),$', text)
+    return [] if found == names and len(found) == 23 else [('values', found)]
 
 
 def number(text):
@@ -58,7 +66,8 @@ def wrong_in_rows(rows):
 def main():
     read = lambda name: (ROOT / name).read_text()  # noqa: E731
     faults = {
-        'include/trackline.h': wrong_in_header(read('include/trackline.h')),
+        'include/trackline.h': [part for wrong in (wrong_in_header, wrong_in_values)
+                                for part in wrong(read('include/trackline.h'))],
         'docs/HIRE-BLOCK.md': wrong_in_rows(re.findall(r'(?m)^\| ([\d-]+) \| ([^|]+) \| `(\w+)` \|',
                                                        read('docs/HIRE-BLOCK.md'))),
         'man/hireblock.5': wrong_in_rows(re.findall(r'(?m)^([\d\\-]+)\t([^\t]+)\t([A-Z_]+)\t',

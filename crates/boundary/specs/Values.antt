@@ -19,29 +19,9 @@ rowAfter answer values lent = cond (eqb answer 0) (values ++ drop (length values
 -- The 23 values of a line: its labels, in the order of the hire block, and its ten numbers.
 abbrev pub valuesOf : Labels → Numbers → List ℤ
 valuesOf l n =
-    pos (l .constellation)
-    ∷ pos (l .satellite)
-    ∷ pos (l .cl)
-    ∷ pos (l .fr)
-    ∷ pos (l .hc)
-    ∷ pos (l .frc1)
-    ∷ pos (l .frc2)
-    ∷ pos (l .frc3)
-    ∷ pos (l .mjd)
-    ∷ pos (l .start)
-    ∷ pos (l .elv)
-    ∷ pos (l .azth)
-    ∷ pos (l .ioe)
-    ∷ n .refsv
-    ∷ n .srsv
-    ∷ n .refsys
-    ∷ n .srsys
-    ∷ n .mdtr
-    ∷ n .smdt
-    ∷ n .mdio
-    ∷ n .smdi
-    ∷ n .dsg
-    ∷ n .trkl
+    pos (l .constellation) ∷ pos (l .satellite) ∷ pos (l .cl) ∷ pos (l .fr) ∷ pos (l .hc) ∷ pos (l .frc1) ∷ pos (l .frc2) ∷ pos (l .frc3)
+    ∷ pos (l .mjd) ∷ pos (l .start) ∷ pos (l .elv) ∷ pos (l .azth) ∷ pos (l .ioe)
+    ∷ n .refsv ∷ n .srsv ∷ n .refsys ∷ n .srsys ∷ n .mdtr ∷ n .smdt ∷ n .mdio ∷ n .smdi ∷ n .dsg ∷ n .trkl
     ∷ []
 
 -- The reader's refusals, then 9 where fewer than 23 places are lent. `room` is their number.

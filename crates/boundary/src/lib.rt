@@ -1,5 +1,6 @@
 // Every function that C calls, with numbers and slices of them, and nothing else: the start test, Line, Block and the reader. Each is one
-// call, and its contract is that call's. include/trackline.h declares them; the archive is made of this crate.
+// call, and its contract is that call's; what the reader hands back goes to a lent row. include/trackline.h declares them; the archive is
+// made of this crate.
 ghost use mathlib.Core.Path.{_≡_};
 ghost use lib.ListN.{length};
 ghost use Rattle.schedule.specs.Schedule.{startRule};

@@ -13,7 +13,7 @@ use Rattle.limits.specs.Refusal.{_when_, _then_}
 use Rattle.limits.specs.Limits.{outside, beyond, limitsRule, dsgRule}
 use Rattle.limits.proofs.Laws.{then-zero, then-refused, then-passed, then-assoc, when-zero, or-false, within-magnitude}
 use Rattle.limits.specs.Reply.{Reply, reply}
-use Rattle.limits.proofs.Replies.{reply-accepted, reply-refused, reply-number}
+use Rattle.limits.proofs.Replies.{reply-accepted, reply-refused, reply-number, reply-values as reply-told}
 use Rattle.schedule.specs.Schedule.{startRule}
 use Rattle.fields.specs.Read.{readDecimal, readSigned}
 use Rattle.labels.specs.declared.Labels.{Labels}
@@ -224,10 +224,8 @@ module _ (line : List ℕ) where
   pub accepted-values : {r : Reading} {labels : Labels} {numbers : Numbers} → r ≡ Reading.Line labels numbers → readReply r ≡ readRule line
       → (labels ≡ readLabels line) × (numbers ≡ readNumbers line)
   unfolding readRule
-  accepted-values {r} {labels} {numbers} e a =
-      let p : _≡_ {A = Labels × Numbers} (labels, numbers) (readLabels line, readNumbers line) =
-      sym (ap (λ (t : Reading). readReply t .values) e)
-      ∙ ap (λ (t : Reply (Labels × Numbers)). t .values) (a ∙ reply-accepted _ _ (accepted-case e a)) in
+  accepted-values e a =
+      let p = reply-told (noLabels, noNumbers) (readLabels line, readNumbers line) (readNumber line) (sym (ap readReply e) ∙ a) .1 in
       (ap (λ (t : Labels × Numbers). t .0) p, ap (λ (t : Labels × Numbers). t .1) p)
 
   -- ---- the offset of the comment
