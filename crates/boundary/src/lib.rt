@@ -109,13 +109,11 @@ pub extern "C" fn trackline_read(line: &[u8], lent: &mut [i64]) -> u32
     ensures written { λ _. ⌜ now (lent .exit) ≡ readAfter (now (line .entry)) (now (lent .entry)) ⌝ }
 {
     let reading = reader::read(line);
-    match reading {
-        Reading::Refused(number) => number,
-        Reading::Line { labels, numbers } => {
-            let row = values::values(labels, numbers);
-            values::put(&row, lent)
-        }
-    }
+    let Reading::Line { labels, numbers } = reading else {
+        return values::reading_number(reading);
+    };
+    let row = values::values(labels, numbers);
+    values::put(&row, lent)
 }
 
 // Where the comment begins: what is left of the line before it.

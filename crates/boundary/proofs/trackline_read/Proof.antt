@@ -1,6 +1,9 @@
 -- `boundary::trackline_read` meets its contract: the case of the reading tells the answer and what is put.
 -- Assumes nothing.
+use mathlib.Core.Path.{ap, _∙_}
 use native.Mathlib.Omega.{arith}
+use Rattle.reader.specs.declared.Reading.{Reading}
+use Rattle.reader.specs.Answers.{readReply}
 use Rattle.reader.proofs.Refusals.{accepted-case, accepted-values, refused-case, refused-number}
 use Rattle.boundary.proofs.Rows.{refused-is, read-is}
 use borrow.Author.Needs.{needs}
@@ -13,8 +16,11 @@ read-requires c κs = search needs
 enum-known-reading : tie.Need-enum-known-reading
 enum-known-reading c = search needs
 
-enum-known-reading-2 : tie.Need-enum-known-reading-2
-enum-known-reading-2 c = search needs
+enum-told : tie.Need-enum-told
+enum-told c = search needs
+
+reading-number-requires : tie.Need-reading-number-requires
+reading-number-requires c κs = search needs
 
 values-requires : tie.Need-values-requires
 values-requires c κs = search needs
@@ -29,8 +35,8 @@ returns : tie.Need-returns
 returns c =
     let at = c .before .before .before in
     let a = at .before .before .args in
-    let e = c .before .reading .given .1 in
-    let number = refused-number (a .line .now) e (at .read .ensures .0) in
+    let e = c .before .enum-told .given .1 in
+    let number = c .reading-number .ensures ∙ ap (λ (r : Reading). readReply r .number) e ∙ refused-number (a .line .now) e (at .read .ensures .0) in
     let some = refused-case (a .line .now) e (at .read .ensures .0) (at .read .ensures .1) in
     refused-is (a .line .now) (a .lent .now) number (omega arith)
 
@@ -44,7 +50,7 @@ returns-2 c =
     let told = values .before in
     let at = told .before .before .before in
     let a = at .before .before .args in
-    let e = told .before .reading2 .given .1 in
+    let e = told .before .reading .given .1 in
     let v = accepted-values (a .line .now) e (at .read .ensures .0) in
     read-is (a .line .now) (a .lent .now) (accepted-case (a .line .now) e (at .read .ensures .0)) (v .0) (v .1)
     (values .values .ensures) (put .ensures .0) (put .ensures .1)
@@ -55,10 +61,11 @@ trackline-read-spec =
     (tie.spec
     read-requires
     enum-known-reading
-    enum-known-reading-2
+    enum-told
+    reading-number-requires
+    returns
     values-requires
     slice-aggregate-put
     put-requires
-    returns
     same-length
     returns-2)
