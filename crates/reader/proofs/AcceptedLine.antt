@@ -158,7 +158,7 @@ answer-zero l n room e h = simp (e, le-ltb room lineLength h)
 
 -- ---- the theorems
 
--- Columns 1 to 113 of an accepted line are what Line would write for the labels and numbers read.
+-- The 113 columns of an accepted line are the text of what was read from them.
 pub accepted-columns : (line : List ℕ) → readNumber line ≡ 0 → take lineLength line ≡ lineText (readLabels line) (readNumbers line)
 accepted-columns line e = let a = accepted line e in sym (text-is line (a .0) (a .1))
 

@@ -23,7 +23,7 @@ use Rattle.labels.specs.Content.{contentRule}
 use Rattle.columns.specs.Text.{lineLength}
 use Rattle.columns.specs.Columns.{field, readLabels, readNumbers}
 use Rattle.reader.specs.Kinds.{kinds, allowed, printable, checked}
-use Rattle.reader.specs.Read.{signedFields, minusZero, lengthDiffers, clockBeyond, charactersNumber, valuesNumber, readNumber, noLabels, noNumbers, readRule, commentOffset}
+use Rattle.reader.specs.Read.{signedFields, minusZero, trackLengthDiffers, clockBeyond, charactersNumber, valuesNumber, readNumber, noLabels, noNumbers, readRule, commentOffset}
 use Rattle.reader.specs.declared.Reading.{Reading}
 use Rattle.reader.specs.Answers.{readReply, readNumbered}
 use Rattle.reader.specs.Fields.{Digits, Signed}
@@ -61,7 +61,7 @@ spelled-zero line s =
 
 pub record Valued (line : List ℕ) : Type 0 where
   pub minus : minusZero signedFields line ≡ false
-  pub trkl : lengthDiffers line ≡ false
+  pub trkl : trackLengthDiffers line ≡ false
   pub labels : labelsFit (readLabels line) ≡ true
   pub start : startRule (readLabels line .mjd) (readLabels line .start) ≡ 0
   pub clock : clockBeyond line ≡ false
@@ -143,13 +143,13 @@ module _ (line : List ℕ) (e : allowed kinds line ≡ true) where
 
   -- ---- what is left of Line's refusals of the content
 
-  length-inside : lengthDiffers line ≡ false → outside (pos trackLength) (pos trackLength) (readNumbers line .trkl) ≡ false
-  unfolding lengthDiffers readNumbers
+  length-inside : trackLengthDiffers line ≡ false → outside (pos trackLength) (pos trackLength) (readNumbers line .trkl) ≡ false
+  unfolding trackLengthDiffers readNumbers
   length-inside d =
       let k = eqb-true (readDecimal (field 21 24 line)) 780 (not-false _ d) in
       natural-inside 780 780 (readDecimal (field 21 24 line)) (omega arith) (omega arith)
 
-  pub content-is : lengthDiffers line ≡ false
+  pub content-is : trackLengthDiffers line ≡ false
       → contentRule (readLabels line) (readNumbers line) ≡ 7 when not (labelsFit (readLabels line)) then startRule (readLabels line .mjd) (readLabels line .start)
   unfolding contentRule
   content-is d = simp (length-inside d, limits-zero, dsg-zero, or-none, then-none)
@@ -172,12 +172,12 @@ module _ (line : List ℕ) (e : allowed kinds line ≡ true) where
   differs = refl
 
   pub values-row : 13 when minusZero signedFields line
-      then 13 when lengthDiffers line
+      then 13 when trackLengthDiffers line
       then contentRule (readLabels line) (readNumbers line)
       then 8 when clockBeyond line
       ≡ valuesNumber line
   unfolding valuesNumber
-  values-row = elim (lengthDiffers line) as (λ t. lengthDiffers line ≡ t → Row t) [
+  values-row = elim (trackLengthDiffers line) as (λ t. trackLengthDiffers line ≡ t → Row t) [
     | true ↦ λ d. differs
     | false ↦ λ d. ap (λ (n : ℕ). 13 when minusZero signedFields line then 13 when false then n then 8 when clockBeyond line) (content-is d)
         ∙ ap (λ (n : ℕ). 13 when minusZero signedFields line then 13 when false then n) (then-assoc _ _ _)

@@ -1,4 +1,4 @@
--- A line that Line wrote reads to the same labels and numbers (document 02, Job 1), with any allowed comment behind it.
+-- What Line wrote is read back whole (document 02, Job 1), whatever comment may stand behind it.
 -- Assumes nothing.
 use mathlib.Core.Path.{_≡_, refl, sym, ap, ap₂, _∙_}
 use mathlib.Core.Bool.{true, false, not, _&&_}
@@ -11,7 +11,9 @@ use lib.IntN.{ℤ, pos, negsuc, natAbs}
 use lib.ListN.{length, take, drop, getD, length-append, length-drop}
 use lib.Seq.{take-at, drop-at, getD-drop, getD-take}
 use borrow.Author.Tests.{le-ltb, eq-eqb}
+use Rattle.limits.specs.Reply.{Reply}
 use Rattle.limits.proofs.Laws as limits
+use Rattle.limits.proofs.Replies.{reply-number}
 use Rattle.schedule.specs.Schedule.{startRule}
 use Rattle.schedule.proofs.Minutes as schedule
 use Rattle.fields.specs.Text.{bytesOf, decimal, sign, signed, hexDigit, hexadecimal, checksum}
@@ -29,9 +31,9 @@ use Rattle.line.proofs.Accepted.{Accepted, accepted, after-is}
 use Rattle.line.proofs.Sample as sample
 use Rattle.line.proofs.ReadBack.{numbers-back, labels-back}
 use Rattle.reader.specs.Kinds.{printable, checked}
-use Rattle.reader.specs.Read.{signedFields, isMinusZero, minusZero, lengthDiffers, clockBeyond, readRule}
+use Rattle.reader.specs.Read.{signedFields, isMinusZero, minusZero, trackLengthDiffers, clockBeyond, readNumber, noLabels, noNumbers, readRule, commentOffset}
 use Rattle.reader.proofs.Columns.{columns-of, field-length}
-use Rattle.reader.proofs.Refusals.{Spelled, Valued, accepted-zero, reply-line}
+use Rattle.reader.proofs.Refusals.{Spelled, Valued, accepted-zero, reply-line, offset-accepted}
 use Rattle.reader.proofs.AcceptedLine.{time-joined, answer-zero}
 use Rattle.reader.proofs.Writing.{columns-allowed}
 
@@ -129,8 +131,8 @@ module _ (l : Labels) (n : Numbers) (comment : List ℕ) (a : Accepted l n lineL
         sign-fits-in 97 3 (n .smdi) (column-at (columns-sized l n) 16 (lit< tt) behind) (ap (λ (m : Numbers). m .smdi) numbers-are),
       )
 
-  length-fits : lengthDiffers line ≡ false
-  unfolding lengthDiffers readNumbers
+  length-fits : trackLengthDiffers line ≡ false
+  unfolding trackLengthDiffers readNumbers
   length-fits =
       let t = limits.natural-within trackLength trackLength (n .trkl) (a .trkl) in
       let r = ap (λ (m : Numbers). natAbs (m .trkl)) numbers-are in
@@ -177,6 +179,15 @@ pub text-reads-back : (l : Labels) (n : Numbers) (comment : List ℕ) → conten
     → readRule (lineText l n ++ comment) ≡ record { number = 0; values = (l, n) }
 text-reads-back l n comment e cl p few =
     reply-is l n comment (accepted l n lineLength (answer-zero l n lineLength e (le-refl lineLength))) cl p few
+
+-- And the comment is the one that is handed back.
+pub written-comment : (l : Labels) (n : Numbers) (comment : List ℕ) → contentRule l n ≡ 0 → l .cl < 256 → printable comment ≡ true → length comment ≤ 27
+    → let line = lineText l n ++ comment in drop (commentOffset line) line ≡ comment
+unfolding readRule
+written-comment l n comment e cl p few =
+    let line = lineText l n ++ comment in
+    let zero : readNumber line ≡ 0 = sym (reply-number (noLabels, noNumbers) (readLabels line, readNumbers line) (readNumber line)) ∙ ap (λ (r : Reply (Labels × Numbers)). r .number) (text-reads-back l n comment e cl p few) in
+    ap (λ (k : ℕ). drop k line) (offset-accepted line zero) ∙ drop-at (lineText l n) comment lineLength (line-width l n)
 
 -- A lent line in which Line wrote reads to what was written, where it is at most 140 bytes long and what stands behind the columns may be a comment.
 pub written-reads-back : (l : Labels) (n : Numbers) (lent : List ℕ) → lineAnswer l n (length lent) ≡ 0 → l .cl < 256 → length lent ≤ 140

@@ -33,8 +33,8 @@ minusZero ((first, last) ∷ fields) line =
     isMinusZero (byteIn first line) (readSigned (field first last line)) || minusZero fields line
 
 -- The track length is not 0780.
-unfoldable pub lengthDiffers : List ℕ → Bool
-lengthDiffers line = not (eqb (readDecimal (field 21 24 line)) trackLength)
+unfoldable pub trackLengthDiffers : List ℕ → Bool
+trackLengthDiffers line = not (eqb (readDecimal (field 21 24 line)) trackLength)
 
 -- An hour above 23, or a minute or a second above 59.
 unfoldable pub clockBeyond : List ℕ → Bool
@@ -55,7 +55,7 @@ charactersNumber columns longest kinds line =
 unfoldable pub valuesNumber : List ℕ → ℕ
 valuesNumber line =
     13 when minusZero signedFields line
-    then 13 when lengthDiffers line
+    then 13 when trackLengthDiffers line
     then 7 when not (labelsFit (readLabels line))
     then startRule (readLabels line .mjd) (readLabels line .start)
     then 8 when clockBeyond line

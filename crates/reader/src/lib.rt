@@ -1,6 +1,6 @@
 // The reader: what stands in a data line. It takes any bytes and answers the labels and the ten numbers of the line, or the number of its
 // first refusal, in the order of document 02, Job 1: 12 for the length, 14 for CK, 13 for a character that is not allowed in its column,
-// 7 for labels and 8 for starts that Line would refuse. The comment behind the columns is had by a call of its own.
+// 7 for labels and 8 for starts that Line would refuse. A second function gives the comment behind the columns.
 ghost use mathlib.Core.Bool.{true};
 ghost use mathlib.Core.Path.{_≡_};
 ghost use Rattle.columns.specs.Columns.{readLabels, readNumbers};

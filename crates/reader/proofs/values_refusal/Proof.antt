@@ -12,7 +12,7 @@ use Rattle.limits.specs.Refusal.{_when_, _then_}
 use Rattle.limits.specs.declared.Numbers.{Numbers}
 use Rattle.labels.specs.Content.{contentRule}
 use Rattle.columns.specs.Columns.{readNumbers}
-use Rattle.reader.specs.Read.{lengthDiffers}
+use Rattle.reader.specs.Read.{trackLengthDiffers}
 use Rattle.reader.proofs.Refusals.{values-row}
 use borrow.Author.Needs.{needs}
 use Rattle.reader.proofs.values_refusal.Statement.{statement}
@@ -52,7 +52,7 @@ trkl-fits : (c : tie.Start) → SFits w64 (c .args .numbers .trkl)
 trkl-fits c = search needs
 
 returns : tie.Need-returns
-unfolding lengthDiffers readNumbers
+unfolding trackLengthDiffers readNumbers
 returns c =
     let clock = c .before .before .before in
     let label = clock .before .before in
