@@ -45,7 +45,7 @@ doctored record
 ! tests/bench.sh true crates/bench/stdin >"$scratch/wrong" 2>&1 || fail 'bench passes with nothing printed'
 
 # speed and instructions name the parts as docs/SPEED.md does
-sed -n 's/^    stage("\([^"]*\)".*/\1/p' tests/speed/src/stages.rs >"$scratch/parts"
+sed -n 's/^    stage("\([^"]*\)".*/\1/p' tests/speed/src/stages.rs tests/speed/src/read_stages.rs >"$scratch/parts"
 sed -n '/^| Part |/,/^| all |/s/^| \([a-z][^|]*\) |.*/\1/p' docs/SPEED.md | grep -vx all | cmp - "$scratch/parts" ||
     fail 'the parts of docs/SPEED.md are not those of tests/speed'
 
