@@ -17,6 +17,9 @@
 /* Exit statuses. Of several files the greatest counts. */
 enum { ACCEPTED = 0, REFUSED = 1, FAILED = 2 };
 
+/* The schedule's dates, for messages. */
+enum { FIRST_MJD = 50722, LAST_MJD = 99999 };
+
 /* The bytes of a file. */
 struct bytes {
     uint8_t *at;
@@ -58,5 +61,6 @@ void explain_start(const uint8_t *block);
 /* The subcommands. Each takes what main was given from its own name on, and answers the exit status. */
 int line_command(int argc, char **argv);
 int check_command(int argc, char **argv);
+int starts_command(int argc, char **argv);
 
 #endif

@@ -26,7 +26,8 @@ OURS = dict(CL='{:02X}', MJD='{:05d}', STTIME='{:06d}', TRKL='{:04d}', ELV='{:03
 WIDTHS = dict(SAT=3, CL=2, MJD=5, STTIME=6, TRKL=4, ELV=3, AZTH=4, REFSV=11, SRSV=6, REFSYS=11, SRSYS=6, DSG=4, IOE=3,
               MDTR=4, SMDT=4, MDIO=4, SMDI=4)
 HEADER = """# Made by expected.py from published.txt. For each published line: Line's answer and the columns in our
-# form, as published and with what is put in. A line is written where the answer is 0.
+# form, as published and, where another date, start or length is put in, with that. A line is written where the answer
+# is 0.
 """
 
 
@@ -61,7 +62,7 @@ def text(fields):
 
 def starts(mjd):
     """The seconds of that day at which a track starts."""
-    return {(120 + 960 * k - 240 * (mjd - 50722)) % 86400 for k in range(89)}
+    return {60 * ((2 + 16 * k - 4 * (mjd - 50722)) % 1436) for k in range(89)}
 
 
 def answer(fields):
@@ -88,25 +89,25 @@ def answer(fields):
 
 
 def forms():
-    """Name, fields as published and fields with what is put in."""
+    """Name and forms of each line: its fields as published, and where they are others with what is put in."""
     for name, fields, put in read():
         published = completed(fields, put)
-        yield name, published, {**published, **put}
+        given = {**published, **put}
+        yield name, {'published': published, **({'put in': given} if given != published else {})}
 
 
 def expected():
-    def row(fields):
-        return '%d  %s' % (answer(fields), text(fields))
+    def row(kind, fields):
+        return '  %s%d  %s\n' % (kind.ljust(11), answer(fields), text(fields))
 
-    records = ['%s\n  published  %s\n  put in     %s\n' % (name, row(published), row(given))
-               for name, published, given in forms()]
+    records = [name + '\n' + ''.join(row(*form) for form in kinds.items()) for name, kinds in forms()]
     return HEADER + '\n' + ''.join(records)
 
 
 def lines():
     """The cases of Line for the program bench: name, line and answer."""
-    for name, published, given in forms():
-        for kind, fields in ('published', published), ('put in', given):
+    for name, kinds in forms():
+        for kind, fields in kinds.items():
             yield '%s %s' % (name, kind), text(fields), answer(fields)
 
 
@@ -127,12 +128,14 @@ def misfits():
 
 def counts():
     """What docs/TRUST.md says of the published lines and of bench. A name that ends in a letter is a line once more."""
-    names, cases, technician = [name for name, _, _ in read()], len(list(lines())), len(bench.TECHNICIAN)
+    names, cases, technician = [name for name, _ in forms()], len(list(lines())), len(bench.TECHNICIAN)
     again = sum(name[-1].isalpha() for name in names)
-    assert cases == 2 * len(names) and again == 1
-    return ('%d lines, each as published and with a legal date, one of them with a legal length too: %d cases' % (
-                len(names) - again, cases),
-            '%d cases: %d of document 01, %d of published lines; 0 wrong' % (technician + cases, technician, cases))
+    old = [name for name, kinds in forms() if 'put in' in kinds]
+    whole = [name for name, _, answer in lines() if name.endswith(' published') and answer == 0]
+    assert again == 1 and all(name.startswith('004.') for name in old) and len(whole) + len(old) == len(names)
+    return ('%d lines as published, %d of them accepted whole; the %d of document 004 with a legal date too, one of them '
+            'with a legal length: %d cases' % (len(names) - again, len(whole), len(old) - again, cases),
+            '%d cases: %d of documents 01 and 02, %d of published lines; 0 wrong' % (technician + cases, technician, cases))
 
 
 def check():

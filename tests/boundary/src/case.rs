@@ -27,7 +27,7 @@ pub fn place(j: usize) -> i64 {
 pub fn a_start(seeded: &mut Seeded, mjd: u32) -> u32 {
     let i = seeded.range(1, 89);
     let days_on = i64::from(mjd) - i64::from(FIRST_MJD);
-    60 * (2 + 16 * (i - 1) - 4 * days_on).rem_euclid(1440) as u32
+    60 * (2 + 16 * (i - 1) - 4 * days_on).rem_euclid(1436) as u32
 }
 
 fn issues(constellation: u8) -> (i64, i64) {

@@ -44,10 +44,13 @@ fn one_faulty(compare: &mut Compare, seeded: &mut Seeded, faults: &[Fault]) {
     compare.faults("line", &LINE_ORDER, &numbers, answer);
 }
 
-/// The lines printed in the format documents.
+/// The lines printed in the format documents: those of documents 000 and 003 are accepted as they are printed.
 fn printed(compare: &mut Compare) {
     for case in published() {
-        for (labels, numbers) in [&case.printed, &case.put_in] {
+        let (labels, numbers) = &case.printed;
+        let answer = compare.line(case.name, labels, numbers, Lent::Bytes(113));
+        assert_eq!(answer, if case.name.starts_with("004") { 7 } else { 0 }, "{}", case.name);
+        for (labels, numbers) in [&case.printed].into_iter().chain(&case.put_in) {
             for lent in [Lent::Null, Lent::Bytes(0), Lent::Bytes(112), Lent::Bytes(113), Lent::Bytes(114)] {
                 compare.line(case.name, labels, numbers, lent);
             }

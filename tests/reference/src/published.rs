@@ -9,11 +9,11 @@ const NAMES: [&str; 21] = [
     "SMDT", "MDIO", "SMDI", "FR", "HC", "FRC", "CK",
 ];
 
-/// A published line as printed and with what is put in.
+/// A published line as printed and, where another date, start or length is put in, with that.
 pub struct Published {
     pub name: &'static str,
     pub printed: (Labels, Numbers),
-    pub put_in: (Labels, Numbers),
+    pub put_in: Option<(Labels, Numbers)>,
 }
 
 type Fields = BTreeMap<&'static str, &'static str>;
@@ -30,9 +30,10 @@ fn read(row: &'static str) -> Published {
     let put: Fields = put.split_whitespace().map(|word| word.split_once('=').expect("name=value")).collect();
     let missing = put.iter().filter(|(name, _)| fields[*name] == "-" || **name == "SAT").collect::<Vec<_>>();
     fields.extend(missing);
-    let printed = numbers_of(&fields);
+    let as_printed = fields.clone();
     fields.extend(put);
-    Published { name, printed, put_in: numbers_of(&fields) }
+    let put_in = (fields != as_printed).then(|| numbers_of(&fields));
+    Published { name, printed: numbers_of(&as_printed), put_in }
 }
 
 fn numbers_of(fields: &Fields) -> (Labels, Numbers) {

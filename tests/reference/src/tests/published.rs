@@ -62,11 +62,16 @@ fn published_lines() {
     let all = published();
     assert_eq!(all.len(), 45);
     for case in &all {
-        let (answer, text) = expected(case.name, "put in");
-        check(case.name, &case.put_in, answer, text);
-        assert_eq!(answer, if case.name == "004.3" { 7 } else { 0 });
+        // the dates of document 004 lie before the schedule's first
+        let old = case.name.starts_with("004");
         let (answer, text) = expected(case.name, "published");
         check(case.name, &case.printed, answer, text);
-        assert_eq!(answer, if case.name.starts_with("004") { 7 } else { 8 });
+        assert_eq!(answer, if old { 7 } else { 0 });
+        assert_eq!(case.put_in.is_some(), old);
+        if let Some(put_in) = &case.put_in {
+            let (answer, text) = expected(case.name, "put in");
+            check(case.name, put_in, answer, text);
+            assert_eq!(answer, if case.name == "004.3" { 7 } else { 0 });
+        }
     }
 }
