@@ -101,7 +101,7 @@ fn starts(mjd: u32) -> Vec<u32> {
     (0..1440).filter(|minute| start(mjd, 60 * minute) == 0).collect()
 }
 
-/// The file of MJD 56842 in document 003 begins at 00:14, 00:30, 00:46 and 01:02; that of MJD 57000 in document 000 at 00:06.
+/// Document 003 prints tracks of MJD 56842 at 00:14, 00:30, 00:46 and 01:02, document 000 of MJD 57000 at 00:06.
 #[test]
 fn starts_of_the_published_files() {
     assert_eq!(starts(56842)[..4], [14, 30, 46, 62]);
