@@ -4,7 +4,7 @@
 # make beside        the tests without the proofs from nothing
 # make proofs        the proofs from nothing (rt ci)
 # make bench         the technician's cases and the published lines: what each gave and what it should be
-# make speed         the proved library beside the plain Rust implementation, on the same blocks
+# make speed         the proved library beside the plain Rust implementation, on the same blocks and lines
 # make instructions  the instructions of both, part by part, with valgrind
 # make fuzz          a bounded fuzz run over the C boundary, with clang: make fuzz SECONDS=120
 # make program       trackline, proved: target/bin/trackline

@@ -5,8 +5,9 @@ use std::path::{Path, PathBuf};
 fn main() {
     println!("cargo:rerun-if-env-changed=LINE_ARCHIVE");
     let root = Path::new(env!("CARGO_MANIFEST_DIR")).join("../..");
-    let archive =
-        std::env::var_os("LINE_ARCHIVE").map(PathBuf::from).unwrap_or_else(|| root.join("target/staticlib/libboundary.a"));
+    let archive = std::env::var_os("LINE_ARCHIVE")
+        .map(PathBuf::from)
+        .unwrap_or_else(|| root.join("target/staticlib/libboundary.a"));
     println!("cargo:rerun-if-changed={}", archive.display());
     let Ok(archive) = archive.canonicalize() else {
         eprintln!("no archive at {}: run `make archive`, or set LINE_ARCHIVE to its path", archive.display());

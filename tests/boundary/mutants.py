@@ -3,9 +3,9 @@
 
     python3 tests/boundary/mutants.py [WORD..]     all, or those whose name has one of the words
 
-For each mutant the plain Rust implementation is copied, made wrong in one way, built as an archive with the three C
+For each mutant the plain Rust implementation is copied, made wrong in one way, built as an archive with the C
 functions, and put in the place of the proved one. The boundary test must then fail. The first archive is made without
-an edit, and must pass. Everything is built in a folder of its own. It takes about eight minutes and is no part of
+an edit, and must pass. Everything is built in a folder of its own. It takes about ten minutes and is no part of
 `make test`.
 """
 import os
@@ -33,7 +33,7 @@ use reference::{Labels, Numbers};
 unsafe fn bytes<'a>(at: *const u8, len: usize) -> &'a [u8] {
     if at.is_null() { &[] } else { std::slice::from_raw_parts(at, len) }
 }
-unsafe fn lent<'a>(at: *mut u8, len: usize) -> &'a mut [u8] {
+unsafe fn lent<'a, T>(at: *mut T, len: usize) -> &'a mut [T] {
     if at.is_null() { &mut [] } else { std::slice::from_raw_parts_mut(at, len) }
 }
 #[no_mangle]
@@ -57,6 +57,15 @@ pub unsafe extern "C" fn trackline_line(
 pub unsafe extern "C" fn trackline_start(mjd: u32, second: u32) -> u32 {
     reference::start(mjd, second)
 }
+#[no_mangle]
+pub unsafe extern "C" fn trackline_read(line: *const u8, line_len: usize, values: *mut i64, values_len: usize) -> u32 {
+    reference::read_values(bytes(line, line_len), lent(values, values_len))
+}
+#[no_mangle]
+pub unsafe extern "C" fn trackline_comment(line: *const u8, line_len: usize) -> usize {
+    let line = bytes(line, line_len);
+    line.len() - reference::comment(line).len()
+}
 '''
 RESIDUAL = 'let residual = nearest(46852 * v - 901 * s - place(j) * t, 46852);'
 SQUARE = 'q += i128::from(residual) * i128::from(residual);'
@@ -65,6 +74,11 @@ COPY = 'lent[..LINE_BYTES].copy_from_slice(&line_text(labels, numbers));'
 JUDGED = 'if let Err(refusal) = judge(labels, numbers, lent.len()) {'
 LABELS = 'if !labels.in_range() || numbers.trkl != 780 {'
 SIZES = 'u16_at(block, 0) != SECONDS as u16 || u16_at(block, 2) != BLOCKS as u16'
+CHECK = 'if !checked(columns) {'
+CHARACTERS = 'if !characters_fit(columns, comment) {'
+CLOCK = 'hour <= 23 && minute <= 59 && second <= 59 && start(labels.mjd, labels.start) == 0'
+FEW = 'if lent.len() < VALUES {'
+VALUES = 'lent[..VALUES].copy_from_slice(&values(&labels, &numbers));'
 # name, then file, text and what to write for it, as often as needed
 MUTANTS = [
     # what the paper calls plausible and wrong
@@ -234,6 +248,60 @@ MUTANTS = [
     ('columns for groups', 'block.rs', '40 * j + 8 * which', '8 * j + 416 * which'),
     ('ELV and AZTH exchanged', 'block.rs', 'elv: u16_at(block, 20)', 'elv: u16_at(block, 22)',
      'block.rs', 'azth: u16_at(block, 22)', 'azth: u16_at(block, 20)'),
+    # a line read back: lengths and checksum
+    ('length 141 read', 'reader.rs', 'usize = 140', 'usize = 141'),
+    ('length 140 not read', 'reader.rs', 'usize = 140', 'usize = 139'),
+    ('CK in small letters', 'reader.rs', 'field(columns, (112, 113)) == [DIGITS[usize::from(sum >> 4)],',
+     'field(columns, (112, 113)).to_ascii_uppercase() == [DIGITS[usize::from(sum >> 4)],'),
+    ('CK by its second digit', 'reader.rs', 'field(columns, (112, 113)) == [DIGITS[usize::from(sum >> 4)],',
+     'field(columns, (112, 113)) == [columns[111],'),
+    ('CK read of columns 1 to 110', 'reader.rs', 'columns[..111].iter().fold', 'columns[..110].iter().fold'),
+    # characters
+    ('blank read as a zero', 'reader.rs', "b'd' => byte.is_ascii_digit()",
+     "b'd' => byte.is_ascii_digit() || byte == b' '", 'reader.rs', "digit - b'0')", 'digit & 15)'),
+    ('small letters in CL', 'reader.rs', "b'0'..=b'9' | b'A'..=b'F')", "b'0'..=b'9' | b'A'..=b'F' | b'a'..=b'f')",
+     'reader.rs', "digit - b'A' + 10", "digit.to_ascii_uppercase() - b'A' + 10"),
+    ('minus before a zero read', 'reader.rs', "field[0] == b'-' &&", 'false &&'),
+    ('minus before a zero of SMDI read', 'reader.rs', '!SIGNED.iter().any', '!SIGNED[..5].iter().any'),
+    ('minus before one digit of zero', 'reader.rs', 'field[1..].iter().all', 'field[1..].iter().take(1).all'),
+    ('comment byte 7F', 'reader.rs', '0x20..=0x7E', '0x20..=0x7F'),
+    ('comment byte 1F', 'reader.rs', '0x20..=0x7E', '0x1F..=0x7E'),
+    ('last comment byte not looked at', 'reader.rs', 'comment.iter().all(', 'comment.iter().take(26).all('),
+    ('any track length read', 'reader.rs', 'dddddd 0780 ddd', 'dddddd dddd ddd'),
+    ('small letters in FRC as a label', 'reader.rs', "b'c' => byte.is_ascii_digit() || byte.is_ascii_uppercase()",
+     "b'c' => byte.is_ascii_alphanumeric()"),
+    # labels and clock
+    ('24:02:00 for 00:02:00', 'reader.rs', CLOCK,
+     'hour <= 24 && minute <= 59 && second <= 59 && start(labels.mjd, labels.start % 86400) == 0'),
+    ('00:62:00 for 01:02:00', 'reader.rs', CLOCK, 'hour <= 23 && second <= 59 && start(labels.mjd, labels.start) == 0'),
+    ('00:01:60 for 00:02:00', 'reader.rs', CLOCK, 'hour <= 23 && minute <= 59 && start(labels.mjd, labels.start) == 0'),
+    ('labels not looked at', 'reader.rs', 'if !labels.in_range() {', 'if labels.mjd < 50722 {'),
+    # order
+    ('13 before 14', 'reader.rs', CHECK, CHARACTERS + ' return Err(13); }\n    ' + CHECK),
+    ('7 before 13', 'reader.rs', CHARACTERS,
+     'if &columns[1..3] == b"00" { return Err(7); }\n    ' + CHARACTERS),
+    ('track length as a label', 'reader.rs', CHARACTERS,
+     'if &columns[20..24] == b"0765" { return Err(7); }\n    ' + CHARACTERS),
+    ('clock before the labels', 'reader.rs', 'if !labels.in_range() {',
+     'if labels.start >= 86400 { return Err(8); }\n    if !labels.in_range() {'),
+    # what is read
+    ('REFSYS for REFSV', 'reader.rs', '(35, 45), (47, 52), (54, 64)', '(54, 64), (47, 52), (35, 45)'),
+    ('sign lost', 'reader.rs', '        -size\n', '        size\n'),
+    ('CL read in decimal', 'reader.rs', '16 * value(digits[0])', '10u8.wrapping_mul(value(digits[0]))'),
+    ('FR and HC exchanged', 'reader.rs', 'satellite, cl, fr, hc, frc1', 'satellite, cl, hc, fr, frc1'),
+    # the comment
+    ('comment from column 113', 'reader.rs', 'is_ok() { LINE_BYTES }', 'is_ok() { LINE_BYTES - 1 }'),
+    ('comment of a refused line', 'reader.rs', 'else { line.len() };', 'else { line.len().min(LINE_BYTES) };'),
+    ('comment of a line without a start', 'reader.rs', 'if read(line).is_ok()',
+     'if matches!(read(line), Ok(_) | Err(8))'),
+    # the lent values
+    ('9 before 12', 'reader.rs', '    let (labels, numbers) = match read(line) {',
+     '    ' + FEW + ' return 9; }\n    let (labels, numbers) = match read(line) {'),
+    ('a 24th value', 'reader.rs', VALUES, VALUES + ' if let Some(v) = lent.get_mut(23) { *v = 0; }'),
+    ('values cleared on a refusal', 'reader.rs', 'Err(refusal) => return refusal,',
+     'Err(refusal) => { lent.fill(0); return refusal; }'),
+    ('a value past the lent ones', 'EXPORTS', '    reference::read_values(',
+     '    if values_len == 23 { *values.add(23) = 7; }\n    reference::read_values('),
 ]
 
 

@@ -1,9 +1,10 @@
 /*
- * Fuzz target of the C boundary: each input makes a call of one of the three functions, and the archive's answer and
- * every byte of the lent line must be those of the plain Rust implementation.
+ * Fuzz target of the C boundary: each input makes a call of one of the functions, and the archive's answer and every
+ * byte of what is lent must be those of the plain Rust implementation.
  *
  * The archive is compiled without AddressSanitizer. So what it is lent lies against a page that nobody may touch, in
- * front or behind, and the block in memory that can't be written: a byte read or written outside is a fault at once.
+ * front or behind, and what it is given in memory that can't be written: a byte read or written outside is a fault at
+ * once.
  */
 #define _GNU_SOURCE
 #include <inttypes.h>
@@ -16,6 +17,7 @@
 #include "trackline.h"
 
 enum { SECONDS = 780, BLOCKS = 52, LONGEST_BLOCK = 16384, LONGEST_LINE = 4096, EDITS = 64 };
+enum { COLUMNS = 113, LONGEST_READ = 200, VALUES = 23, MOST_VALUES = 512 };
 enum { INT_AT = 26, MEASUREMENTS_AT = 58, COLUMNS_AT = 6298 };
 
 /* What trackline_line is given; the numbers in their fixed order. */
@@ -29,6 +31,8 @@ struct given {
 uint32_t reference_block(const uint8_t *block, size_t block_len, uint8_t *line, size_t line_len);
 uint32_t reference_line(const struct given *given, uint8_t *line, size_t line_len);
 uint32_t reference_start(uint32_t mjd, uint32_t second);
+uint32_t reference_read(const uint8_t *line, size_t line_len, int64_t *values, size_t values_len);
+size_t reference_comment(const uint8_t *line, size_t line_len);
 int LLVMFuzzerInitialize(int *argc, char ***argv);
 int LLVMFuzzerTestOneInput(const uint8_t *data, size_t size);
 
@@ -78,7 +82,8 @@ struct guarded {
     size_t size;
 };
 
-static struct guarded block_memory, line_memory;
+/* for what is given, a lent line and lent values */
+static struct guarded given_memory, line_memory, values_memory;
 
 static void *must(void *mapped)
 {
@@ -111,15 +116,16 @@ static size_t offset(const struct guarded *g, size_t length, int front)
 
 /* ---- what was reached ---- */
 
-enum function { BLOCK, LINE, START, FUNCTIONS };
-static const char *const NAMES[FUNCTIONS] = {"trackline_block", "trackline_line", "trackline_start"};
-static uint64_t reached[FUNCTIONS][12];
+enum function { BLOCK, LINE, START, READ, FUNCTIONS };
+enum { ANSWERS = 15 };
+static const char *const NAMES[FUNCTIONS] = {"trackline_block", "trackline_line", "trackline_start", "trackline_read"};
+static uint64_t reached[FUNCTIONS][ANSWERS];
 
 static void report(void)
 {
     for (int f = 0; f < FUNCTIONS; f++) {
         printf("%s:", NAMES[f]);
-        for (int answer = 0; answer < 12; answer++) {
+        for (int answer = 0; answer < ANSWERS; answer++) {
             if (reached[f][answer] > 0) {
                 printf(" %d:%" PRIu64, answer, reached[f][answer]);
             }
@@ -130,7 +136,7 @@ static void report(void)
 
 static void judge(enum function f, uint32_t got, uint32_t wanted)
 {
-    if (wanted < 12) {
+    if (wanted < ANSWERS) {
         reached[f][wanted]++;
     }
     if (got != wanted) {
@@ -288,15 +294,21 @@ static size_t edit(uint8_t *block, size_t length, struct bytes *b)
     return length;
 }
 
-static void call_block(const uint8_t *bytes, size_t length, struct bytes *b)
+/* What is given, where the archive sees it. */
+static const uint8_t *give(const uint8_t *bytes, size_t length, struct bytes *b)
 {
     size_t kind = take(b, 1);
+    size_t at = offset(&given_memory, length, (kind & 1) != 0);
+    memmove(given_memory.own + at, bytes, length);
+    return length == 0 && (kind & 2) ? NULL : given_memory.lent + at;
+}
+
+static void call_block(const uint8_t *bytes, size_t length, struct bytes *b)
+{
+    const uint8_t *given = give(bytes, length, b);
     struct lines l = lend(b);
-    size_t at = offset(&block_memory, length, (kind & 1) != 0);
-    memmove(block_memory.own + at, bytes, length);
-    const uint8_t *lent = length == 0 && (kind & 2) ? NULL : block_memory.lent + at;
     uint32_t wanted = reference_block(bytes, length, l.length ? l.wanted : NULL, l.length);
-    judge(BLOCK, trackline_block(lent, length, l.got, l.length), wanted);
+    judge(BLOCK, trackline_block(given, length, l.got, l.length), wanted);
     settle(l);
 }
 
@@ -331,16 +343,23 @@ static uint32_t call_line(const struct given *g, uint8_t *line, size_t length)
                           n[0], n[1], n[2], n[3], n[4], n[5], n[6], n[7], n[8], n[9], line, length);
 }
 
-static void line(struct bytes *b)
+/* What trackline_line is given for the labels of a block. */
+static struct given given_by(const uint8_t *labels)
 {
-    struct lines l = lend(b);
-    uint8_t labels[26] = {0};
-    label(labels, b);
     struct given g = {.constellation = labels[4], .satellite = labels[5], .cl = labels[6], .fr = labels[7],
                       .hc = labels[8], .mjd = (uint32_t)get(labels + 12, 4), .start = (uint32_t)get(labels + 16, 4),
                       .elv = (uint16_t)get(labels + 20, 2), .azth = (uint16_t)get(labels + 22, 2),
                       .ioe = (uint16_t)get(labels + 24, 2), .numbers = {[9] = 780}};
     memcpy(g.frc, labels + 9, 3);
+    return g;
+}
+
+static void line(struct bytes *b)
+{
+    struct lines l = lend(b);
+    uint8_t labels[26] = {0};
+    label(labels, b);
+    struct given g = given_by(labels);
     for (int i = 0; i < EDITS && b->left > 0; i++) {
         switch (take(b, 1) % 16) {
         case 0: g.constellation = (uint8_t)take(b, 1); break;
@@ -370,12 +389,126 @@ static void start(struct bytes *b)
     judge(START, trackline_start(mjd, second), reference_start(mjd, second));
 }
 
+/* ---- lines read back ---- */
+
+static void call_read(const uint8_t *line, size_t length, struct bytes *b)
+{
+    static const size_t counts[] = {VALUES, VALUES, VALUES + 1, VALUES - 1, 0, MOST_VALUES};
+    const uint8_t *given = give(line, length, b);
+    size_t kind = take(b, 1);
+    size_t count = kind % 8 < 6 ? counts[kind % 8] : take(b, 1);
+    int64_t wanted[MOST_VALUES], *got = (int64_t *)(void *)values_memory.lent;
+    got += offset(&values_memory, count * sizeof *got, (kind & 8) != 0) / sizeof *got;
+    for (size_t i = 0; i < count; i++) {
+        got[i] = wanted[i] = -1 - (int64_t)(kind * i);
+    }
+    uint32_t answer = reference_read(line, length, wanted, count);
+    judge(READ, trackline_read(given, length, count == 0 && (kind & 16) ? NULL : got, count), answer);
+    size_t comment = trackline_comment(given, length);
+    if (comment != reference_comment(line, length) || memcmp(got, wanted, count * sizeof *got) != 0) {
+        printf("DIFFERENT reading: comment from %zu of\n  %.*s\n", comment, (int)length, (const char *)line);
+        abort();
+    }
+}
+
+static void repair(uint8_t *line)
+{
+    static const char digits[] = "0123456789ABCDEF";
+    uint8_t sum = 0;
+    for (size_t i = 0; i < COLUMNS - 2; i++) {
+        sum = (uint8_t)(sum + line[i]);
+    }
+    line[COLUMNS - 2] = (uint8_t)digits[sum >> 4];
+    line[COLUMNS - 1] = (uint8_t)digits[sum & 15];
+}
+
+/* A line that the plain Rust implementation writes. */
+static void written(uint8_t *line, struct bytes *b)
+{
+    static const int64_t limits[10] = {9999999999, 99999, 9999999999, 99999, 9999, 999, 9999, 999, 9999, 0};
+    uint8_t labels[26] = {0};
+    label(labels, b);
+    struct given g = given_by(labels);
+    for (size_t i = 0; i < 9; i++) {
+        int64_t n = number(b) % (limits[i] + 1);
+        g.numbers[i] = n < 0 && (i == 4 || i == 6 || i == 8) ? -n : n;
+    }
+    reference_line(&g, line, COLUMNS);
+}
+
+/* A start of the line's day by the clock, or by one that shows a minute from 60, a second of 60 or an hour from 24. */
+static void set_clock(uint8_t *line, struct bytes *b)
+{
+    char clock[32];
+    uint32_t mjd = 0;
+    for (size_t i = 7; i < 12; i++) {
+        mjd = 10 * mjd + (line[i] & 15);
+    }
+    unsigned minute = a_start(mjd, below(b, 90)) / 60, hour = minute / 60, second = 0;
+    size_t kind = take(b, 1);
+    minute %= 60;
+    if ((kind & 1) && hour > 0 && minute < 40) {
+        hour--;
+        minute += 60;
+    }
+    if ((kind & 2) && minute > 0) {
+        minute--;
+        second = 60;
+    }
+    hour += kind & 4 ? 24 : 0;
+    snprintf(clock, sizeof clock, "%02u%02u%02u", hour, minute, second);
+    memcpy(line + 13, clock, 6);
+    repair(line);
+}
+
+/* One change to a line; gives its length. */
+static size_t edit_line(uint8_t *line, size_t length, struct bytes *b)
+{
+    static const char texts[][8] = {"00", "240000", "006200", "000160", "0765", "-000", "-00000", " 0", "a", "+", "-"};
+    const char *text = texts[below(b, sizeof texts / sizeof *texts)];
+    size_t at = below(b, LONGEST_READ);
+    switch (take(b, 1) % 8) {
+    case 0: line[at] = (uint8_t)take(b, 1); break;
+    case 1: line[at] = (uint8_t)"0123456789"[below(b, 10)]; break;
+    case 2: memcpy(line + at % (COLUMNS - 8), text, strlen(text)); break;
+    case 3: line[COLUMNS - 2 + at % 2] |= 0x20; break;
+    case 4: length = COLUMNS + at % 32; break;
+    case 5: length = at; break;
+    case 6: set_clock(line, b); break;
+    default: repair(line);
+    }
+    return length;
+}
+
+static void edited_line(struct bytes *b)
+{
+    uint8_t line[LONGEST_READ];
+    struct bytes lent = {b->at, b->left < 4 ? b->left : 4};
+    take(b, 4);
+    memset(line, '.', sizeof line);
+    written(line, b);
+    size_t length = COLUMNS + take(b, 1) % 28;
+    for (int i = 0; i < EDITS && b->left > 0; i++) {
+        length = edit_line(line, length, b);
+    }
+    call_read(line, length, &lent);
+}
+
+static void raw_line(struct bytes *b)
+{
+    struct bytes lent = {b->at, b->left < 4 ? b->left : 4};
+    take(b, 4);
+    call_read(b->at, b->left < LONGEST_READ ? b->left : LONGEST_READ, &lent);
+}
+
 int LLVMFuzzerInitialize(int *argc, char ***argv)
 {
     (void)argc;
     (void)argv;
-    block_memory = guard(LONGEST_BLOCK, PROT_READ);
+    given_memory = guard(LONGEST_BLOCK, PROT_READ);
     line_memory = guard(LONGEST_LINE, PROT_READ | PROT_WRITE);
+    values_memory = guard(MOST_VALUES * sizeof(int64_t), PROT_READ | PROT_WRITE);
+    setvbuf(stdout, NULL, _IOLBF, 0); /* abort does not write what is still held back */
     atexit(report);
     return 0;
 }
@@ -383,11 +516,15 @@ int LLVMFuzzerInitialize(int *argc, char ***argv)
 int LLVMFuzzerTestOneInput(const uint8_t *data, size_t size)
 {
     struct bytes b = {data, size};
-    switch (take(&b, 1) % 8) {
+    switch (take(&b, 1) % 12) {
     case 0: raw_block(&b); break;
     case 1: start(&b); break;
     case 2:
     case 3: line(&b); break;
+    case 4: raw_line(&b); break;
+    case 5:
+    case 6:
+    case 7: edited_line(&b); break;
     default: edited_block(&b);
     }
     return 0;

@@ -1,5 +1,6 @@
 #!/usr/bin/env python3
-"""What Line should answer to the published lines, and their columns in our form, worked out from published.txt.
+"""What Line and the reader should answer to the published lines, and their columns in our form, worked out from
+published.txt.
 
     python3 tests/published/expected.py            print it
     python3 tests/published/expected.py --bench    write what the program bench reads and should print (crates/bench)
@@ -9,6 +10,7 @@
 A second way beside the plain Rust implementation, which is compared with expected.txt too (tests/reference).
 """
 import pathlib
+import re
 import sys
 
 sys.dont_write_bytecode = True
@@ -25,9 +27,13 @@ OURS = dict(CL='{:02X}', MJD='{:05d}', STTIME='{:06d}', TRKL='{:04d}', ELV='{:03
 # how wide it stands in document 003's line, whose first column is blank
 WIDTHS = dict(SAT=3, CL=2, MJD=5, STTIME=6, TRKL=4, ELV=3, AZTH=4, REFSV=11, SRSV=6, REFSYS=11, SRSYS=6, DSG=4, IOE=3,
               MDTR=4, SMDT=4, MDIO=4, SMDI=4)
-HEADER = """# Made by expected.py from published.txt. For each published line: Line's answer and the columns in our
-# form, as published and, where another date, start or length is put in, with that. A line is written where the answer
-# is 0.
+# what the reader takes columns 1 to 111 for, and what it does not take though each character is allowed
+COLUMNS = re.compile('[GRECJ]d{2} [0-9A-F]{2} d{5} d{6} 0780 d{3} d{4} sd{10} sd{5} sd{10} sd{5} d{4} d{3} d{4} sd{3} d{4} '
+                     'sd{3} d{2} d{2} [A-Z0-9]{3} '.replace('d', '[0-9]').replace('s', '[+-]'))
+MINUS_ZERO = re.compile('-0+ ')
+HEADER = """# Made by expected.py from published.txt. For each published line: Line's answer, the reader's answer to the
+# columns, and the columns in our form, as published and, where another date, start or length is put in, with that. Line
+# writes them where its answer is 0.
 """
 
 
@@ -88,6 +94,14 @@ def answer(fields):
     return next((refusal for refusal, fails in tests if fails), 0)
 
 
+def reading(fields):
+    """The reader's answer to the columns: beyond their characters it judges labels and start as Line does."""
+    columns = text(fields)
+    if not COLUMNS.fullmatch(columns[:111]) or MINUS_ZERO.search(columns):
+        return 13
+    return answer(fields)
+
+
 def forms():
     """Name and forms of each line: its fields as published, and where they are others with what is put in."""
     for name, fields, put in read():
@@ -98,7 +112,7 @@ def forms():
 
 def expected():
     def row(kind, fields):
-        return '  %s%d  %s\n' % (kind.ljust(11), answer(fields), text(fields))
+        return '  %s%d %2d  %s\n' % (kind.ljust(11), answer(fields), reading(fields), text(fields))
 
     records = [name + '\n' + ''.join(row(*form) for form in kinds.items()) for name, kinds in forms()]
     return HEADER + '\n' + ''.join(records)

@@ -135,7 +135,7 @@ fn sizes_and_lengths(compare: &mut Compare, seeded: &mut Seeded) {
         compare.block("blocks by their length", Some(&bytes[..length]), lent);
     }
     bytes.resize(1 << 20, 0);
-    for lent in [Lent::Null, Lent::Bytes(0), Lent::Bytes(113)] {
+    for lent in [Lent::Null, Lent::Of(0), Lent::Of(113)] {
         compare.block("a long block", Some(&bytes), lent);
         compare.block("no block", None, lent);
     }

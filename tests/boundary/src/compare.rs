@@ -1,28 +1,31 @@
 //! Runs one case through the archive and through the plain Rust implementation, and compares the answers and every
-//! byte of the lent line, of the bytes around it and of the block.
+//! byte of what is lent, of the bytes around it and of what is given.
 
 use crate::library;
 use reference::seeded::Seeded;
 use reference::{Labels, Numbers};
 use std::collections::BTreeMap;
+use std::fmt::Debug;
 
-/// Bytes before and after a lent line that nobody may touch.
+/// Bytes before and after what is lent that nobody may touch.
 const GUARD: usize = 64;
+/// The same in numbers of eight bytes.
+const GUARD_VALUES: usize = 8;
 /// Differences that are shown before the test stops.
 const SHOWN: usize = 5;
 
-/// The line that is lent.
+/// What is lent: so many bytes of a line or so many values, or NULL.
 #[derive(Clone, Copy, Debug, PartialEq, Eq, PartialOrd, Ord)]
 pub enum Lent {
     Null,
-    Bytes(usize),
+    Of(usize),
 }
 
 impl Lent {
     pub fn len(self) -> usize {
         match self {
             Lent::Null => 0,
-            Lent::Bytes(n) => n,
+            Lent::Of(n) => n,
         }
     }
 }
@@ -36,18 +39,44 @@ pub struct Compare {
     pub answers: BTreeMap<(&'static str, u32), u64>,
     /// function and the two faults' numbers, the one that decides first: cases
     pub pairs: BTreeMap<(&'static str, u32, u32), u64>,
-    /// function, answer and lent line: cases
+    /// function, answer and what was lent: cases
     pub lents: BTreeMap<(&'static str, u32, Lent), u64>,
 }
 
-/// The bytes of one case: guard, lent line, guard; before the call, after each of the two.
-#[derive(Default)]
-struct Lines {
-    /// where the lent line begins
+/// One case: guard, what is lent, guard; before the call, after each of the two.
+struct Sides<T> {
+    /// where what is lent begins
     at: usize,
-    before: Vec<u8>,
-    wanted: Vec<u8>,
-    got: Vec<u8>,
+    before: Vec<T>,
+    wanted: Vec<T>,
+    got: Vec<T>,
+}
+
+impl<T: Clone + PartialEq + Debug> Sides<T> {
+    fn new(before: Vec<T>, at: usize) -> Sides<T> {
+        Sides { at, wanted: before.clone(), got: before.clone(), before }
+    }
+
+    /// Both did the same; the plain Rust implementation too must keep what is lent when it refuses.
+    fn agree(&self, wanted: u32) -> bool {
+        (wanted == 0 || self.wanted == self.before) && self.wanted == self.got
+    }
+
+    /// The first difference, and what is lent as both left it.
+    fn difference(&self, text: impl Fn(&[T]) -> String) -> Option<String> {
+        let at = self.wanted.iter().zip(&self.got).position(|(a, b)| a != b)?;
+        let (wanted, got) = (text(&self.wanted[self.at..]), text(&self.got[self.at..]));
+        let place = at as i64 - self.at as i64;
+        Some(format!("  first that differs: {place} of what is lent\n  should be {wanted}\n  was       {got}"))
+    }
+}
+
+fn as_text(bytes: &[u8]) -> String {
+    format!("{:?}", String::from_utf8_lossy(bytes).chars().take(113).collect::<String>())
+}
+
+fn as_row(values: &[i64]) -> String {
+    format!("{:?}", &values[..values.len().min(reference::VALUES)])
 }
 
 impl Compare {
@@ -59,33 +88,43 @@ impl Compare {
         Compare { pool, seeded, differences: 0, answers, pairs, lents }
     }
 
+    fn from_pool(&mut self, count: usize) -> &[u8] {
+        let at = self.seeded.below((self.pool.len() - count) as u64) as usize;
+        &self.pool[at..at + count]
+    }
+
     /// A lent line at any alignment, filled with seeded bytes, twice.
-    fn lines(&mut self, lent: Lent) -> (Lines, std::ops::Range<usize>) {
+    fn lines(&mut self, lent: Lent) -> (Sides<u8>, std::ops::Range<usize>) {
         let start = GUARD + self.seeded.below(8) as usize;
-        let total = start + lent.len() + GUARD;
-        let at = self.seeded.below((self.pool.len() - total) as u64) as usize;
-        let before = self.pool[at..at + total].to_vec();
-        (Lines { at: start, wanted: before.clone(), got: before.clone(), before }, start..start + lent.len())
+        let before = self.from_pool(start + lent.len() + GUARD).to_vec();
+        (Sides::new(before, start), start..start + lent.len())
     }
 
-    fn judge(&mut self, of: &'static str, lent: Lent, wanted: u32, got: u32, lines: &Lines) -> bool {
-        *self.answers.entry((of, wanted)).or_default() += 1;
-        *self.lents.entry((of, wanted, lent)).or_default() += 1;
-        // the plain Rust implementation too must keep the line when it refuses
-        let kept = wanted == 0 || lines.wanted == lines.before;
-        kept && wanted == got && lines.wanted == lines.got
+    /// Lent values, filled with seeded ones, twice.
+    fn rows(&mut self, lent: Lent) -> (Sides<i64>, std::ops::Range<usize>) {
+        let bytes = self.from_pool(8 * (lent.len() + 2 * GUARD_VALUES));
+        let value = |part: &[u8]| i64::from_le_bytes(part.try_into().expect("eight bytes"));
+        let before = bytes.chunks_exact(8).map(value).collect();
+        (Sides::new(before, GUARD_VALUES), GUARD_VALUES..GUARD_VALUES + lent.len())
     }
 
-    fn show(&mut self, family: &str, case: &dyn std::fmt::Debug, wanted: u32, got: u32, lines: &Lines) {
+    /// What is given, at any alignment.
+    fn moved(&mut self, given: library::Bytes) -> (Vec<u8>, usize) {
+        let shift = self.seeded.below(8) as usize;
+        let mut moved = vec![0; shift];
+        moved.extend(given.unwrap_or_default());
+        (moved, shift)
+    }
+
+    fn count(&mut self, of: &'static str, lent: Lent, answer: u32) {
+        *self.answers.entry((of, answer)).or_default() += 1;
+        *self.lents.entry((of, answer, lent)).or_default() += 1;
+    }
+
+    fn show(&mut self, family: &str, case: &dyn Debug, wanted: u32, got: u32, difference: Option<String>) {
         eprintln!("DIFFERENT in {family}: {case:?}");
         eprintln!("  answer: should be {wanted}, was {got}");
-        let differing = lines.wanted.iter().zip(&lines.got).position(|(a, b)| a != b);
-        if let Some(at) = differing {
-            let text = |bytes: &[u8]| String::from_utf8_lossy(&bytes[lines.at..]).chars().take(113).collect::<String>();
-            eprintln!("  first byte that differs: {} of the lent line", at as i64 - lines.at as i64);
-            eprintln!("  should be {:?}", text(&lines.wanted));
-            eprintln!("  was       {:?}", text(&lines.got));
-        }
+        difference.iter().for_each(|text| eprintln!("{text}"));
         self.differences += 1;
         if self.differences >= SHOWN {
             eprintln!("stopped after {SHOWN} differences");
@@ -96,18 +135,17 @@ impl Compare {
     /// Block. Gives the answer of the plain Rust implementation.
     pub fn block(&mut self, family: &str, block: library::Bytes, lent: Lent) -> u32 {
         let (mut lines, at) = self.lines(lent);
-        let shift = self.seeded.below(8) as usize;
-        let mut moved = vec![0; shift];
-        moved.extend(block.unwrap_or_default());
+        let (moved, shift) = self.moved(block);
         let handed = block.map(|_| &moved[shift..]);
         let wanted = reference::block(block.unwrap_or_default(), &mut lines.wanted[at.clone()]);
         let lent_bytes = (lent != Lent::Null).then(|| &mut lines.got[at]);
         let got = library::block(handed, lent_bytes);
         let intact = handed == block;
-        if !self.judge("block", lent, wanted, got, &lines) || !intact {
+        self.count("block", lent, wanted);
+        if wanted != got || !lines.agree(wanted) || !intact {
             let case =
                 (block.map(|b| (b.len(), &b[..b.len().min(58)])), lent, if intact { "" } else { "block changed" });
-            self.show(family, &case, wanted, got, &lines);
+            self.show(family, &case, wanted, got, lines.difference(as_text));
         }
         wanted
     }
@@ -118,8 +156,31 @@ impl Compare {
         let wanted = reference::line(labels, numbers, &mut lines.wanted[at.clone()]);
         let lent_bytes = (lent != Lent::Null).then(|| &mut lines.got[at]);
         let got = library::line(labels, numbers, lent_bytes);
-        if !self.judge("line", lent, wanted, got, &lines) {
-            self.show(family, &(labels, numbers, lent), wanted, got, &lines);
+        self.count("line", lent, wanted);
+        if wanted != got || !lines.agree(wanted) {
+            self.show(family, &(labels, numbers, lent), wanted, got, lines.difference(as_text));
+        }
+        wanted
+    }
+
+    /// Reader: the values, and where the comment begins. Gives the answer of the plain Rust implementation.
+    pub fn read(&mut self, family: &str, line: library::Bytes, lent: Lent) -> u32 {
+        let (mut rows, at) = self.rows(lent);
+        let (moved, shift) = self.moved(line);
+        let handed = line.map(|_| &moved[shift..]);
+        let given = line.unwrap_or_default();
+        let wanted = reference::read_values(given, &mut rows.wanted[at.clone()]);
+        let lent_values = (lent != Lent::Null).then(|| &mut rows.got[at]);
+        let got = library::read(handed, lent_values);
+        self.count("read", lent, wanted);
+        let wanted_from = given.len() - reference::comment(given).len();
+        let got_from = library::comment(handed);
+        *self.answers.entry(("comment", reference::read(given).err().unwrap_or(0))).or_default() += 1;
+        if wanted != got || !rows.agree(wanted) || wanted_from != got_from || handed != line {
+            let comment = format!("comment from {wanted_from}, was from {got_from}");
+            let changed = if handed == line { "" } else { "line changed" };
+            let case = (line.map(String::from_utf8_lossy), given.len(), lent, comment, changed);
+            self.show(family, &case, wanted, got, rows.difference(as_row));
         }
         wanted
     }
@@ -130,7 +191,7 @@ impl Compare {
         let got = library::start(mjd, second);
         *self.answers.entry(("start", wanted)).or_default() += 1;
         if wanted != got {
-            self.show("starts", &(mjd, second), wanted, got, &Lines::default());
+            self.show("starts", &(mjd, second), wanted, got, None);
         }
     }
 

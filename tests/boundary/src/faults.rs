@@ -2,6 +2,7 @@
 
 use crate::case::*;
 use crate::compare::Lent;
+use reference::good::{good_labels, good_numbers, track_start};
 use reference::seeded::Seeded;
 use reference::{Labels, Numbers, BLOCK_BYTES};
 
@@ -157,10 +158,7 @@ pub fn spoil_start(labels: &mut Labels, seeded: &mut Seeded) {
         1 => (labels.start + 60 * seeded.range(1, 15) as u32) % 86400,
         2 => labels.start + 86400,
         3 => u32::MAX - seeded.below(15) as u32,
-        4 => {
-            let days_on = i64::from(labels.mjd) - 50722;
-            60 * (2 + 16 * 89 - 4 * days_on).rem_euclid(1436) as u32
-        }
+        4 => track_start(labels.mjd, 90),
         _ => from(seeded, 86160, u32::MAX.into()) as u32,
     };
 }
@@ -194,7 +192,7 @@ fn spoil_number(numbers: &mut Numbers, fault: Fault, seeded: &mut Seeded) {
 /// A line that is long enough; the lengths that are asked for by name come most often.
 pub fn long_lent(seeded: &mut Seeded) -> Lent {
     let any = seeded.range(113, 300) as usize;
-    Lent::Bytes(seeded.pick(&[113, 113, 114, 114, 4096, any]))
+    Lent::Of(seeded.pick(&[113, 113, 114, 114, 4096, any]))
 }
 
 /// A line that is too short.
@@ -203,7 +201,7 @@ pub fn short_lent(seeded: &mut Seeded) -> Lent {
     if seeded.below(4) == 0 {
         return Lent::Null;
     }
-    Lent::Bytes(seeded.pick(&[0, 112, 112, any]))
+    Lent::Of(seeded.pick(&[0, 112, 112, any]))
 }
 
 fn lent_for(faults: &[Fault], seeded: &mut Seeded) -> Lent {

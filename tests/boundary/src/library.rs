@@ -1,4 +1,4 @@
-//! The archive's three C functions, called as a C program calls them.
+//! The archive's C functions, called as a C program calls them.
 
 use reference::{Labels, Numbers};
 
@@ -33,17 +33,20 @@ extern "C" {
         line_len: usize,
     ) -> u32;
     fn trackline_start(mjd: u32, second: u32) -> u32;
+    fn trackline_read(line: *const u8, line_len: usize, values: *mut i64, values_len: usize) -> u32;
+    fn trackline_comment(line: *const u8, line_len: usize) -> usize;
 }
 
 /// A slice, or NULL with length 0.
 pub type Bytes<'a> = Option<&'a [u8]>;
 pub type LentBytes<'a> = Option<&'a mut [u8]>;
+pub type LentValues<'a> = Option<&'a mut [i64]>;
 
 fn as_c(bytes: Bytes) -> (*const u8, usize) {
     bytes.map_or((std::ptr::null(), 0), |b| (b.as_ptr(), b.len()))
 }
 
-fn lent_as_c(lent: LentBytes) -> (*mut u8, usize) {
+fn lent_as_c<T>(lent: Option<&mut [T]>) -> (*mut T, usize) {
     lent.map_or((std::ptr::null_mut(), 0), |b| (b.as_mut_ptr(), b.len()))
 }
 
@@ -72,4 +75,17 @@ pub fn line(l: &Labels, n: &Numbers, lent: LentBytes) -> u32 {
 pub fn start(mjd: u32, second: u32) -> u32 {
     // SAFETY: numbers only.
     unsafe { trackline_start(mjd, second) }
+}
+
+pub fn read(line: Bytes, values: LentValues) -> u32 {
+    let (line, line_len) = as_c(line);
+    let (values, values_len) = lent_as_c(values);
+    // SAFETY: both are live slices, or NULL with length 0, which the interface allows.
+    unsafe { trackline_read(line, line_len, values, values_len) }
+}
+
+pub fn comment(line: Bytes) -> usize {
+    let (line, line_len) = as_c(line);
+    // SAFETY: a live slice, or NULL with length 0, which the interface allows.
+    unsafe { trackline_comment(line, line_len) }
 }

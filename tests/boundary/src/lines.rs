@@ -47,12 +47,11 @@ fn one_faulty(compare: &mut Compare, seeded: &mut Seeded, faults: &[Fault]) {
 /// The lines printed in the format documents: those of documents 000 and 003 are accepted as they are printed.
 fn printed(compare: &mut Compare) {
     for case in published() {
-        let (labels, numbers) = &case.printed;
-        let answer = compare.line(case.name, labels, numbers, Lent::Bytes(113));
+        let answer = compare.line(case.name, &case.printed.labels, &case.printed.numbers, Lent::Of(113));
         assert_eq!(answer, if case.name.starts_with("004") { 7 } else { 0 }, "{}", case.name);
-        for (labels, numbers) in [&case.printed].into_iter().chain(&case.put_in) {
-            for lent in [Lent::Null, Lent::Bytes(0), Lent::Bytes(112), Lent::Bytes(113), Lent::Bytes(114)] {
-                compare.line(case.name, labels, numbers, lent);
+        for form in case.forms() {
+            for lent in [Lent::Null, Lent::Of(0), Lent::Of(112), Lent::Of(113), Lent::Of(114)] {
+                compare.line(case.name, &form.labels, &form.numbers, lent);
             }
         }
     }
@@ -151,7 +150,7 @@ fn number_edges(compare: &mut Compare, seeded: &mut Seeded) {
             for which in 0..10 {
                 let (labels, mut numbers, _) = faulty_line(&[], seeded);
                 *number(&mut numbers, which) = value;
-                for lent in [Lent::Null, Lent::Bytes(0), Lent::Bytes(112), Lent::Bytes(113), Lent::Bytes(114)] {
+                for lent in [Lent::Null, Lent::Of(0), Lent::Of(112), Lent::Of(113), Lent::Of(114)] {
                     compare.line("lines by a number", &labels, &numbers, lent);
                 }
             }

@@ -1,9 +1,9 @@
-//! Compares the archive's C functions with the plain Rust implementation on seeded blocks, lines and starts.
+//! Compares the archive's C functions with the plain Rust implementation on seeded blocks, lines, readings and starts.
 //!
 //!     boundary [SEED [SCALE]]
 //!
-//! Prints how many cases each answer, each pair of faults and each lent line had. Fails where the two differ in an
-//! answer or in a byte, and where a refusal or a pair of faults that can be reached was not.
+//! Prints how many cases each answer, each pair of faults and each lent line or row of values had. Fails where the two
+//! differ in an answer or in a byte, and where a refusal or a pair of faults that can be reached was not.
 
 mod blocks;
 mod case;
@@ -12,14 +12,16 @@ mod edges;
 mod faults;
 mod library;
 mod lines;
+mod reading_faults;
+mod readings;
 mod starts;
 
 use compare::{Compare, Lent};
 use reference::seeded::Seeded;
 use std::process::ExitCode;
 
-const LENTS: [Lent; 6] =
-    [Lent::Null, Lent::Bytes(0), Lent::Bytes(112), Lent::Bytes(113), Lent::Bytes(114), Lent::Bytes(4096)];
+const LINES: [Lent; 6] = [Lent::Null, Lent::Of(0), Lent::Of(112), Lent::Of(113), Lent::Of(114), Lent::Of(4096)];
+const ROWS: [Lent; 5] = [Lent::Null, Lent::Of(0), Lent::Of(22), Lent::Of(23), Lent::Of(24)];
 
 fn main() -> ExitCode {
     let arguments: Vec<u64> = std::env::args().skip(1).map(|a| a.parse().expect("a number")).collect();
@@ -27,8 +29,10 @@ fn main() -> ExitCode {
     let scale = arguments.get(1).copied().unwrap_or(1) as usize;
     let mut compare = Compare::new(seed);
     lines::run(&mut compare, &mut Seeded::new(seed + 1), scale);
+    readings::run(&mut compare, &mut Seeded::new(seed + 4), scale);
     blocks::run(&mut compare, &mut Seeded::new(seed + 2), scale);
     starts::run(&mut compare, &mut Seeded::new(seed + 3), scale);
+    readings::dates(&mut compare, &mut Seeded::new(seed + 5));
     let missing = report(&compare);
     missing.iter().for_each(|what| eprintln!("MISSING: {what}"));
     if compare.agreed() && missing.is_empty() {
@@ -42,22 +46,37 @@ fn main() -> ExitCode {
 /// Prints the counts; gives what should have been seen and was not.
 fn report(compare: &Compare) -> Vec<String> {
     let mut missing = Vec::new();
-    for (of, order) in [("block", &faults::BLOCK_ORDER[..]), ("line", &faults::LINE_ORDER), ("start", &[7, 8])] {
-        let seen = |answer: u32| compare.answers.get(&(of, answer)).copied().unwrap_or(0);
-        let total: u64 = compare.answers.iter().filter(|(key, _)| key.0 == of).map(|(_, count)| count).sum();
-        println!("trackline_{of}: {total} cases");
-        for answer in std::iter::once(0).chain(order.iter().copied()) {
-            println!("  answer {answer:2}: {:9}", seen(answer));
-            if seen(answer) == 0 {
-                missing.push(format!("trackline_{of} never answered {answer}"));
-            }
+    for (of, order) in [
+        ("block", &faults::BLOCK_ORDER[..]),
+        ("line", &faults::LINE_ORDER),
+        ("read", &reading_faults::READ_ORDER),
+        ("comment", &reading_faults::READ_ORDER[..5]),
+        ("start", &[7, 8]),
+    ] {
+        answers(compare, of, order, &mut missing);
+        if of != "comment" {
+            pairs(compare, of, order, &mut missing);
         }
-        pairs(compare, of, order, &mut missing);
-        if of != "start" {
-            lents(compare, of, order, &mut missing);
+        match of {
+            "block" | "line" => lents(compare, of, order, &LINES, &mut missing),
+            "read" => lents(compare, of, order, &ROWS, &mut missing),
+            _ => {}
         }
     }
     missing
+}
+
+/// How often each answer came; for the comment, the answer to the line that it was asked of.
+fn answers(compare: &Compare, of: &'static str, order: &[u32], missing: &mut Vec<String>) {
+    let seen = |answer: u32| compare.answers.get(&(of, answer)).copied().unwrap_or(0);
+    let total: u64 = compare.answers.iter().filter(|(key, _)| key.0 == of).map(|(_, count)| count).sum();
+    println!("trackline_{of}: {total} cases");
+    for answer in std::iter::once(0).chain(order.iter().copied()) {
+        println!("  answer {answer:2}: {:9}", seen(answer));
+        if seen(answer) == 0 {
+            missing.push(format!("trackline_{of} never answered {answer}"));
+        }
+    }
 }
 
 /// A row for each deciding fault, a column for each other.
@@ -76,17 +95,17 @@ fn pairs(compare: &Compare, of: &'static str, order: &[u32], missing: &mut Vec<S
     }
 }
 
-/// Each answer with each lent line that it can go with.
-fn lents(compare: &Compare, of: &'static str, order: &[u32], missing: &mut Vec<String>) {
-    println!("  lent lines, all answers:");
-    for lent in LENTS {
-        let seen = |answer: u32| compare.lents.get(&(of, answer, lent)).copied().unwrap_or(0);
+/// Each answer with each length of what is lent that it can go with.
+fn lents(compare: &Compare, of: &'static str, order: &[u32], lengths: &[Lent], missing: &mut Vec<String>) {
+    println!("  lent, all answers:");
+    for lent in lengths {
+        let seen = |answer: u32| compare.lents.get(&(of, answer, *lent)).copied().unwrap_or(0);
         let answers = std::iter::once(0).chain(order.iter().copied());
         println!("    {lent:?}: {}", answers.clone().map(seen).sum::<u64>());
-        let long = lent.len() >= reference::LINE_BYTES;
-        for answer in answers.filter(|answer| !(*answer == 0 && !long || *answer == 9 && long)) {
+        let enough = lent.len() >= if of == "read" { reference::VALUES } else { reference::LINE_BYTES };
+        for answer in answers.filter(|answer| !(*answer == 0 && !enough || *answer == 9 && enough)) {
             if seen(answer) == 0 {
-                missing.push(format!("trackline_{of} never answered {answer} to a lent line of {lent:?}"));
+                missing.push(format!("trackline_{of} never answered {answer} to {lent:?} lent"));
             }
         }
     }

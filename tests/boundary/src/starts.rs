@@ -1,6 +1,7 @@
 //! Start test: whole days second by second, and every date of the schedule at and beside each of its starts.
 
 use crate::compare::Compare;
+use reference::good::track_start;
 use reference::seeded::Seeded;
 use reference::{FIRST_MJD, LAST_MJD};
 
@@ -24,8 +25,7 @@ pub fn run(compare: &mut Compare, seeded: &mut Seeded, scale: usize) {
 /// All starts of a date, and the place where a ninetieth would be, with the seconds and minutes beside each; the last four
 /// minutes of the day, which have none; and about one start more seconds, such as that of the day before or after.
 fn beside_starts(compare: &mut Compare, mjd: u32, seeded: &mut Seeded) {
-    let days_on = i64::from(mjd) - i64::from(FIRST_MJD);
-    let place = |i: i64| 60 * (2 + 16 * (i - 1) - 4 * days_on).rem_euclid(1436);
+    let place = |i: i64| i64::from(track_start(mjd, i));
     for i in 1..=90 {
         // a second before midnight becomes one of the last that there are
         [-60, -1, 0, 1, 60].iter().for_each(|beside| compare.start(mjd, (place(i) + beside) as u32));

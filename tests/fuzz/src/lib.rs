@@ -1,4 +1,4 @@
-//! The plain Rust implementation's three operations, as C functions.
+//! The plain Rust implementation's operations, as C functions.
 
 use reference::{Labels, Numbers};
 
@@ -9,7 +9,7 @@ unsafe fn bytes<'a>(at: *const u8, len: usize) -> &'a [u8] {
     std::slice::from_raw_parts(at, len)
 }
 
-unsafe fn lent<'a>(at: *mut u8, len: usize) -> &'a mut [u8] {
+unsafe fn lent<'a, T>(at: *mut T, len: usize) -> &'a mut [T] {
     if at.is_null() {
         return &mut [];
     }
@@ -54,4 +54,19 @@ pub unsafe extern "C" fn reference_line(given: &Given, line: *mut u8, line_len: 
 #[no_mangle]
 pub extern "C" fn reference_start(mjd: u32, second: u32) -> u32 {
     reference::start(mjd, second)
+}
+
+/// # Safety
+/// As reference_block.
+#[no_mangle]
+pub unsafe extern "C" fn reference_read(line: *const u8, line_len: usize, values: *mut i64, values_len: usize) -> u32 {
+    reference::read_values(bytes(line, line_len), lent(values, values_len))
+}
+
+/// # Safety
+/// As reference_block.
+#[no_mangle]
+pub unsafe extern "C" fn reference_comment(line: *const u8, line_len: usize) -> usize {
+    let line = bytes(line, line_len);
+    line.len() - reference::comment(line).len()
 }

@@ -1,15 +1,18 @@
-//! Track lines in plain Rust: smoothing, correcting, fitting, the start test, the data line and the hire block.
+//! Track lines in plain Rust: smoothing, correcting, fitting, the start test, the data line, the hire block, and a line
+//! read back.
 //!
-//! Written from the paper alone and not from the proved program, so that the two can be compared. Every operation
-//! answers with the paper's refusal numbers, in the paper's order.
+//! Written from the papers alone and not from the proved program, so that the two can be compared. Every operation
+//! answers with the papers' refusal numbers, in their order.
 //!
 //! Sums are 64-bit where the limits on what is given leave room for them (the bound stands beside each), and the sum
 //! of squares is 128-bit. Build with overflow checks, as `cargo test` and the boundary test do, and an overflow panics.
 
 mod block;
 mod fit;
+pub mod good;
 mod line;
 pub mod published;
+mod reader;
 mod schedule;
 pub mod seeded;
 mod track;
@@ -18,6 +21,7 @@ pub mod worst;
 pub use block::{block, BLOCK_BYTES};
 pub use fit::{fit, scatter, smooth, Fitted, WEIGHTS};
 pub use line::{line, Labels, LINE_BYTES};
+pub use reader::{comment, read, read_values, values, LONGEST_LINE, VALUES};
 pub use schedule::{start, FIRST_MJD, LAST_MJD};
 pub use track::{track, Columns, Delays, Numbers, Record, BLOCKS, BLOCK_SECONDS, SECONDS};
 

@@ -37,7 +37,7 @@ impl Labels {
     }
 
     /// Every label is in its range; CL has none, and the start is judged after the labels.
-    fn in_range(&self) -> bool {
+    pub(crate) fn in_range(&self) -> bool {
         self.constellation_fits()
             && (1..=99).contains(&self.satellite)
             && self.hc <= 99

@@ -1,9 +1,11 @@
-//! The lines printed in the format documents, read from ../published/published.txt.
+//! The lines printed in the format documents, from ../published/published.txt, and what is expected of them, from
+//! ../published/expected.txt, which a Python script made by another way.
 
 use crate::{Labels, Numbers};
 use std::collections::BTreeMap;
 
 const TEXT: &str = include_str!("../../published/published.txt");
+const EXPECTED: &str = include_str!("../../published/expected.txt");
 const NAMES: [&str; 21] = [
     "SAT", "CL", "MJD", "STTIME", "TRKL", "ELV", "AZTH", "REFSV", "SRSV", "REFSYS", "SRSYS", "DSG", "IOE", "MDTR",
     "SMDT", "MDIO", "SMDI", "FR", "HC", "FRC", "CK",
@@ -12,8 +14,23 @@ const NAMES: [&str; 21] = [
 /// A published line as printed and, where another date, start or length is put in, with that.
 pub struct Published {
     pub name: &'static str,
-    pub printed: (Labels, Numbers),
-    pub put_in: Option<(Labels, Numbers)>,
+    pub printed: Form,
+    pub put_in: Option<Form>,
+}
+
+impl Published {
+    pub fn forms(&self) -> impl Iterator<Item = &Form> {
+        [&self.printed].into_iter().chain(&self.put_in)
+    }
+}
+
+/// What stands in a line, its columns in our form, and what Line and the reader should answer to them.
+pub struct Form {
+    pub labels: Labels,
+    pub numbers: Numbers,
+    pub columns: &'static str,
+    pub line_answer: u32,
+    pub read_answer: u32,
 }
 
 type Fields = BTreeMap<&'static str, &'static str>;
@@ -32,8 +49,18 @@ fn read(row: &'static str) -> Published {
     fields.extend(missing);
     let as_printed = fields.clone();
     fields.extend(put);
-    let put_in = (fields != as_printed).then(|| numbers_of(&fields));
-    Published { name, printed: numbers_of(&as_printed), put_in }
+    let put_in = (fields != as_printed).then(|| form(name, "put in", &fields));
+    Published { name, printed: form(name, "published", &as_printed), put_in }
+}
+
+fn form(name: &str, which: &str, fields: &Fields) -> Form {
+    let (labels, numbers) = numbers_of(fields);
+    let mut rows = EXPECTED.lines().skip_while(|row| *row != name);
+    let row = rows.find_map(|row| row.trim_start().strip_prefix(which)).expect("a row").trim_start();
+    let (answers, columns) = row.rsplit_once("  ").expect("two answers and a line");
+    let mut answers = answers.split_whitespace().map(|answer| answer.parse().expect("an answer"));
+    let (line_answer, read_answer) = (answers.next().expect("Line's"), answers.next().expect("the reader's"));
+    Form { labels, numbers, columns, line_answer, read_answer }
 }
 
 fn numbers_of(fields: &Fields) -> (Labels, Numbers) {

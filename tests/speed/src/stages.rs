@@ -10,7 +10,7 @@ pub struct Stage {
     pub spoil: fn(&mut Vec<u8>),
 }
 
-const fn stage(part: &'static str, answer: u32, spoil: fn(&mut Vec<u8>)) -> Stage {
+pub const fn stage(part: &'static str, answer: u32, spoil: fn(&mut Vec<u8>)) -> Stage {
     Stage { part, answer, spoil }
 }
 

@@ -2,6 +2,7 @@ mod document_cases;
 mod exact;
 mod numbers;
 mod published;
+mod reading;
 mod text;
 
 use crate::{Columns, Delays, Labels, Record, BLOCKS, BLOCK_BYTES, SECONDS};

@@ -1,17 +1,7 @@
-//! The published lines against ../published/expected.txt, which a Python script made by another way.
+//! The published lines against what is expected of them.
 
-use crate::published::published;
-use crate::{line, Labels, Numbers};
-
-const EXPECTED: &str = include_str!("../../../published/expected.txt");
-
-/// The answer and the columns that stand under a name, as published or with what is put in.
-fn expected(name: &str, which: &str) -> (u32, &'static str) {
-    let mut rows = EXPECTED.lines().skip_while(|row| *row != name);
-    let row = rows.find_map(|row| row.trim_start().strip_prefix(which)).expect("a row");
-    let (answer, text) = row.trim().split_once("  ").expect("an answer and a line");
-    (answer.parse().expect("an answer"), text)
-}
+use crate::published::{published, Form};
+use crate::{line, read, Labels, Numbers};
 
 /// The labels and numbers that stand in a line's columns.
 fn read_columns(text: &str) -> (Labels, Numbers) {
@@ -46,15 +36,31 @@ fn read_columns(text: &str) -> (Labels, Numbers) {
     (labels, numbers)
 }
 
-fn check(name: &str, given: &(Labels, Numbers), answer: u32, text: &str) {
+fn check(name: &str, form: &Form) {
+    let (given, text) = ((form.labels, form.numbers), form.columns);
     let mut lent = [0; 113];
-    assert_eq!(line(&given.0, &given.1, &mut lent), answer, "{name}");
-    assert_eq!(read_columns(text), *given, "{name}");
+    assert_eq!(line(&given.0, &given.1, &mut lent), form.line_answer, "{name}");
+    assert_eq!(read_columns(text), given, "{name}");
     let sum = text.bytes().take(111).map(u32::from).sum::<u32>() % 256;
     assert_eq!(text[111..], format!("{sum:02X}"), "{name}");
-    if answer == 0 {
+    if form.line_answer == 0 {
         assert_eq!(std::str::from_utf8(&lent), Ok(text), "{name}");
     }
+    let expected = if form.read_answer == 0 { Ok(given) } else { Err(form.read_answer) };
+    assert_eq!(read(text.as_bytes()), expected, "{name}");
+}
+
+/// The columns filled with blanks in place of zeros, as the documents print them, and their own checksum.
+fn blank_filled(text: &str) -> String {
+    let blank = |word: &str| {
+        let (sign, digits) = word.split_at(usize::from(word.starts_with(['+', '-'])));
+        let rest = digits.trim_start_matches('0');
+        format!("{:>1$}", format!("{sign}{}", if rest.is_empty() { "0" } else { rest }), word.len())
+    };
+    let words: Vec<String> = text[..110].split(' ').map(blank).collect();
+    let columns = words.join(" ") + " ";
+    let sum = columns.bytes().map(u32::from).sum::<u32>() % 256;
+    format!("{columns}{sum:02X}")
 }
 
 #[test]
@@ -64,14 +70,25 @@ fn published_lines() {
     for case in &all {
         // the dates of document 004 lie before the schedule's first
         let old = case.name.starts_with("004");
-        let (answer, text) = expected(case.name, "published");
-        check(case.name, &case.printed, answer, text);
-        assert_eq!(answer, if old { 7 } else { 0 });
+        case.forms().for_each(|form| check(case.name, form));
+        assert_eq!(case.printed.line_answer, if old { 7 } else { 0 });
+        // a track length other than 0780 is a wrong character to the reader
+        let short = case.name.starts_with("004.3");
+        assert_eq!(case.printed.read_answer, if short { 13 } else { case.printed.line_answer });
         assert_eq!(case.put_in.is_some(), old);
         if let Some(put_in) = &case.put_in {
-            let (answer, text) = expected(case.name, "put in");
-            check(case.name, put_in, answer, text);
-            assert_eq!(answer, if case.name == "004.3" { 7 } else { 0 });
+            let short = case.name == "004.3";
+            assert_eq!((put_in.line_answer, put_in.read_answer), if short { (7, 13) } else { (0, 0) });
+        }
+    }
+}
+
+#[test]
+fn published_lines_filled_with_blanks_are_13() {
+    for case in published() {
+        for form in case.forms() {
+            let filled = blank_filled(form.columns);
+            assert_eq!((filled.len(), read(filled.as_bytes())), (113, Err(13)), "{filled}");
         }
     }
 }
