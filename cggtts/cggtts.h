@@ -17,6 +17,9 @@
 /* Exit statuses. Of several files the greatest counts. */
 enum { ACCEPTED = 0, REFUSED = 1, FAILED = 2 };
 
+/* The schedule's dates, for messages. */
+enum { FIRST_MJD = 50722, LAST_MJD = 99999 };
+
 /* The bytes of a file. */
 struct bytes {
     uint8_t *at;
@@ -87,5 +90,6 @@ void explain_line(const uint8_t *line, size_t length, uint32_t number);
 int line_command(int argc, char **argv);
 int check_command(int argc, char **argv);
 int read_command(int argc, char **argv);
+int starts_command(int argc, char **argv);
 
 #endif

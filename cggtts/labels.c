@@ -15,7 +15,7 @@ struct range {
 static const struct range RANGES[] = {
     {"satellite", TRACKLINE_AT_SATELLITE, TRACKLINE_WIDTH_SATELLITE, 1, 99},
     RANGE(HC, 0, 99),
-    RANGE(MJD, 50722, 99999),
+    RANGE(MJD, FIRST_MJD, LAST_MJD),
     RANGE(ELV, 0, 900),
     RANGE(AZTH, 0, 3599),
 };

@@ -1,10 +1,10 @@
-/* Refusal 8: the starts of the day that lie nearest, as the library's start test finds them. */
+/* The starts of a date, as the library's start test finds them: all for cggtts starts, the nearest for refusal 8. */
 #include "cggtts.h"
 
 #include <inttypes.h>
 #include <stdio.h>
 
-enum { DAY = 86400, NONE = -1 };
+enum { DAY = 86400, MINUTE = 60, NONE = -1 };
 
 /* The first start from a second on, in steps of 1 or -1, within the day. */
 static int64_t nearest_start(uint32_t mjd, int64_t second, int step)
@@ -38,4 +38,53 @@ void explain_start(const uint8_t *block)
     explain("nearest starts of MJD %" PRIu32 ": before it %s, after it %s", mjd,
             clock_time(nearest_start(mjd, second < DAY ? second : DAY - 1, -1), before, sizeof before),
             clock_time(nearest_start(mjd, second, 1), after, sizeof after));
+}
+
+/* A date in decimal digits. The greatest number stands for all that do not fit: no schedule has it either. */
+static int read_date(const char *word, uint32_t *mjd)
+{
+    uint64_t number = 0;
+    for (const char *digit = word; *digit != '\0'; digit++) {
+        if (*digit < '0' || *digit > '9') {
+            return 0;
+        }
+        number = 10 * number + (uint64_t)(*digit - '0');
+        number = number > UINT32_MAX ? UINT32_MAX : number;
+    }
+    *mjd = (uint32_t)number;
+    return word[0] != '\0';
+}
+
+/* As columns 14 to 19 of a line have it, so that a line file can be compared. */
+static void print_start(int second)
+{
+    char text[40];
+    snprintf(text, sizeof text, "%02d%02d%02d\n", second / 3600, second / MINUTE % 60, second % MINUTE);
+    print_text(text);
+}
+
+/* Every minute of the day is tried, as a start is a whole minute. */
+int starts_command(int argc, char **argv)
+{
+    uint32_t mjd;
+    if (argc < 2) {
+        return wrong_use("starts: no MJD");
+    }
+    if (argc > 2) {
+        return wrong_use("starts: '%s' is one word too many", argv[2]);
+    }
+    if (!read_date(argv[1], &mjd)) {
+        return wrong_use("starts: '%s' is no MJD", argv[1]);
+    }
+    for (int second = 0; second < DAY; second += MINUTE) {
+        uint32_t answer = trackline_start(mjd, (uint32_t)second);
+        if (answer == TRACKLINE_ACCEPTED) {
+            print_start(second);
+        } else if (answer != TRACKLINE_START) {
+            report_refusal(argv[1], answer);
+            explain("MJD is %s, not %d to %d", argv[1], FIRST_MJD, LAST_MJD);
+            return REFUSED;
+        }
+    }
+    return ACCEPTED;
 }

@@ -201,7 +201,10 @@ MUTANTS = [
     ('MJD 50721', 'schedule.rs', 'u32 = 50722', 'u32 = 50721'),
     ('MJD not 99999', 'schedule.rs', 'u32 = 99999', 'u32 = 99998'),
     # schedule
-    ('a day of 1436 minutes', 'schedule.rs', 'i64 = 1440', 'i64 = 1436'),
+    ('days of 1440 minutes', 'schedule.rs', 'i64 = 1436', 'i64 = 1440'),
+    ('whole days first', 'schedule.rs', '.rem_euclid(', '.rem_euclid(1440).rem_euclid('),
+    ('starts in the last four minutes', 'schedule.rs', 'i64::from(second) ==',
+     'i64::from(if second < 86400 { second % 86160 } else { second }) =='),
     ('90 tracks', 'schedule.rs', '1..=89', '1..=90'),
     ('88 tracks', 'schedule.rs', '1..=89', '1..=88'),
     ('later each day', 'schedule.rs', '- 4 * n', '+ 4 * n'),

@@ -38,6 +38,7 @@ MEANINGS = {1: "the block's two sizes are not 780 and 52",
             13: 'a character is not allowed in its column, or TRKL is not 0780',
             14: 'CK is not the two capital digits of the sum of the columns before it'}
 OWN = ' (worked out by cggtts, not by the library)'
+ONE_TOO_MANY = "starts: '50723' is one word too many"
 
 
 def run(*arguments, data=b'', **more):
@@ -63,7 +64,7 @@ class Use(Scratch):
     def test_help(self):
         status, output, errors = run('--help')
         self.assertEqual((status, errors), (0, ''))
-        for words in (b'cggtts line FILE.. [-o OUT]', b'cggtts check FILE..', b'cggtts read [FILE..]',
+        for words in (b'cggtts line FILE.. [-o OUT]', b'cggtts check FILE..', b'cggtts read [FILE..]', b'cggtts starts MJD',
                       b'Exit status: 0 accepted'):
             self.assertIn(words, output)
         status, output, errors = run('line', '--help')
@@ -87,7 +88,11 @@ class Use(Scratch):
                                   (('check',), 'check: no file'),
                                   (('check', '-o', 'x', SAMPLE), "check: no option '-o'"),
                                   (('check', '--'), 'check: no file'),
-                                  (('read', '-o', 'x'), "read: no option '-o'")):
+                                  (('read', '-o', 'x'), "read: no option '-o'"),
+                                  (('starts',), 'starts: no MJD'), (('starts', '50722', '50723'), ONE_TOO_MANY),
+                                  (('starts', ''), "starts: '' is no MJD"), (('starts', '-1'), "starts: '-1' is no MJD"),
+                                  (('starts', '5O722'), "starts: '5O722' is no MJD"),
+                                  (('starts', '50722.5'), "starts: '50722.5' is no MJD")):
             self.assertEqual(run(*arguments), (2, b'', 'cggtts: %s; try cggtts --help\n' % reason), arguments)
 
 
@@ -136,7 +141,7 @@ class Line(Scratch):
         message = 'cggtts: standard output: No space left on device\n'
         many = [SAMPLE] * 1000
         for arguments in (['line', SAMPLE], ['line', *many], ['check', SAMPLE], ['check', *many], ['--help'],
-                          ['--version'], ['line', '-o', '-', SAMPLE]):
+                          ['starts', '56842'], ['--version'], ['line', '-o', '-', SAMPLE]):
             with open('/dev/full', 'wb') as full:
                 self.assertEqual(run(*arguments, stdout=full), (2, None, message), arguments[:2])
         closed = subprocess.run(['/bin/sh', '-c', '"$0" line "$1" >&-', PROGRAM, ROOT / SAMPLE], capture_output=True,
@@ -394,7 +399,7 @@ class Check(Scratch):
         for part, value in (('satellite', 1), ('satellite', 99), ('HC', 99), ('ELV', 900), ('ELV', 0), ('AZTH', 3599),
                             ('FRC 0', ord('A')), ('FRC 1', ord('Z')), ('FRC 2', ord('9')), ('CL', 0)):
             self.assertEqual(run('check', '-', data=block({part: value}))[0], 0)
-        self.assertEqual(run('check', '-', data=block({'MJD': 99999, 'start': 840}))[0], 0)
+        self.assertEqual(run('check', '-', data=block({'MJD': 99999, 'start': 600}))[0], 0)
 
     def test_all_labels_are_named(self):
         self.explained(7, block({'constellation': ord('x'), 'FRC 0': 0, 'satellite': 0, 'HC': 255, 'MJD': 0, 'ELV': 65535,
@@ -414,6 +419,41 @@ class Check(Scratch):
         for far in (86400, 2 ** 32 - 1):
             self.explained(8, block({'start': far}), 'start is %d, and a day has 86400 seconds' % far,
                            nearest % (last, 'none'))
+        # the gap of that day
+        self.explained(8, block({'MJD': 50723, 'start': 86280}), 'start is 86280 (23:58:00)',
+                       'nearest starts of MJD 50723: before it 86040 (23:54:00), after it none')
+        self.explained(8, block({'MJD': 50723, 'start': 85320}), 'start is 85320 (23:42:00)',
+                       'nearest starts of MJD 50723: before it 84360 (23:26:00), after it 86040 (23:54:00)')
+
+
+class Starts(unittest.TestCase):
+    def rule(self, mjd):
+        """Track i starts at minute 2 + 16(i - 1) - 4n, brought into 0 to 1435 by whole 1436 minutes."""
+        minutes = sorted((2 + 16 * (i - 1) - 4 * (mjd - 50722)) % 1436 for i in range(1, 90))
+        return ''.join('%02d%02d00\n' % divmod(minute, 60) for minute in minutes).encode()
+
+    def test_by_the_rule(self):
+        """All dates until the starts come again, and a date of every 997."""
+        for mjd in (*range(50722, 50722 + 360), *range(50722, 100000, 997), 99998, 99999):
+            self.assertEqual(run('starts', mjd), (0, self.rule(mjd), ''), mjd)
+
+    def test_by_hand(self):
+        self.assertTrue(run('starts', 50722)[1].startswith(b'000200\n001800\n003400\n'))
+        self.assertTrue(run('starts', 50723)[1].endswith(b'232600\n235400\n'))
+        self.assertEqual(run('starts', '0050722'), run('starts', 50722))
+
+    def test_beside_a_published_file(self):
+        """The starts that documents 003 and 000 print are the first of their dates."""
+        rows = (ROOT / 'tests' / 'published' / 'published.txt').read_text().splitlines()
+        for document, mjd, count in (('003.', 56842, 4), ('000.', 57000, 1)):
+            published = {row.split()[4] for row in rows if row.startswith(document)}
+            self.assertEqual(run('starts', mjd)[1].decode().split()[:count], sorted(published))
+        self.assertTrue(run('starts', 56842)[1].startswith(b'001400\n003000\n004600\n'))
+
+    def test_dates_out_of_range(self):
+        for mjd in ('0', '50721', '100000', '4294967295', '4294967296', '4294968018', '99999999999999999999999'):
+            refusal = '%s: refused 7: %s\n  MJD is %s, not 50722 to 99999\n' % (mjd, MEANINGS[7], mjd)
+            self.assertEqual(run('starts', mjd), (1, b'', refusal))
 
 
 SAMPLE_COLUMNS, WORKED_COLUMNS = SAMPLE_LINE.decode()[:111], WORKED_LINE.decode()[:111]

@@ -211,7 +211,7 @@ static uint8_t *correction(uint8_t *block, size_t column, size_t j)
 static uint32_t a_start(uint32_t mjd, size_t track)
 {
     int64_t minute = 2 + 16 * (int64_t)(track % 89) - 4 * ((int64_t)mjd - 50722);
-    return (uint32_t)(60 * (((minute % 1440) + 1440) % 1440));
+    return (uint32_t)(60 * (((minute % 1436) + 1436) % 1436));
 }
 
 /* The paper's sample, which is accepted. */

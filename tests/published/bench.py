@@ -5,8 +5,8 @@ FILL = b'.'
 SAMPLE = ('G05 FF 50722 000200 0780 450 1800 +0000000010 +00000 +0000000010 +00000 0000 007 0000 +000 0000 +000 '
           '00 00 L1C 26')
 # Document 01, "What the technician tries", without what is marked P, and some refusals of "Each operation and its refusals,
-# in order". The paper leaves out the value of fifteen equal measurements, the slope of 52 equal values, and the midpoint of
-# 344 in the last place (344 / 5200).
+# in order"; the starts are those of document 02, Job 2. The paper leaves out the value of fifteen equal measurements, the
+# slope of 52 equal values, and the midpoint of 344 in the last place (344 / 5200).
 TECHNICIAN = [
     ('smooth', '10^12 everywhere', 'value 1000000000000'),
     ('smooth', 'last 10^12 + 1', 'refused 2'),
@@ -26,8 +26,11 @@ TECHNICIAN = [
     ('start', 'MJD 50722, 84600', 'accepted'),
     ('start', 'MJD 50722, 85560', 'refused 8'),
     ('start', 'MJD 50723, 840', 'accepted'),
-    ('start', 'MJD 50723, 86280', 'accepted'),
+    ('start', 'MJD 50723, 86040', 'accepted'),
+    ('start', 'MJD 50723, 86280', 'refused 8'),
     ('start', 'MJD 50723, 120', 'refused 8'),
+    ('start', 'MJD 56842, 840', 'accepted'),
+    ('start', 'MJD 56842, 120', 'refused 8'),
     ('line', 'lent 112 bytes', 'refused 9'),
     ('line', 'lent 112 bytes', 'bytes kept 112'),
     ('line', 'lent 114 bytes', SAMPLE),

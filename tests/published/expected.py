@@ -32,7 +32,8 @@ COLUMNS = re.compile('[GRECJ]d{2} [0-9A-F]{2} d{5} d{6} 0780 d{3} d{4} sd{10} sd
                      'sd{3} d{2} d{2} [A-Z0-9]{3} '.replace('d', '[0-9]').replace('s', '[+-]'))
 MINUS_ZERO = re.compile('-0+ ')
 HEADER = """# Made by expected.py from published.txt. For each published line: Line's answer, the reader's answer to the
-# columns, and the columns in our form, as published and with what is put in. Line writes them where its answer is 0.
+# columns, and the columns in our form, as published and, where another date, start or length is put in, with that. Line
+# writes them where its answer is 0.
 """
 
 
@@ -67,7 +68,7 @@ def text(fields):
 
 def starts(mjd):
     """The seconds of that day at which a track starts."""
-    return {(120 + 960 * k - 240 * (mjd - 50722)) % 86400 for k in range(89)}
+    return {60 * ((2 + 16 * k - 4 * (mjd - 50722)) % 1436) for k in range(89)}
 
 
 def answer(fields):
@@ -102,25 +103,25 @@ def reading(fields):
 
 
 def forms():
-    """Name, fields as published and fields with what is put in."""
+    """Name and forms of each line: its fields as published, and where they are others with what is put in."""
     for name, fields, put in read():
         published = completed(fields, put)
-        yield name, published, {**published, **put}
+        given = {**published, **put}
+        yield name, {'published': published, **({'put in': given} if given != published else {})}
 
 
 def expected():
-    def row(fields):
-        return '%d %2d  %s' % (answer(fields), reading(fields), text(fields))
+    def row(kind, fields):
+        return '  %s%d %2d  %s\n' % (kind.ljust(11), answer(fields), reading(fields), text(fields))
 
-    records = ['%s\n  published  %s\n  put in     %s\n' % (name, row(published), row(given))
-               for name, published, given in forms()]
+    records = [name + '\n' + ''.join(row(*form) for form in kinds.items()) for name, kinds in forms()]
     return HEADER + '\n' + ''.join(records)
 
 
 def lines():
     """The cases of Line for the program bench: name, line and answer."""
-    for name, published, given in forms():
-        for kind, fields in ('published', published), ('put in', given):
+    for name, kinds in forms():
+        for kind, fields in kinds.items():
             yield '%s %s' % (name, kind), text(fields), answer(fields)
 
 
@@ -141,12 +142,14 @@ def misfits():
 
 def counts():
     """What docs/TRUST.md says of the published lines and of bench. A name that ends in a letter is a line once more."""
-    names, cases, technician = [name for name, _, _ in read()], len(list(lines())), len(bench.TECHNICIAN)
+    names, cases, technician = [name for name, _ in forms()], len(list(lines())), len(bench.TECHNICIAN)
     again = sum(name[-1].isalpha() for name in names)
-    assert cases == 2 * len(names) and again == 1
-    return ('%d lines, each as published and with a legal date, one of them with a legal length too: %d cases' % (
-                len(names) - again, cases),
-            '%d cases: %d of document 01, %d of published lines; 0 wrong' % (technician + cases, technician, cases))
+    old = [name for name, kinds in forms() if 'put in' in kinds]
+    whole = [name for name, _, answer in lines() if name.endswith(' published') and answer == 0]
+    assert again == 1 and all(name.startswith('004.') for name in old) and len(whole) + len(old) == len(names)
+    return ('%d lines as published, %d of them accepted whole; the %d of document 004 with a legal date too, one of them '
+            'with a legal length: %d cases' % (len(names) - again, len(whole), len(old) - again, cases),
+            '%d cases: %d of documents 01 and 02, %d of published lines; 0 wrong' % (technician + cases, technician, cases))
 
 
 def check():

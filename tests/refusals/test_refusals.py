@@ -1,5 +1,6 @@
 #!/usr/bin/env python3
-"""What docs/REFUSALS.md says leads to a refusal, or to none, tried with the worked track and target/bin/trackline.
+"""What docs/REFUSALS.md says leads to a refusal, or to none, tried with the worked track and target/bin/trackline, and the
+starts of a day with target/cggtts/cggtts too.
 
     python3 tests/refusals/test_refusals.py
 """
@@ -14,6 +15,7 @@ import unittest
 
 ROOT = pathlib.Path(__file__).resolve().parents[2]
 PROGRAM = ROOT / 'target' / 'bin' / 'trackline'
+CGGTTS = ROOT / 'target' / 'cggtts' / 'cggtts'
 
 sys.dont_write_bytecode = True
 LOADER = importlib.machinery.SourceFileLoader('hireblock', str(ROOT / 'tools' / 'hireblock'))
@@ -168,27 +170,45 @@ class Card(unittest.TestCase):
 
 
 class Starts(unittest.TestCase):
+    anchor = [2 + 16 * k for k in range(89)]
+
     def listed(self, mjd):
         """The minutes at which the program lets a track start."""
         return [minute for minute in range(1440) if tried(MJD=mjd, start=60 * minute) == 0]
 
+    def printed(self, mjd):
+        """The minutes that cggtts starts prints."""
+        rows = subprocess.run([CGGTTS, 'starts', str(mjd)], stdout=subprocess.PIPE, check=True).stdout.decode().split()
+        self.assertTrue(all(row[4:] == '00' for row in rows))
+        return [60 * int(row[:2]) + int(row[2:4]) for row in rows]
+
     def test_the_card_s_rule(self):
-        anchor = [2 + 16 * k for k in range(89)]
-        self.assertEqual(anchor[-1], 23 * 60 + 30)
-        self.assertEqual(self.listed(60802), anchor)
-        ten_days_later = self.listed(60812)
-        self.assertEqual(ten_days_later, sorted((minute - 40) % 1440 for minute in anchor))
-        gaps = [(b - a) % 1440 for a, b in zip(ten_days_later, ten_days_later[1:] + ten_days_later[:1])]
-        self.assertEqual(collections.Counter(gaps), {16: 88, 32: 1})
-        self.assertEqual(ten_days_later[(gaps.index(32) + 1) % 89], (2 - 40) % 1440)
+        self.assertEqual(self.anchor[-1], 23 * 60 + 30)
+        self.assertEqual(self.listed(60774), self.anchor)
+        later = self.listed(60812)
+        self.assertEqual(later, sorted((minute - 38 * 4) % 1436 for minute in self.anchor))
+        gaps = [b - a for a, b in zip(later, later[1:])]
+        self.assertEqual(collections.Counter(gaps), {16: 87, 28: 1})
+        self.assertEqual(later[gaps.index(28) + 1], 2 - 38 * 4 + 1436)
+
+    def test_the_card_s_rule_on_each_day(self):
+        """From one MJD of 00:02 .. 23:30 to the next, as cggtts prints them."""
+        for days in range(360):
+            found = self.printed(60774 + days)
+            counted = [minute for minute in range(23 * 60 + 56) if (minute + 4 * (days % 359)) % 1436 in self.anchor]
+            self.assertEqual(found, counted)
+            gaps = collections.Counter(b - a for a, b in zip(found, found[1:]))
+            self.assertEqual(gaps, {16: 88} if days == 0 or days >= 359 - 6 else {16: 87, 28: 1})
+            self.assertLessEqual(found[-1], 23 * 60 + 54)
 
     def test_the_card_s_examples(self):
-        for mjd in 50722, 60442, 60802, 61162:
+        for mjd in 50722, 60415, 60774, 61133:
             answers = [tried(MJD=mjd, start=60 * minute) for minute in (2, 18, 1410, 1426, 1438)]
             self.assertEqual(answers, [0, 0, 0, 8, 8])
         self.assertEqual([tried(MJD=60812, start=60 * (13 * 60 + minute)) for minute in (38, 30)], [8, 0])
+        self.assertEqual(tried(MJD=60812, start=60 * (23 * 60 + 50)), 0)
         self.assertEqual([tried(MJD=60600, start=start) for start in (48600, 133000)], [0, 8])
-        self.assertEqual(tried(MJD=60803, start=60 * (23 * 60 + 58)), 0)
+        self.assertEqual([tried(MJD=60775, start=60 * (23 * 60 + minute)) for minute in (54, 58)], [0, 8])
 
 
 if __name__ == '__main__':

@@ -99,9 +99,12 @@ class Trackline(unittest.TestCase):
             self.refused(7, block({part: value}))
 
     def test_starts(self):
-        for mjd, start in ((50722, 121), (50722, 0), (50722, 85560), (50722, 86520), (50723, 120), (50722, 2 ** 32 - 1)):
+        for mjd, start in ((50722, 121), (50722, 0), (50722, 85560), (50722, 86520), (50723, 120), (50723, 86280),
+                           (56842, 120), (50722, 2 ** 32 - 1)):
             self.refused(8, block({'MJD': mjd, 'start': start}))
-        self.assertEqual(printed(block({'MJD': 50723, 'start': 840}))[:19], b'G05 FF 50723 001400')
+        for mjd, start, columns in ((50723, 840, b'50723 001400'), (50723, 86040, b'50723 235400'),
+                                    (56842, 840, b'56842 001400')):
+            self.assertEqual(printed(block({'MJD': mjd, 'start': start}))[:19], b'G05 FF ' + columns)
 
     def test_first_fault_is_named(self):
         faults = [(11, None), (1, {'groups size': 51}), (2, {'GD': 2 ** 62}), (7, {'HC': 200}), (8, {'start': 121})]

@@ -1,4 +1,5 @@
-// The cases of document 01, "What the technician tries", that are not marked P, and some refusals beside them.
+// The cases of document 01, "What the technician tries", that are not marked P, and some refusals beside them. The starts are
+// those of document 02, Job 2.
 use crate::counts::Tally;
 use crate::lines::FILL;
 use crate::lines::report_line;
@@ -100,8 +101,11 @@ pub fn start_cases(tally: Tally) -> Tally {
         .with(try_start(b"MJD 50722, 84600", 50722, 84600, 0))
         .with(try_start(b"MJD 50722, 85560", 50722, 85560, 8))
         .with(try_start(b"MJD 50723, 840", 50723, 840, 0))
-        .with(try_start(b"MJD 50723, 86280", 50723, 86280, 0))
+        .with(try_start(b"MJD 50723, 86040", 50723, 86040, 0))
+        .with(try_start(b"MJD 50723, 86280", 50723, 86280, 8))
         .with(try_start(b"MJD 50723, 120", 50723, 120, 8))
+        .with(try_start(b"MJD 56842, 840", 56842, 840, 0))
+        .with(try_start(b"MJD 56842, 120", 56842, 120, 8))
 }
 
 // The labels and the numbers of document 01's sample line.

@@ -1,4 +1,4 @@
--- The track schedule (document 01, "Start times", and refusals 7 and 8 of the start test).
+-- The track schedule (document 01, "Start times", and refusals 7 and 8 of the start test; document 02, Job 2).
 -- Assumes nothing.
 use Prim.Native.Nat.{ℕ, zero, suc, _+_, _*_, _-_}
 use mathlib.Core.Bool.{Bool, false, not, _||_}
@@ -17,11 +17,11 @@ lastDate = 99999
 abbrev pub tracks : ℕ
 tracks = 89
 
--- The minutes by which a start is brought into the day.
+-- The minutes after which the tracks repeat, 23 h 56 min, and by which a start is brought into the day.
 abbrev pub day : ℕ
-day = 1440
+day = 1436
 
--- A minute brought into 0 to day - 1 by adding or taking whole days: z less the day times the floor of z / day.
+-- A minute brought into 0 to day - 1 by adding or taking 1436 minutes, as often as needed: z less the day times the floor of z / day.
 unfoldable pub broughtIn : ℤ → ℕ
 broughtIn z = natAbs (z -ℤ pos day *ℤ shrZ z day)
 

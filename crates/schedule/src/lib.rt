@@ -11,7 +11,8 @@ const LAST_DATE: u32 = 99999;
 
 const TRACKS: u32 = 89;
 
-const DAY: u32 = 1440;
+// The minutes after which the tracks repeat: 23 h 56 min.
+const DAY: u32 = 1436;
 
 // The minutes by which the tracks of a day start earlier than those of the day before.
 const EARLIER: u32 = 4;

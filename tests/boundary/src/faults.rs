@@ -2,7 +2,7 @@
 
 use crate::case::*;
 use crate::compare::Lent;
-use reference::good::{good_labels, good_numbers};
+use reference::good::{good_labels, good_numbers, track_start};
 use reference::seeded::Seeded;
 use reference::{Labels, Numbers, BLOCK_BYTES};
 
@@ -150,18 +150,16 @@ pub fn spoil_label(labels: &mut Labels, which: usize, seeded: &mut Seeded) {
     }
 }
 
-/// A second at which no track of that day starts: starts are 16 minutes apart, and the ninetieth place stays empty.
+/// A second at which no track of that day starts: starts are 16 minutes apart, the ninetieth place stays empty, and from
+/// 23:56 on there is none.
 pub fn spoil_start(labels: &mut Labels, seeded: &mut Seeded) {
     labels.start = match seeded.below(6) {
         0 => labels.start + seeded.range(1, 59) as u32,
         1 => (labels.start + 60 * seeded.range(1, 15) as u32) % 86400,
         2 => labels.start + 86400,
         3 => u32::MAX - seeded.below(15) as u32,
-        4 => {
-            let days_on = i64::from(labels.mjd) - 50722;
-            60 * (2 + 16 * 89 - 4 * days_on).rem_euclid(1440) as u32
-        }
-        _ => from(seeded, 86400, u32::MAX.into()) as u32,
+        4 => track_start(labels.mjd, 90),
+        _ => from(seeded, 86160, u32::MAX.into()) as u32,
     };
 }
 

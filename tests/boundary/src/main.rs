@@ -32,6 +32,7 @@ fn main() -> ExitCode {
     readings::run(&mut compare, &mut Seeded::new(seed + 4), scale);
     blocks::run(&mut compare, &mut Seeded::new(seed + 2), scale);
     starts::run(&mut compare, &mut Seeded::new(seed + 3), scale);
+    readings::dates(&mut compare, &mut Seeded::new(seed + 5));
     let missing = report(&compare);
     missing.iter().for_each(|what| eprintln!("MISSING: {what}"));
     if compare.agreed() && missing.is_empty() {

@@ -1,7 +1,7 @@
 //! Faults that can be put into the text of a good line, each the cause of one refusal of the reader.
 
 use crate::compare::Lent;
-use reference::good::{a_start, good_comment, good_labels, good_numbers};
+use reference::good::{a_start, good_comment, good_labels, good_numbers, track_start};
 use reference::seeded::Seeded;
 use reference::{LINE_BYTES, LONGEST_LINE, VALUES};
 
@@ -216,8 +216,7 @@ fn spoil_start(line: &mut [u8], fault: Fault, seeded: &mut Seeded) {
         OffStart if seeded.below(2) == 0 => (hour, minute, seeded.range(1, 59) as u32),
         OffStart => (hour, minute + seeded.range(1, 15) as u32, 0),
         Ninetieth => {
-            let days_on = i64::from(mjd) - 50722;
-            let place = (2 + 16 * 89 - 4 * days_on).rem_euclid(1440) as u32;
+            let place = track_start(mjd, 90) / 60;
             (place / 60, place % 60, 0)
         }
         Hour => (hour + 24 * seeded.range(1, 3) as u32, minute, 0),

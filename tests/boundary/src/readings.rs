@@ -3,10 +3,10 @@
 use crate::compare::{Compare, Lent};
 use crate::library;
 use crate::reading_faults::*;
-use reference::good::{good_comment, good_labels, good_numbers};
+use reference::good::{good_comment, good_labels, good_numbers, track_start};
 use reference::published::published;
 use reference::seeded::Seeded;
-use reference::{LINE_BYTES, LONGEST_LINE, VALUES};
+use reference::{FIRST_MJD, LAST_MJD, LINE_BYTES, LONGEST_LINE, VALUES};
 
 pub fn run(compare: &mut Compare, seeded: &mut Seeded, scale: usize) {
     faulty(compare, seeded, 60 * scale);
@@ -139,7 +139,7 @@ fn lengths(compare: &mut Compare, seeded: &mut Seeded) {
 /// The lines printed in the format documents, against what the script beside them expects.
 fn printed(compare: &mut Compare) {
     for case in published() {
-        for form in [&case.printed, &case.put_in] {
+        for form in case.forms() {
             for lent in [Lent::Null, Lent::Of(VALUES - 1), Lent::Of(VALUES), Lent::Of(VALUES + 1)] {
                 let answer = compare.read(case.name, Some(form.columns.as_bytes()), lent);
                 let short = if lent.len() < VALUES { 9 } else { 0 };
@@ -167,6 +167,21 @@ fn clocks(compare: &mut Compare, seeded: &mut Seeded) {
         put(&mut line, 8, &mjd.to_string());
         for (minutes, second) in (0..10_000).flat_map(|m| ["00", "01", "59", "60"].map(|second| (m, second))) {
             try_text(compare, "lines by their clock", &mut line, 14, &format!("{minutes:04}{second}"));
+        }
+    }
+}
+
+/// Every date of the schedule with all its starts and the place where a ninetieth would be, and about one of them the clocks
+/// beside it.
+pub fn dates(compare: &mut Compare, seeded: &mut Seeded) {
+    let mut line = good_columns(seeded);
+    for mjd in FIRST_MJD..=LAST_MJD {
+        put(&mut line, 8, &mjd.to_string());
+        let near = i64::from(track_start(mjd, seeded.range(1, 89)));
+        let beside = [-240, -60, -1, 1, 60, 240].map(|off| (near + off).rem_euclid(86400) as u32);
+        for second in (1..=90).map(|i| track_start(mjd, i)).chain(beside) {
+            let clock = format!("{:02}{:02}{:02}", second / 3600, second / 60 % 60, second % 60);
+            try_text(compare, "lines by their date and start", &mut line, 14, &clock);
         }
     }
 }

@@ -3,11 +3,15 @@
 use crate::seeded::Seeded;
 use crate::{Labels, Numbers, FIRST_MJD, LAST_MJD};
 
+/// The second of that day at which track i starts. There are 89: the place of a ninetieth stays empty.
+pub fn track_start(mjd: u32, i: i64) -> u32 {
+    let days_on = i64::from(mjd) - i64::from(FIRST_MJD);
+    60 * (2 + 16 * (i - 1) - 4 * days_on).rem_euclid(1436) as u32
+}
+
 /// A second of that day at which one of the 89 tracks starts.
 pub fn a_start(seeded: &mut Seeded, mjd: u32) -> u32 {
-    let i = seeded.range(1, 89);
-    let days_on = i64::from(mjd) - i64::from(FIRST_MJD);
-    60 * (2 + 16 * (i - 1) - 4 * days_on).rem_euclid(1440) as u32
+    track_start(mjd, seeded.range(1, 89))
 }
 
 fn issues(constellation: u8) -> (i64, i64) {

@@ -11,11 +11,17 @@ const NAMES: [&str; 21] = [
     "SMDT", "MDIO", "SMDI", "FR", "HC", "FRC", "CK",
 ];
 
-/// A published line as printed and with what is put in.
+/// A published line as printed and, where another date, start or length is put in, with that.
 pub struct Published {
     pub name: &'static str,
     pub printed: Form,
-    pub put_in: Form,
+    pub put_in: Option<Form>,
+}
+
+impl Published {
+    pub fn forms(&self) -> impl Iterator<Item = &Form> {
+        [&self.printed].into_iter().chain(&self.put_in)
+    }
 }
 
 /// What stands in a line, its columns in our form, and what Line and the reader should answer to them.
@@ -41,9 +47,10 @@ fn read(row: &'static str) -> Published {
     let put: Fields = put.split_whitespace().map(|word| word.split_once('=').expect("name=value")).collect();
     let missing = put.iter().filter(|(name, _)| fields[*name] == "-" || **name == "SAT").collect::<Vec<_>>();
     fields.extend(missing);
-    let printed = form(name, "published", &fields);
+    let as_printed = fields.clone();
     fields.extend(put);
-    Published { name, printed, put_in: form(name, "put in", &fields) }
+    let put_in = (fields != as_printed).then(|| form(name, "put in", &fields));
+    Published { name, printed: form(name, "published", &as_printed), put_in }
 }
 
 fn form(name: &str, which: &str, fields: &Fields) -> Form {

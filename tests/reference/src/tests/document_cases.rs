@@ -79,7 +79,8 @@ fn start_cases() {
     assert_eq!(start(50722, 84600), 0);
     assert_eq!(start(50722, 85560), 8);
     assert_eq!(start(50723, 840), 0);
-    assert_eq!(start(50723, 86280), 0);
+    assert_eq!(start(50723, 86040), 0);
+    assert_eq!(start(50723, 86280), 8);
     assert_eq!(start(50723, 120), 8);
     assert_eq!(start(50721, 120), 7);
     assert_eq!(start(100_000, 120), 7);
@@ -93,6 +94,35 @@ fn each_day_has_89_starts() {
     for mjd in (50722..=99999).step_by(997) {
         assert_eq!((0..86400).filter(|second| start(mjd, *second) == 0).count(), 89);
     }
+}
+
+/// The minutes at which a day's tracks start.
+fn starts(mjd: u32) -> Vec<u32> {
+    (0..1440).filter(|minute| start(mjd, 60 * minute) == 0).collect()
+}
+
+/// Document 003 prints tracks of MJD 56842 at 00:14, 00:30, 00:46 and 01:02, document 000 of MJD 57000 at 00:06.
+#[test]
+fn starts_of_the_published_files() {
+    assert_eq!(starts(56842)[..4], [14, 30, 46, 62]);
+    assert_eq!(starts(57000)[0], 6);
+}
+
+/// Tracks repeat after 1436 minutes: 16 minutes apart but for one gap of 28, and the same again after 359 days.
+#[test]
+fn starts_from_day_to_day() {
+    assert_eq!(starts(50722), (0..89).map(|k| 2 + 16 * k).collect::<Vec<u32>>());
+    for mjd in 50722..50722 + 359 {
+        let of_day = starts(mjd);
+        let mut next: Vec<u32> = of_day.iter().map(|minute| (minute + 1432) % 1436).collect();
+        next.sort_unstable();
+        assert_eq!(starts(mjd + 1), next);
+        let after = of_day[1..].iter().copied().chain([of_day[0] + 1436]);
+        let mut gaps: Vec<u32> = of_day.iter().zip(after).map(|(minute, next)| next - minute).collect();
+        gaps.sort_unstable();
+        assert_eq!((&gaps[..88], gaps[88]), (&[16; 88][..], 28));
+    }
+    assert_eq!(starts(50722 + 359), starts(50722));
 }
 
 #[test]

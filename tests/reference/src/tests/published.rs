@@ -68,21 +68,27 @@ fn published_lines() {
     let all = published();
     assert_eq!(all.len(), 45);
     for case in &all {
-        check(case.name, &case.put_in);
-        check(case.name, &case.printed);
-        let short = case.name == "004.3";
-        assert_eq!((case.put_in.line_answer, case.put_in.read_answer), if short { (7, 13) } else { (0, 0) });
+        // the dates of document 004 lie before the schedule's first
+        let old = case.name.starts_with("004");
+        case.forms().for_each(|form| check(case.name, form));
+        assert_eq!(case.printed.line_answer, if old { 7 } else { 0 });
         // a track length other than 0780 is a wrong character to the reader
-        let number = if case.name.starts_with("004") { 7 } else { 8 };
-        assert_eq!(case.printed.line_answer, number);
-        assert_eq!(case.printed.read_answer, if case.name.starts_with("004.3") { 13 } else { number });
+        let short = case.name.starts_with("004.3");
+        assert_eq!(case.printed.read_answer, if short { 13 } else { case.printed.line_answer });
+        assert_eq!(case.put_in.is_some(), old);
+        if let Some(put_in) = &case.put_in {
+            let short = case.name == "004.3";
+            assert_eq!((put_in.line_answer, put_in.read_answer), if short { (7, 13) } else { (0, 0) });
+        }
     }
 }
 
 #[test]
 fn published_lines_filled_with_blanks_are_13() {
     for case in published() {
-        let filled = blank_filled(case.put_in.columns);
-        assert_eq!((filled.len(), read(filled.as_bytes())), (113, Err(13)), "{filled}");
+        for form in case.forms() {
+            let filled = blank_filled(form.columns);
+            assert_eq!((filled.len(), read(filled.as_bytes())), (113, Err(13)), "{filled}");
+        }
     }
 }

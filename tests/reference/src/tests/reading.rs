@@ -206,7 +206,7 @@ fn labels_beyond_their_range_are_7() {
 
 #[test]
 fn times_that_are_no_start_are_8() {
-    // MJD 50722: starts at 00:02, 00:18 .. 23:30; MJD 50723 at 00:14 .. and, for 00:02, at 23:58
+    // MJD 50722: starts at 00:02, 00:18 .. 23:30; MJD 50723 at 00:14 .. and, for 00:02, at 23:54
     for (time, expected) in [("000200", 0), ("233000", 0), ("234600", 8), ("000201", 8), ("000300", 8), ("000000", 8)] {
         check(expected, SAMPLE_LINE, 14, time);
     }
@@ -217,8 +217,11 @@ fn times_that_are_no_start_are_8() {
     check(0, SAMPLE_LINE, 8, "50723 010200");
     check(8, SAMPLE_LINE, 8, "50723 006200");
     check(8, SAMPLE_LINE, 8, "50723 010160");
-    check(0, SAMPLE_LINE, 8, "50723 235800");
-    check(8, SAMPLE_LINE, 8, "50723 235760");
+    check(0, SAMPLE_LINE, 8, "50723 235400");
+    check(8, SAMPLE_LINE, 8, "50723 235360");
+    check(8, SAMPLE_LINE, 8, "50723 235800");
+    check(0, SAMPLE_LINE, 8, "56842 001400");
+    check(8, SAMPLE_LINE, 8, "56842 000200");
     // every clock of six digits on one day: 89 are starts
     let starts = (0..1_000_000).filter(|time| answer(&with(SAMPLE_LINE, 14, &format!("{time:06}"))) == 0);
     assert_eq!(starts.count(), 89);

@@ -38,16 +38,14 @@ fn widest_numbers_fill_their_columns() {
         cl: 0xA9,
         hc: 99,
         frc: *b"0Z9",
+        // 4 * 49277 minutes are 376 more than 137 * 1436, so track 25 starts at minute 2 + 16 * 24 - 376 = 10
         mjd: 99999,
-        start: 0,
+        start: 600,
         elv: 900,
         azth: 3599,
         ioe: 999,
         ..SAMPLE_LABELS
     };
-    // MJD 99999: 4 * 49277 minutes back is 28 short of 137 days, so starts are at minutes 30 + 16 k - 1440 m
-    let labels =
-        (0..1440).map(|m| Labels { start: 60 * m, ..labels }).find(|l| answer(l, &FULL) == 0).expect("a start");
     let text = written(&labels, &FULL);
     assert_eq!(
         &text[20..111],
@@ -66,8 +64,8 @@ fn time_of_day() {
     let numbers = Numbers { trkl: 780, ..Numbers::default() };
     let text = written(&Labels { start: 84600, ..SAMPLE_LABELS }, &numbers);
     assert_eq!(&text[13..19], "233000");
-    let text = written(&Labels { mjd: 50723, start: 86280, ..SAMPLE_LABELS }, &numbers);
-    assert_eq!(&text[7..19], "50723 235800");
+    let text = written(&Labels { mjd: 50723, start: 86040, ..SAMPLE_LABELS }, &numbers);
+    assert_eq!(&text[7..19], "50723 235400");
 }
 
 fn check(expected: u32, labels: Labels) {
