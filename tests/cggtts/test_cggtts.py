@@ -536,7 +536,7 @@ class Read(Scratch):
                    '  CL             0A                     0A', '  ELV            90.0 degrees           900',
                    '  AZTH           359.9 degrees          3599', '  HC             99                     99',
                    '  FRC            0Z9')
-        self.shown(line_with([(8, '50723'), (14, '235800')]), '  start          23:58:00, second 86280 235800')
+        self.shown(line_with([(8, '50723'), (14, '235400')]), '  start          23:54:00, second 86040 235400')
 
     def test_constellations(self):
         for letter, name in (('G', 'GPS'), ('E', 'Galileo'), ('C', 'BeiDou'), ('J', 'QZSS')):
