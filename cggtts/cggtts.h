@@ -38,6 +38,7 @@ void free_bytes(struct bytes *bytes);
 /* output.c: standard output, and what goes wrong with it, which is told once, at the end. */
 void print_bytes(const void *bytes, size_t length);
 void print_text(const char *text);
+void flush_output(void);
 int close_output(void);
 
 /* messages.c: all on standard error. */

@@ -22,7 +22,7 @@ static void explain_refusal(const struct bytes *block, uint32_t number)
 {
     switch (number) {
     case TRACKLINE_LENGTH:
-        explain("it has %zu bytes", block->length);
+        explain("it has %zu byte%s", block->length, block->length == 1 ? "" : "s");
         explain_text(block);
         break;
     case TRACKLINE_COUNT:

@@ -94,19 +94,25 @@ static void explain_character(const uint8_t *line, size_t length)
             return;
         }
     }
-    for (size_t column = TRACKLINE_LINE_BYTES + 1; column <= length; column++) {
-        if (line[column - 1] < 0x20 || line[column - 1] > 0x7E) {
-            explain_column(line, column, "a byte from 20 to 7E");
-            return;
-        }
-    }
     for (const struct field *field = FIELD; field < FIELD + FIELDS - 1; field++) {
         if (minus_zero(line, field)) {
             explain("column %zu (%s) is a minus before a zero, which has a plus", field->first, field->name);
             return;
         }
     }
+    for (size_t column = TRACKLINE_LINE_BYTES + 1; column <= length; column++) {
+        if (line[column - 1] < 0x20 || line[column - 1] > 0x7E) {
+            explain_column(line, column, "a byte from 20 to 7E");
+            return;
+        }
+    }
     explain("columns 21 to 24 (TRKL) are %.4s, not 0780", (const char *)line + 20);
+}
+
+/* A byte as it is shown between quotes, where a blank is seen. */
+static const char *in_quotes(uint8_t byte, char *room)
+{
+    return byte == ' ' ? " " : shown(byte, room);
 }
 
 static void explain_check(const uint8_t *line)
@@ -116,8 +122,8 @@ static void explain_check(const uint8_t *line)
     for (size_t i = 0; i < CHECKED; i++) {
         sum += line[i];
     }
-    explain("CK, columns 112 and 113, is %s%s, and the columns before it give %02X",
-            shown(line[CHECKED], first), shown(line[CHECKED + 1], second), sum % 256);
+    explain("CK, columns 112 and 113, is \"%s%s\", and the columns before it give %02X",
+            in_quotes(line[CHECKED], first), in_quotes(line[CHECKED + 1], second), sum % 256);
 }
 
 /* The number in columns that hold digits. */
@@ -178,7 +184,7 @@ void explain_line(const uint8_t *line, size_t length, uint32_t number)
     uint8_t block[TRACKLINE_AT_INT] = {0};
     switch (number) {
     case TRACKLINE_LINE_LENGTH:
-        explain("it has %zu bytes", length);
+        explain("it has %zu byte%s", length, length == 1 ? "" : "s");
         break;
     case TRACKLINE_CHECKSUM:
         explain_check(line);

@@ -40,8 +40,8 @@ static int print_help(const struct command *only)
             print_usage(&COMMANDS[i]);
         }
     }
-    print_text("A FILE named - is standard input. Exit status: 0 accepted, 1 refused, 2 wrong use or a file that can't be\n"
-               "read or written. See cggtts(1).\n");
+    print_text("A FILE named -, or for read no FILE, is standard input. Exit status: 0 accepted, 1 refused, 2 wrong use or\n"
+               "a file that can't be read or written. See cggtts(1).\n");
     return ACCEPTED;
 }
 

@@ -9,7 +9,7 @@
 /* A file, or the program, and what is wrong with it. */
 void complain(const char *file, const char *reason)
 {
-    fflush(stdout);
+    flush_output();
     fprintf(stderr, "cggtts: %s: %s\n", file, reason);
 }
 
@@ -33,7 +33,7 @@ static const char *meaning(uint32_t number)
 
 void report_refusal(const char *file, uint32_t number)
 {
-    fflush(stdout);
+    flush_output();
     fprintf(stderr, "%s: refused %" PRIu32 ": %s\n", file, number, meaning(number));
 }
 
@@ -53,7 +53,7 @@ int wrong_use(const char *form, ...)
 {
     va_list given;
     va_start(given, form);
-    fflush(stdout);
+    flush_output();
     fputs("cggtts: ", stderr);
     vfprintf(stderr, form, given);
     fputs("; try cggtts --help\n", stderr);

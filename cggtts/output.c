@@ -25,10 +25,16 @@ void print_text(const char *text)
     print_bytes(text, strlen(text));
 }
 
-int close_output(void)
+/* What is on its way goes out now: a failure counts as one of a later byte would. */
+void flush_output(void)
 {
     errno = 0;
     note(fflush(stdout) != 0);
+}
+
+int close_output(void)
+{
+    flush_output();
     note(ferror(stdout));
     note(fclose(stdout) != 0);
     if (first_error == 0) {

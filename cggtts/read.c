@@ -60,7 +60,7 @@ static void show(const uint8_t *line, size_t length, const int64_t *values)
         print_text(row);
     }
     if (comment < length) {
-        snprintf(row, sizeof row, "  %-14s %.*s\n", "comment", (int)(length - comment), (const char *)line + comment);
+        snprintf(row, sizeof row, "  %-14s \"%.*s\"\n", "comment", (int)(length - comment), (const char *)line + comment);
         print_text(row);
     }
 }

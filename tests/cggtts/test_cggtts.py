@@ -294,11 +294,11 @@ class Check(Scratch):
         result = subprocess.run([PROGRAM, 'check', SAMPLE, path, SAMPLE], cwd=ROOT, stdout=subprocess.PIPE,
                                 stderr=subprocess.STDOUT, check=False)
         self.assertEqual([text.rsplit(b':')[-1] for text in result.stdout.splitlines()],
-                         [b' accepted', b' the block is not 8378 bytes long', b'  it has 1 bytes', b' accepted'])
+                         [b' accepted', b' the block is not 8378 bytes long', b'  it has 1 byte', b' accepted'])
 
     def test_length(self):
         for length in (0, 1, 8377, 8379, 100000):
-            self.explained(11, (block() * 12)[:length], 'it has %d bytes' % length)
+            self.explained(11, (block() * 12)[:length], 'it has %d byte%s' % (length, 's'[length == 1:]))
 
     def test_a_text_that_was_not_packed(self):
         text = (ROOT / 'examples' / 'sample.txt').read_bytes()
@@ -511,7 +511,7 @@ class Read(Scratch):
         path = self.kept('day', line)
         self.assertEqual(run('read', path), (0, b'%s:1\n' % str(path).encode() + shown, ''))
         self.assertEqual(run('read', data=line + b' L3B 100 %s ~\r\n'),
-                         (0, b'-:1\n' + shown + b'  comment         L3B 100 %s ~\n', ''))
+                         (0, b'-:1\n' + shown + b'  comment        " L3B 100 %s ~"\n', ''))
 
     def test_lines_of_files(self):
         day = self.kept('day', WORKED_LINE + b'G05\r\n\r\n' + SAMPLE_LINE[:113] + b'\n' + WORKED_LINE)
@@ -546,13 +546,14 @@ class Read(Scratch):
 
     def test_length(self):
         for length in (0, 1, 112, 141, 8378):
-            self.refused(12, (line_with() + 'x' * 8378)[:length], 'it has %d bytes' % length)
+            self.refused(12, (line_with() + 'x' * 8378)[:length], 'it has %d byte%s' % (length, 's'[length == 1:]))
 
     def test_check(self):
-        told = 'CK, columns 112 and 113, is %s, and the columns before it give %s'
+        told = 'CK, columns 112 and 113, is "%s", and the columns before it give %s'
         self.refused(14, SAMPLE_COLUMNS + '27', told % ('27', '26'))
         self.refused(14, SAMPLE_COLUMNS + '\0\\', told % (r'\x00\x5C', '26'))
         self.refused(14, WORKED_COLUMNS + '8c', told % ('8c', '8C'))
+        self.refused(14, SAMPLE_COLUMNS + ' 6', told % (' 6', '26'))
 
     def test_characters(self):
         for column, byte, what in (
@@ -564,7 +565,8 @@ class Read(Scratch):
                 (110, 'c', '(FRC) is c, not a capital letter or a digit'), (111, '0', '(before CK) is 0, not a blank')):
             self.refused(13, line_with([(column, byte)]), 'column %d %s' % (column, what))
         self.refused(13, line_with([(90, 'x'), (24, '1'), (60, ' ')]) + '\7', 'column 60 (REFSYS) is a blank, not a digit')
-        self.refused(13, line_with([(47, '-')]) + 'note\x7f', r'column 118 (comment) is \x7F, not a byte from 20 to 7E')
+        self.refused(13, line_with() + 'note\x7f', r'column 118 (comment) is \x7F, not a byte from 20 to 7E')
+        self.refused(13, line_with([(47, '-')]) + '\x7f', 'column 47 (SRSV) is a minus before a zero, which has a plus')
         self.refused(13, line_with() + '\r', r'column 114 (comment) is \x0D, not a byte from 20 to 7E')
 
     def test_a_minus_before_a_zero(self):
