@@ -29,8 +29,8 @@ fn main() -> ExitCode {
     let scale = arguments.get(1).copied().unwrap_or(1) as usize;
     let mut compare = Compare::new(seed);
     lines::run(&mut compare, &mut Seeded::new(seed + 1), scale);
-    readings::run(&mut compare, &mut Seeded::new(seed + 4), scale);
     blocks::run(&mut compare, &mut Seeded::new(seed + 2), scale);
+    readings::run(&mut compare, &mut Seeded::new(seed + 4), scale);
     starts::run(&mut compare, &mut Seeded::new(seed + 3), scale);
     readings::dates(&mut compare, &mut Seeded::new(seed + 5));
     let missing = report(&compare);

@@ -54,18 +54,16 @@ fn delays(block: &[u8]) -> Delays {
 /// The measurements of n blocks.
 fn measurements(block: &[u8], n: usize) -> [i64; MOST_SECONDS] {
     let mut measurements = [0; MOST_SECONDS];
-    for (i, m) in measurements[..BLOCK_SECONDS * n].iter_mut().enumerate() {
-        *m = i64_at(block, 58 + 8 * i);
-    }
+    let numbers = block[58..corrections_at(n)].chunks_exact(8);
+    measurements.iter_mut().zip(numbers).for_each(|(m, number)| *m = i64_at(number, 0));
     measurements
 }
 
 /// One of the five corrections of each of n groups.
 fn column(block: &[u8], n: usize, which: usize) -> [i64; MOST_BLOCKS] {
     let mut column = [0; MOST_BLOCKS];
-    for (j, v) in column[..n].iter_mut().enumerate() {
-        *v = i64_at(block, corrections_at(n) + 40 * j + 8 * which);
-    }
+    let groups = block[corrections_at(n)..].chunks_exact(40);
+    column.iter_mut().zip(groups).for_each(|(v, group)| *v = i64_at(group, 8 * which));
     column
 }
 
