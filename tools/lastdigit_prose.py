@@ -166,26 +166,23 @@ def tilted(n, raised, by):
     """Every smoothed value is rounded away from 0, to the side that tilts the line, and one block lies higher."""
     blocks = [[by * (j == raised)] * 15 for j in range(n)]
     for j, block in enumerate(blocks):
-        block[7] += 354 if 2 * j >= n else -354
+        block[7] += 354 * ((2 * j > n - 1) - (2 * j < n - 1))
     return [value for block in blocks for value in block]
 
 
+def farthest(n, tool):
+    """The track of n blocks of tests/reference/src/worst.rs: its slope is rounded to the side of the tilt, from as near a
+    tie as it can be. The slope that the rules give, and the exact one."""
+    low, raised = tool.Fit(block_of(tilted(n, 0, 0), tool).rounded['B']), (n + 1) // 2
+    # 4T over the slope's divisor is to lie at the tie or just above it
+    by = min(range(low.slopes), key=lambda c: (8 * (low.t + low.place(raised) * c) - low.slopes) % (2 * low.slopes))
+    return slope_distance(tilted(n, raised, by), tool)
+
+
 def worst_slope(tool):
-    """The full track of tests/reference/src/worst.rs, whose slope is nearly as far off as the roundings allow."""
-    slope, exact = slope_distance(tilted(tool.FULL, 46, 1219), tool)
+    slope, exact = farthest(tool.FULL, tool)
     yield 'its SRSV and SRSYS are %d and the exact slope is %s, which is %s of the unit away' % (
         slope, tool.places(exact, 6), tool.places(abs(slope - exact), 6))
-
-
-def farthest(n, tool):
-    """A tilted track of n blocks whose slope is rounded to the same side, from as near a tie as it can be."""
-    raised, low = n // 2, tool.Fit(block_of(tilted(n, 0, 0), tool).rounded['B'])
-    step = low.place(raised) or low.place(raised + 1)
-    raised += low.place(raised) == 0
-    # 4T over the slope's divisor is to lie at the tie or just above it
-    by = min(range(low.slopes), key=lambda c: (4 * (low.t + step * c) * 2 - low.slopes) % (2 * low.slopes))
-    slope, exact = slope_distance(tilted(n, raised, by), tool)
-    return abs(slope - exact)
 
 
 def over_blocks(tool):
@@ -193,7 +190,8 @@ def over_blocks(tool):
     yield '| mean date, second | n/(n² - 1) | promised |'
     yield 'by %d/1105 ps' % (1105 - 167 * 354 % 1105)
     for n in (4, 5, 6, 8, 10, 13, 20, 26, 39, 52):
-        reached = farthest(n, tool)
+        slope, exact = farthest(n, tool)
+        reached = abs(slope - exact)
         assert HALF < reached <= tool.slope_promise(n), n
         yield '| %d | %04d | %s | %s | %s | %s |' % (
             n, tool.SPAN * n, decimals(mean_date(n)), tool.rounded_up(Fraction(n, n * n - 1), 5).ljust(7, '0'),
