@@ -10,7 +10,7 @@ import pathlib
 import re
 import sys
 
-from blocks import AT, COLUMNS, DELAYS, LENGTH
+from blocks import AT, COLUMNS, DELAYS, LENGTH, OF
 
 ROOT = pathlib.Path(__file__).resolve().parent.parent
 
@@ -34,9 +34,21 @@ def wrong_in_header(text):
     wanted = {'AT_' + name: at for name, (at, _) in paper().items()}
     wanted.update({'IN_GROUP_' + name: at for name, (at, _) in in_group().items()})
     wanted.update({'WIDTH_' + name: width for name, (at, width) in paper().items() if at < 26})
-    wanted.update({'WIDTH_PS': 8, 'WIDTH_GROUP': 40, 'MEASUREMENTS': 780, 'GROUPS': 52, 'BLOCK_BYTES': LENGTH,
-                   'LINE_BYTES': 113, 'LONGEST_LINE': 140})
-    return sorted(set(wanted.items()) ^ set(found.items()))
+    wanted.update({'WIDTH_PS': 8, 'WIDTH_GROUP': 40, 'MEASUREMENTS': 780, 'LEAST_GROUPS': 4, 'GROUPS': 52,
+                   'BLOCK_BYTES': LENGTH, 'LINE_BYTES': 113, 'LONGEST_LINE': 140})
+    return sorted(set(wanted.items()) ^ set(found.items())) + wrong_by_blocks(text, found)
+
+
+def wrong_by_blocks(text, found):
+    """The header's formulas over n, for every n; for 52 they give what stands for a full track."""
+    formulas = dict(re.findall(r'(?m)^#define TRACKLINE_(\w+)_OF\(n\) \(([\d +*()n]+)\)$', text))
+    names = {'BLOCK_BYTES': 'bytes', 'MEASUREMENTS': 'measurements', 'AT_GROUPS': 'groups at'}
+    wrong = sorted(set(names) ^ set(formulas))
+    for name in set(names) & set(formulas):
+        values = [eval(formulas[name], {'n': n}) for n in range(4, 53)]
+        if values != [OF[names[name]](n) for n in range(4, 53)] or values[-1] != found.get(name):
+            wrong.append((name, formulas[name]))
+    return wrong
 
 
 def wrong_in_values(text):
