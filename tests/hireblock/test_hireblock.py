@@ -405,7 +405,7 @@ class RoundTrip(unittest.TestCase):
         self.assertEqual(caught.exception.faults, [(None, None, message)])
 
     def test_wrong_length(self):
-        general = 'a hire block of n blocks has 58 + 160 n, n from 4 to 52'
+        general = 'a hire block has 58 + 160 n, n from 4 to 52'
         for length, found in (0, '0 bytes'), (1, '1 byte'), (3, '3 bytes'):
             self.wrong_length(bytes(length), '%s; %s' % (found, general))
         # 538 and 8538 bytes are those of 3 and of 53 blocks
@@ -489,7 +489,7 @@ class CommandLine(unittest.TestCase):
                   '%s:%d:6: 300 does not fit: the block holds 0 to 255' % (text, len(lines) + 1),
                   '%s: 3 faults; no block is made' % text)
         self.assertFalse(block.exists())
-        general = 'a hire block of n blocks has 58 + 160 n, n from 4 to 52'
+        general = 'a hire block has 58 + 160 n, n from 4 to 52'
         self.ends(self.run_tool('show', '-', data=b'x'), 1, '-: 1 byte; ' + general)
         self.ends(self.run_tool('show', SAMPLE), 1, "%s: %d bytes; %s: this may be a text, which "
                   "'hireblock pack' packs" % (SAMPLE, SAMPLE.stat().st_size, general))
