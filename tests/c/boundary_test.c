@@ -422,21 +422,55 @@ static void sizes_of(size_t n)
     }
 }
 
-/* Four values by hand: 0, 0, 0 and 100 ps have S = 100 and T = 300; 100 / 400 is 0, and 4 * 300 / 60 is 20. */
-static void four_values(void)
+/*
+ * B is 0 but for its last value, 100000 ps. By hand, for four values: S = 100000 and T = 3 S, so the midpoint is S / 400 and
+ * the slope 4 T / 60; the line is 25000 + 15000 (2j - 3), the residuals are 20000, -10000, -40000, 30000, and their root mean
+ * square is 27386 ps. For five: midpoint S / 500, T = 4 S, slope 4 T / 120; the line is 20000 + 10000 (2j - 4), the residuals
+ * are 20000, 0, -20000, -40000, 40000, and their root mean square is 28284 ps.
+ */
+static void few_values(void)
 {
-    uint8_t block[58 + 640];
-    char wanted[128] = "G05 FF 50722 000200 0060 450 1800 +0000000000 +00000 +0000000000 +00020 "
-                       "0000 007 0000 +000 0000 +000 00 00 L1C";
-    finish(wanted);
-    sample_of(block, 4);
-    for (size_t t = 0; t < 60; t++) {
-        put_ps(block, 58 + 8 * t, 0);
+    static const struct {
+        size_t n;
+        const char *columns;
+    } cases[] = {
+        {4, "G05 FF 50722 000200 0060 450 1800 +0000000000 +00000 +0000000250 +20000 0274 007 0000 +000 0000 +000 00 00 L1C"},
+        {5, "G05 FF 50722 000200 0075 450 1800 +0000000000 +00000 +0000000200 +13333 0283 007 0000 +000 0000 +000 00 00 L1C"}};
+    for (size_t i = 0; i < sizeof cases / sizeof cases[0]; i++) {
+        static uint8_t block[8378];
+        size_t n = cases[i].n;
+        char wanted[128];
+        strcpy(wanted, cases[i].columns);
+        finish(wanted);
+        sample_of(block, n);
+        for (size_t t = 0; t < 15 * n; t++) {
+            put_ps(block, 58 + 8 * t, 0);
+        }
+        put_ps(block, 58 + 160 * n - 8, 100000);
+        fill();
+        expect("few values", trackline_block(block, 58 + 160 * n, room + EDGE, 113), 0);
+        expect_true("few values: the line", kept_but(wanted, 113));
     }
-    put_ps(block, 58 + 480 + 40 * 3 + 32, 100);
-    fill();
-    expect("four values", trackline_block(block, sizeof block, room + EDGE, 113), 0);
-    expect_true("four values: the line", kept_but(wanted, 113));
+}
+
+/* a, -a, -a, a over and over has a as its root mean square where n is a multiple of 4: the ties of DSG. */
+static void scatter_of(size_t n)
+{
+    static const struct {
+        int64_t a;
+        uint32_t wanted;
+        const char *dsg;
+    } cases[] = {{49, 0, "0000"}, {50, 0, "0001"}, {149, 0, "0001"}, {150, 0, "0002"}, {999949, 0, "9999"}, {999950, 6, ""},
+                 {INT64_C(1) << 32, 6, ""}};
+    static uint8_t block[8378];
+    for (size_t i = 0; i < sizeof cases / sizeof cases[0]; i++) {
+        sample_of(block, n);
+        for (size_t j = 0; j < n; j++) {
+            put_ps(block, 58 + 120 * n + 40 * j + 32, j % 4 == 0 || j % 4 == 3 ? cases[i].a : -cases[i].a);
+        }
+        expect("scatter", trackline_block(block, 58 + 160 * n, room, 113), cases[i].wanted);
+        expect_true("scatter: DSG", memcmp(room + 72, cases[i].dsg, strlen(cases[i].dsg)) == 0);
+    }
 }
 
 static void short_tracks(void)
@@ -460,6 +494,9 @@ static void short_tracks(void)
                     && TRACKLINE_AT_GROUPS_OF(n) == 58 + 120 * n && TRACKLINE_MEASUREMENTS_OF(n) == 15 * n);
         places_of(n);
         sizes_of(n);
+        if (n % 4 == 0) {
+            scatter_of(n);
+        }
     }
     for (size_t n = 3; n <= 53; n += 50) {
         sample_of(block, n);
@@ -469,7 +506,7 @@ static void short_tracks(void)
     for (size_t length = 0; length <= 8380; length++) {
         expect("bytes of 0", trackline_block(block, length, room, 113), length < 4 ? 11 : 1);
     }
-    four_values();
+    few_values();
 }
 
 /* ---- reading a line back */
