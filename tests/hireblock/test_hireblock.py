@@ -312,7 +312,8 @@ class Messages(unittest.TestCase):
         self.refused('clock = 0 x 53', 'clock needs 52 numbers and has 53', 1, 9)
         self.refused('clock = 0 x 3', 'clock needs 52 numbers and has 3', 1, 9)
         self.assertEqual(faults(beside('clock = 0 x 51\ngeometry = 0 x 20')), [
-            (1, 9, 'clock has 51 numbers, for 51 blocks, but measurements, relativity, ionosphere and troposphere are for 52'),
+            (1, 9, 'clock has 51 numbers, for 51 blocks, but measurements, relativity, ionosphere and troposphere are '
+                   'for 52'),
             (2, 12, 'geometry has 20 numbers, for 20 blocks, but measurements, relativity, ionosphere and troposphere are '
                     'for 52')])
         # where as many are for one number as for another, the measurements decide

@@ -71,11 +71,12 @@ def scattered(n, a):
 REFUSED = [
     (b'', 11), (SAMPLE[:3], 11), (bytes(3), 11), (bytes(4), 1), (bytes(8377), 1), (bytes(8378), 1), (SAMPLE[:4], 11),
     (SAMPLE[:-1], 11), (SAMPLE + b'\0', 11), (changed(SAMPLE, (0, '<H', 779)), 1), (changed(SAMPLE, (0, '<H', 765)), 1),
-    (changed(SAMPLE, (2, '<H', 51)), 1), (changed(SAMPLE, (0, '<H', 765), (2, '<H', 51)), 11), (sample(3), 1), (sample(53), 1),
-    (sample(20, sizes=(20, 300)), 1), (sample(20, sizes=(300, 21)), 1), (sample(20)[:-1], 11), (sample(20) + b'\0', 11),
+    (changed(SAMPLE, (2, '<H', 51)), 1), (changed(SAMPLE, (0, '<H', 765), (2, '<H', 51)), 11), (sample(3), 1),
+    (sample(53), 1), (sample(20, sizes=(20, 300)), 1), (sample(20, sizes=(300, 21)), 1), (sample(20)[:-1], 11), (sample(20) + b'\0', 11),
     (sample(20, sizes=(315, 21)), 11), (sample(20, sizes=(780, 52)), 11), (sample(4, (10 ** 12 + 1,)), 2),
     (changed(sample(4), (698 - 8, '<q', -10 ** 10 - 1)), 2), (sample(4, (10 ** 12,)), 3), (scattered(4, 999950), 6),
-    (changed(sample(4), (698 - 16, '<q', -300)), 5), (changed(sample(20), (16, '<I', 121)), 8), (changed(SAMPLE, (58 + 8 * 779, '<q', 10 ** 12 + 1)), 2),
+    (changed(sample(4), (698 - 16, '<q', -300)), 5), (changed(sample(20), (16, '<I', 121)), 8),
+    (changed(SAMPLE, (58 + 8 * 779, '<q', 10 ** 12 + 1)), 2),
     (changed(SAMPLE, (6298, '<q', 2 * 10 ** 11 + 1)), 2),
     (changed(SAMPLE, (6298 + 40 * 51 + 32, '<q', -10 ** 10 - 1)), 2),
     (changed(SAMPLE, (50, '<q', 10 ** 10 + 1)), 2), (measured(10 ** 12), 3), (measured(-999999999951), 3),
@@ -142,7 +143,8 @@ class ShortTracks(unittest.TestCase):
     def test_printed(self):
         result = run_tool(ROOT / 'examples' / 'short.blk')
         self.assertEqual((result.returncode, result.stderr), (0, ''))
-        for row in ('== Smoothing block 10', '== B of the 20 blocks, in ps', 'T / 1 995 = -88.500251', '133 x S = -29 889 888',
+        for row in ('== Smoothing block 10', '== B of the 20 blocks, in ps', 'T / 1 995 = -88.500251',
+                    '133 x S = -29 889 888',
                     'threshold of 4 = 20 x (100 x 4 - 50)^2 = 20 x 350^2 = 2 450 000', 'columns  21 to  24  TRKL    0300'):
             self.assertIn(row, result.stdout.splitlines())
         for n, row in (6, '2T / 105 = 0.000000'), (9, '3 x (2j - 8) x T = 0'), (4, '== Smoothing block 2'):
@@ -195,7 +197,8 @@ class Blocks(unittest.TestCase):
             blocks.append(changed(WORKED, (at, '<B', seeded.randrange(256))))
         # the worked track cut after n blocks
         numbers, groups = WORKED[58:6298], WORKED[6298:]
-        blocks += [struct.pack('<2H', 15 * n, n) + WORKED[4:58] + numbers[:120 * n] + groups[:40 * n] for n in range(3, 54)]
+        blocks += [struct.pack('<2H', 15 * n, n) + WORKED[4:58] + numbers[:120 * n] + groups[:40 * n]
+                   for n in range(3, 54)]
         for k, block in enumerate(blocks):
             printed = subprocess.run([PROGRAM], input=block, capture_output=True).stdout.decode('latin-1')
             number = lastdigit.refusal(block)
