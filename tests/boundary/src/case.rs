@@ -25,7 +25,7 @@ pub fn place(n: usize, j: usize) -> i64 {
 }
 
 /// n(n² - 1), in which a slope is 4T and a residual's part of T is 3 times its place.
-pub fn cube(n: usize) -> i64 {
+pub fn span(n: usize) -> i64 {
     (n * (n * n - 1)) as i64
 }
 
@@ -36,7 +36,7 @@ fn column(seeded: &mut Seeded, n: usize, level: i64, step: i64, noise: i64) -> V
 
 /// Noise that moves a slope of n values as this noise moves one of 52.
 fn scaled(noise: i64, n: usize) -> i64 {
-    (noise as f64 * (cube(n) as f64 / cube(MOST_BLOCKS) as f64).sqrt()) as i64
+    (noise as f64 * (span(n) as f64 / span(MOST_BLOCKS) as f64).sqrt()) as i64
 }
 
 /// A case of any number of blocks, 4 and 52 more often.

@@ -40,7 +40,7 @@ fn steer(values: &[i64], s: i64, t: i64, seeded: &mut Seeded) -> Vec<i64> {
     let start = seeded.below(n as u64) as usize;
     (0..(s - now).rem_euclid(n as i64) as usize).for_each(|i| add[(start + i) % n] += 1);
     let steered = |add: &[i64]| sums(&values.iter().zip(add).map(|(v, a)| v + a).collect::<Vec<i64>>());
-    let tilt = (t - steered(&add).1) / (cube(n) / 3);
+    let tilt = (t - steered(&add).1) / (span(n) / 3);
     add.iter_mut().enumerate().for_each(|(j, a)| *a += tilt * place(n, j));
     let half = (t - steered(&add).1).div_euclid(2);
     // two neighbours in the middle: places -1 and 1, or 0 and 2
@@ -52,10 +52,10 @@ fn steer(values: &[i64], s: i64, t: i64, seeded: &mut Seeded) -> Vec<i64> {
 /// Sums at which midpoint and slope are about to change, near where they are or near their ends.
 fn edge_sums(values: &[i64], ends: (&[i64], &[i64]), seeded: &mut Seeded) -> (i64, i64) {
     let ((s, t), n) = (sums(values), values.len());
-    let (unit, cube) = (100 * n as i64, cube(n));
+    let (unit, span) = (100 * n as i64, span(n));
     let midpoint = if seeded.below(8) == 0 { seeded.pick(ends.0) } else { s.div_euclid(unit) + seeded.range(-2, 2) };
-    let slope = if seeded.below(8) == 0 { seeded.pick(ends.1) } else { (4 * t).div_euclid(cube) + seeded.range(-2, 2) };
-    let half_way = (2 * cube * slope + cube).div_euclid(8);
+    let slope = if seeded.below(8) == 0 { seeded.pick(ends.1) } else { (4 * t).div_euclid(span) + seeded.range(-2, 2) };
+    let half_way = (2 * span * slope + span).div_euclid(8);
     (unit * midpoint - unit / 2 + seeded.range(-1, 1), half_way + seeded.range(-1, 2))
 }
 
@@ -105,14 +105,14 @@ fn all_tie(n: usize) -> Vec<i64> {
 }
 
 /// Small numbers whose sum is 0 and whose sum times place is an odd multiple of n(n² - 1) / 6q, for an odd q: a residual
-/// lies half way between two whole numbers at the places that are an odd multiple of q, and not elsewhere; where n is odd, of
-/// n(n² - 1) / 12q and at the odd multiples of 2q. Where n is twice an odd number, no residual ever does.
+/// lies half way between two whole numbers at the places that are an odd multiple of q; where n is odd, of n(n² - 1) / 12q
+/// and at the odd multiples of 2q. Where n is twice an odd number, no residual ever does.
 fn some_tie(n: usize, seeded: &mut Seeded) -> Vec<i64> {
     if n % 4 == 2 {
         return vec![0; n];
     }
     let step = if n % 2 == 0 { 1 } else { 2 };
-    let most = cube(n) / (6 * step);
+    let most = span(n) / (6 * step);
     let divides: Vec<i64> = (1..n as i64 / step).step_by(2).filter(|q| most % q == 0).collect();
     let (m, q) = (seeded.pick(&[1, -1, 3, -3, 5, 7]), seeded.pick(&divides));
     let mut add: Vec<i64> = (0..n).map(|j| place(n, j) * m / (2 * step * q)).collect();
@@ -155,7 +155,7 @@ fn on_thresholds(compare: &mut Compare, seeded: &mut Seeded) {
     let values = corrected(&case);
     let (s, t) = sums(&values);
     let level = s / n as i64 + seeded.spread(1_000_000_000);
-    let tilt = 3 * t / cube(n) + seeded.range(-100, 100);
+    let tilt = 3 * t / span(n) + seeded.range(-100, 100);
     let any = seeded.range(1, 10_000);
     let d = seeded.pick(&[1, 2, 9999, 10_000, 10_001, any, any, any]);
     let near = seeded.pick(&[0, 0, 0, -1, 1]);

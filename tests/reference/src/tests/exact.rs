@@ -16,7 +16,7 @@ fn place(n: usize, j: usize) -> i128 {
 }
 
 /// n(n² - 1): three times the sum of the squared places.
-fn cube(n: usize) -> i128 {
+fn span(n: usize) -> i128 {
     let n = n as i128;
     n * (n * n - 1)
 }
@@ -30,7 +30,7 @@ fn sums(values: &[i128]) -> (i128, i128) {
 /// sum times place.
 fn residuals(values: &[i128]) -> Vec<i128> {
     let ((s, t), n) = (sums(values), values.len());
-    let left = |(j, v): (usize, &i128)| cube(n) * v - cube(n) / n as i128 * s - 3 * place(n, j) * t;
+    let left = |(j, v): (usize, &i128)| span(n) * v - span(n) / n as i128 * s - 3 * place(n, j) * t;
     let left: Vec<i128> = values.iter().enumerate().map(left).collect();
     assert_eq!(sums(&left), (0, 0));
     left
@@ -78,10 +78,10 @@ fn smooth_fit_and_scatter_by_their_definitions() {
         let v: Vec<i64> = (0..n).map(|_| level + seeded.range(-noise, noise)).collect();
         let (s, t) = sums(&wide(&v));
         let fitted = fit(&v).expect("accepted");
-        assert!(is_nearest(fitted.midpoint, s, 100 * n as i128) && is_nearest(fitted.slope, 4 * t, cube(n)));
+        assert!(is_nearest(fitted.midpoint, s, 100 * n as i128) && is_nearest(fitted.slope, 4 * t, span(n)));
         let whole = |left: i128| {
-            let r = left.div_euclid(cube(n));
-            (r..=r + 1).find(|r| is_nearest(*r as i64, left, cube(n))).expect("one of the two")
+            let r = left.div_euclid(span(n));
+            (r..=r + 1).find(|r| is_nearest(*r as i64, left, span(n))).expect("one of the two")
         };
         let q: i128 = residuals(&wide(&v)).into_iter().map(|left| whole(left) * whole(left)).sum();
         let threshold = |d: i128| n as i128 * (100 * d - 50) * (100 * d - 50);
@@ -130,7 +130,7 @@ fn largest(n: usize, sign: i64) -> Given {
 /// A track of n blocks; the fewer they are, the more noise shows in a slope, and so there is less of it.
 fn seeded_track(n: usize, seeded: &mut Seeded) -> Given {
     let mut given = Given::of(n, 0);
-    let noise_of = |most: i64| (most as f64 * (cube(n) as f64 / cube(52) as f64).sqrt()) as i64;
+    let noise_of = |most: i64| (most as f64 * (span(n) as f64 / span(52) as f64).sqrt()) as i64;
     let (level, slope) = (seeded.spread(100_000_000_000), seeded.spread(9_000));
     let noise = seeded.spread(noise_of(2_000_000)).abs();
     for (i, m) in given.measurements.iter_mut().enumerate() {
@@ -176,7 +176,7 @@ fn check_track(given: &Given, record: &Record) {
 fn slope_off(given: &Given, record: &Record, sign: i64) -> i128 {
     let n = record.blocks;
     let exact: Vec<i128> = (0..n).map(|j| exact_a(given, j)).collect();
-    let unit = cube(n) * 1105;
+    let unit = span(n) * 1105;
     1_000_000 * i128::from(sign) * (unit * i128::from(record.numbers.srsv) - 4 * sums(&exact).1) / unit
 }
 
@@ -192,8 +192,8 @@ fn slopes_nearly_as_far_off_as_promised() {
         assert!(off > 500_000);
         // the smoothing moves the slope by 552 / 1105 ps times 4 over n(n² - 1) times all places, and one rounding comes to it
         let places: i128 = (0..n).map(|j| place(n, j).abs()).sum();
-        let moved = 1_000_000 * 4 * 552 * places / (1105 * cube(n));
-        let least = 1_000_000 / (cube(n) / gcd(cube(n), if n % 2 == 0 { 4 } else { 8 }));
+        let moved = 1_000_000 * 4 * 552 * places / (1105 * span(n));
+        let least = 1_000_000 / (span(n) / gcd(span(n), if n % 2 == 0 { 4 } else { 8 }));
         assert!((499_999 + moved - least..=500_001 + moved).contains(&off), "{n}: {off}");
         assert!(off <= 500_000 + 1_000_000 * count / (count * count - 1));
         seen.push((n, sign, off));
@@ -235,14 +235,14 @@ fn check_line(y: &[i128], e: i128, midpoint: i64, slope: i64) {
     let ((s, t), n) = (sums(y), y.len() as i128);
     assert!((100 * (100 * n * e * i128::from(midpoint) - s)).abs() <= 51 * 100 * n * e);
     // (1/2 + n / (n² - 1)) times 2(n² - 1) is n² - 1 + 2n
-    let unit = cube(y.len()) * e;
+    let unit = span(y.len()) * e;
     assert!(2 * (n * n - 1) * (unit * i128::from(slope) - 4 * t).abs() <= (n * n - 1 + 2 * n) * unit);
 }
 
 /// The least sum is that of what is left squared, over (n(n² - 1) e) squared.
 fn check_scatter(y: &[i128], e: i128, dsg: i64) {
     let least: i128 = residuals(y).iter().map(|left| left * left).sum();
-    let bound = |root: i128| y.len() as i128 * (cube(y.len()) * e * root) * (cube(y.len()) * e * root);
+    let bound = |root: i128| y.len() as i128 * (span(y.len()) * e * root) * (span(y.len()) * e * root);
     let d = i128::from(dsg);
     assert!(least <= bound(100 * d + 51));
     assert!(d == 0 || bound(100 * d - 51) <= least);
