@@ -1,7 +1,7 @@
 -- The rows of refusals (specs/Read.antt): what it takes for a row to be 0, and that the row of the values is that of Line's content.
 -- Assumes nothing.
 use mathlib.Core.Path.{_≡_, refl, sym, ap, ap₂, _∙_, subst}
-use mathlib.Core.Bool.{true, false, not, _||_}
+use mathlib.Core.Bool.{Bool, true, false, not, _||_}
 use mathlib.Core.List.{List}
 use Prim.Native.Nat.{ℕ, zero, suc, _^_, _≤_, _<_}
 use native.Mathlib.Omega.{arith}
@@ -71,12 +71,12 @@ unfolding valuesNumber
 valued line e =
     let minus = then-zero _ _ e in
     let seven = then-zero _ _ (minus .1) in
-    let eight = then-zero _ _ (seven .1) in
-    let either = or-false (not (labelsFit (readLabels line))) (not (trackLengthFits (readNumbers line .trkl))) (when-zero 6 _ (seven .0)) in
+    let trkl = then-zero _ _ (seven .1) in
+    let eight = then-zero _ _ (trkl .1) in
     record {
       minus = when-zero 12 _ (minus .0);
-      labels = not-false _ (either .0);
-      trkl = not-false _ (either .1);
+      labels = not-false _ (when-zero _ _ (seven .0));
+      trkl = not-false _ (when-zero _ _ (trkl .0));
       start = eight .0;
       clock = when-zero 7 _ (eight .1);
     }
@@ -97,6 +97,14 @@ then-none : (number : ℕ) → number then 0 ≡ number
 unfolding _then_
 then-none zero = refl
 then-none (suc n) = rw (eqb·suc-zero n)
+
+-- one test on two conditions is two tests
+when-either : (number : ℕ) (a b : Bool) → number when (a || b) ≡ number when a then number when b
+unfolding _when_ _then_
+when-either zero true true = refl
+when-either zero true false = refl
+when-either (suc n) true b = rw (eqb·suc-zero n)
+when-either number false b = refl
 
 -- ---- the numbers of a line are within their limits
 
@@ -144,18 +152,17 @@ module _ (line : List ℕ) (e : allowed kinds line ≡ true) where
   -- ---- what is left of Line's refusals of the content
 
   pub content-is : contentRule (readLabels line) (readNumbers line)
-      ≡ 7 when (not (labelsFit (readLabels line)) || not (trackLengthFits (readNumbers line .trkl)))
+      ≡ 7 when not (labelsFit (readLabels line))
+      then 7 when not (trackLengthFits (readNumbers line .trkl))
       then startRule (readLabels line .mjd) (readLabels line .start)
   unfolding contentRule
-  content-is = simp (limits-zero, dsg-zero, then-none)
+  content-is = simp (limits-zero, dsg-zero, then-none, when-either, then-assoc)
 
   -- the row that the code goes by
   pub values-row : 13 when minusZero signedFields line then contentRule (readLabels line) (readNumbers line) then 8 when clockBeyond line
       ≡ valuesNumber line
   unfolding valuesNumber
-  values-row =
-      ap (λ (n : ℕ). 13 when minusZero signedFields line then n then 8 when clockBeyond line) content-is
-      ∙ ap (λ (n : ℕ). 13 when minusZero signedFields line then n) (then-assoc _ _ _)
+  values-row = simp (content-is, then-assoc)
 
 -- ---- the reply
 

@@ -51,7 +51,8 @@ charactersNumber columns longest kinds line =
 unfoldable pub valuesNumber : List ℕ → ℕ
 valuesNumber line =
     13 when minusZero signedFields line
-    then 7 when (not (labelsFit (readLabels line)) || not (trackLengthFits (readNumbers line .trkl)))
+    then 7 when not (labelsFit (readLabels line))
+    then 7 when not (trackLengthFits (readNumbers line .trkl))
     then startRule (readLabels line .mjd) (readLabels line .start)
     then 8 when clockBeyond line
 
