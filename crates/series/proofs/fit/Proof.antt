@@ -68,7 +68,7 @@ nearest-by-span-requires : tie.Need-nearest-by-span-requires
 nearest-by-span-requires c κs =
     let t = moment-word (summed c .sums .ensures) in
     let i = inside (summed c .before) in
-    (bound (search bounds depth 12) tt, omega (arith, i .0), i .1)
+    (bound (search bounds depth 12) tt, omega (arith, i .0), omega (arith, i .1))
 
 -- the values that are fitted
 abbrev values : tie.After-nearest-by-span → List ℤ

@@ -27,7 +27,7 @@ mul-result c =
 mul-result-2 : tie.Need-mul-result-2
 mul-result-2 c =
     let b = root-bound (c .args .d) (c .pre .2) in
-    omega (arith, mul-le-mul (c .pre .0) (mul-le-mul b b))
+    omega (arith, mul-le-mul b b, mul-le-mul (c .pre .0) (mul-le-mul b b))
 
 returns : tie.Need-returns
 returns c =
