@@ -126,11 +126,11 @@ pub fn copied(column: &[i64]) -> [i64; 52]
     ensures { λ r. ⌜ r ≡ places (length (now (column .entry))) (at (now (column .entry))) ⌝ }
 {
     let n = column.len();
-    let mut values = [0i64; 52];
+    let mut copy = [0i64; 52];
     let mut j = 0;
     while j < n {
-        values[j] = column[j];
+        copy[j] = column[j];
         j += 1;
     }
-    values
+    copy
 }

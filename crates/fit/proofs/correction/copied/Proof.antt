@@ -14,25 +14,25 @@ use Rattle.fit.proofs.correction.copied.Statement.{statement}
 use Rattle.fit.proofs.correction.copied.Tie as tie
 
 abbrev Inv-loop : tie.InvT-loop
-Inv-loop column n values₀ j₀ values j = (j ≤ n) × (length values ≡ 52) × (values ≡ places j (at column))
+Inv-loop column n copy₀ j₀ copy j = (j ≤ n) × (length copy ≡ 52) × (copy ≡ places j (at column))
 
 abbrev μ-loop : tie.MeasureT-loop
-μ-loop column n values₀ j₀ values j = n - j
+μ-loop column n copy₀ j₀ copy j = n - j
 
 loop-holds : tie.Need-loop-holds Inv-loop μ-loop
 loop-holds c = (search needs, refl, fill-none _)
 
-mul-values : tie.Need-mul-values Inv-loop μ-loop
-mul-values c = search needs
+mul-copy : tie.Need-mul-copy Inv-loop μ-loop
+mul-copy c = search needs
 
-shared-slice-copy-out-values : tie.Need-shared-slice-copy-out-values Inv-loop μ-loop
-shared-slice-copy-out-values c = search needs
+shared-slice-copy-out-copy : tie.Need-shared-slice-copy-out-copy Inv-loop μ-loop
+shared-slice-copy-out-copy c = search needs
 
-mul-values-2 : tie.Need-mul-values-2 Inv-loop μ-loop
-mul-values-2 c = search needs
+mul-copy-2 : tie.Need-mul-copy-2 Inv-loop μ-loop
+mul-copy-2 c = search needs
 
-array-set-from-values : tie.Need-array-set-from-values Inv-loop μ-loop
-array-set-from-values c = omega (arith, c .before .before .before .pre)
+array-set-from-copy : tie.Need-array-set-from-copy Inv-loop μ-loop
+array-set-from-copy c = omega (arith, c .before .before .before .pre)
 
 add-j : tie.Need-add-j Inv-loop μ-loop
 add-j c = search needs
@@ -45,7 +45,7 @@ loop-again c =
     let n = c .before .before in (
       search needs,
       rw length-set (n .loop .inv .1),
-      fill-more (at (n .before .args .column .now)) (n .loop .values) (n .loop .j) (omega (arith, n .before .pre)) (n .loop .inv .2) (back-of (c .values .given)),
+      fill-more (at (n .before .args .column .now)) (n .loop .copy) (n .loop .j) (omega (arith, n .before .pre)) (n .loop .inv .2) (back-of (c .copy .given)),
     )
 
 returns : tie.Need-returns Inv-loop μ-loop
@@ -61,10 +61,10 @@ copied-spec =
     Inv-loop
     μ-loop
     loop-holds
-    mul-values
-    shared-slice-copy-out-values
-    mul-values-2
-    array-set-from-values
+    mul-copy
+    shared-slice-copy-out-copy
+    mul-copy-2
+    array-set-from-copy
     add-j
     loop-less
     loop-again
