@@ -165,8 +165,8 @@ enum trackline_value {
 };
 
 /*
- * What stands in a line, without its line end. Tried in this order: 12, 14, 13, 7, 8, 9; 8 also for an hour above 23 or a
- * minute or a second above 59. 9: fewer than 23 values are lent.
+ * What stands in a line, without its line end. Tried in this order: 12, 14, 13, 7, 8, 9; 7 also for a track length that is not
+ * 15 n, n from 4 to 52; 8 also for an hour above 23 or a minute or a second above 59. 9: fewer than 23 values are lent.
  */
 uint32_t trackline_read(const uint8_t *line, size_t line_len, int64_t *values, size_t values_len);
 

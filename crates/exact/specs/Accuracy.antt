@@ -101,7 +101,8 @@ pub record RoundedFit (n : ℕ) (v : ℕ → ℤ) (midpoint slope : ℤ) : Type 
   pub midpointRounded : Rounded midpoint (sum n v) (pos 100 *ℤ pos n)
   pub slopeRounded : Rounded slope (pos 4 *ℤ sum n (λ j. place n j *ℤ v j)) (pos 1 *ℤ pos (span n))
 
--- 0.505 of a unit is within 0.51 for a midpoint, and a slope's bound is what half a picosecond at each value can tilt the line, from two values up.
+-- 0.505 of a unit is within 0.51 for a midpoint; a slope's bound is half a unit and what half a picosecond at each value can tilt the line, from two
+-- values up.
 pub accurate-line : (n : ℕ) → 2 ≤ n → (v Y : ℕ → ℤ) (e : ℤ) {midpoint slope : ℤ} → pos 0 ⋖ e → Near n v Y e
     → RoundedFit n v midpoint slope → AccurateLine n Y e midpoint slope
 accurate-line n h v Y e {midpoint} {slope} e-pos near f =
@@ -148,8 +149,11 @@ hundredths m n u d m-pos d-pos error tilted =
         le-by ρ (search quote depth 20) (omega (arith, le-is ρ (search quote depth 20) p, le-is ρ (search quote depth 20) q))
 
 -- At 52 values 0.5 + n / (n² - 1) is 0.5192 of a unit: the next hundredth down, 0.51, is too tight.
-pub slope-hundredths : (n : ℕ) → 51 ≤ n → {Y : ℕ → ℤ} {e midpoint slope : ℤ} → AccurateLine n Y e midpoint slope
-    → (P Q d : ℤ) → LeastLine n Y e P Q d → (pos 100 *ℤ magnitude (d *ℤ slope -ℤ pos 10 *ℤ Q)) ⩽ (pos 52 *ℤ d)
+abbrev pub SlopeWithin52 : (n : ℕ) (Y : ℕ → ℤ) (e slope : ℤ) → Type 0
+SlopeWithin52 n Y e slope =
+    (P Q d : ℤ) → LeastLine n Y e P Q d → (pos 100 *ℤ magnitude (d *ℤ slope -ℤ pos 10 *ℤ Q)) ⩽ (pos 52 *ℤ d)
+
+pub slope-hundredths : (n : ℕ) → 51 ≤ n → {Y : ℕ → ℤ} {e midpoint slope : ℤ} → AccurateLine n Y e midpoint slope → SlopeWithin52 n Y e slope
 slope-hundredths n h {slope = slope} f P Q d l =
     let ρ : List ℤ = magnitude (d *ℤ slope -ℤ pos 10 *ℤ Q) ∷ d ∷ [] in
     le-by ρ (search quote depth 20)
@@ -238,3 +242,15 @@ accurate-track n h g v A B C D f t =
 
     near-column : (u w : ℕ → ℤ) → ((j : ℕ) → j < n → u j ≡ w j) → Near n u w (pos 1)
     near-column u w same = moved w u w same (near-self n w)
+
+-- The four slopes of a full track are within the 0.52 that document 01 promised.
+pub full-track-slopes : (g : Given) (f : Numbers) → AccurateTrack 52 g f
+    → ((Y : ℕ → ℤ) (e : ℤ) → ExactSmoothed 52 (block g) Y e
+    → SlopeWithin52 52 (λ j. toA g e j (Y j)) e (f .srsv) × SlopeWithin52 52 (λ j. toB g e j (Y j)) e (f .srsys))
+    × SlopeWithin52 52 (at (g .troposphere)) (pos 1) (f .smdt)
+    × SlopeWithin52 52 (at (g .ionosphere)) (pos 1) (f .smdi)
+full-track-slopes g f t = (
+  λ Y e x. (slope-hundredths 52 (omega arith) (t .a Y e x), slope-hundredths 52 (omega arith) (t .b Y e x)),
+  slope-hundredths 52 (omega arith) (t .c),
+  slope-hundredths 52 (omega arith) (t .d),
+)

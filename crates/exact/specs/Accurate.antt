@@ -1,5 +1,5 @@
--- What is promised of a track's figures (document 01, "Exact figures"; document 02, Job 3): each is near the exact one, for every choice of least curves and of
--- denominators. The bound itself is taken in.
+-- What is promised of a track's figures (document 01, "Exact figures"; document 02, Job 3): each is near the exact one, for every choice of
+-- least curves and of denominators. The bound itself is taken in.
 -- Assumes nothing.
 use Prim.Native.Nat.{ℕ}
 use lib.IntN.{ℤ, pos, _+ℤ_, _-ℤ_, _*ℤ_}
@@ -11,8 +11,8 @@ use Rattle.exact.specs.Line.{LeastLine, lineMisfit}
 use Rattle.exact.specs.Corrected.{Given, at, block, toA, toB}
 
 -- A midpoint in 0.1 ns is within 0.51 of its unit of P / 100d, and a slope in 0.1 ps/s within 0.5 + n / (n² - 1) of its unit of 10Q / d,
--- here multiplied by 2 (n² - 1), where (P + Qt) / d is the least line through the n values Y j / e (document 02, Job 3). With 52 values that is
--- within the 0.52 of document 01: law `slope-hundredths` of the module Accuracy.
+-- here multiplied by 2 (n² - 1), where (P + Qt) / d is the least line through the n values Y j / e. With 52 values that is within the 0.52 of
+-- document 01: law `slope-hundredths` of the module Accuracy.
 pub record AccurateLine (n : ℕ) (Y : ℕ → ℤ) (e midpoint slope : ℤ) : Type 0 where
   pub midpointNear : (P Q d : ℤ) → LeastLine n Y e P Q d → magnitude (pos 100 *ℤ d *ℤ midpoint -ℤ P) ≤ℤ (pos 51 *ℤ d)
   pub slopeNear : (P Q d : ℤ) → LeastLine n Y e P Q d

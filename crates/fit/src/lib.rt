@@ -117,7 +117,8 @@ pub fn track(
     ensures answer { λ r. ⌜ r ≡ trackRule (given (now (measurements .entry)) int cab refdly gd
         (now (geometry .entry)) (now (relativity .entry)) (now (ionosphere .entry)) (now (troposphere .entry))
         (now (clock .entry))) ⌝ }
-    ensures accurate { λ r. ⌜ (r .refusal ≡ 0 → AccurateTrack (length (now (geometry .entry))) (given (now (measurements .entry)) int cab refdly gd
+    ensures accurate { λ r. ⌜ (r .refusal ≡ 0 → AccurateTrack (length (now (geometry .entry)))
+        (given (now (measurements .entry)) int cab refdly gd
         (now (geometry .entry)) (now (relativity .entry)) (now (ionosphere .entry)) (now (troposphere .entry))
         (now (clock .entry))) (r .«record» .numbers)) ⌝ }
 {

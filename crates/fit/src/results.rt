@@ -67,7 +67,14 @@ pub struct Corrected {
 fn accepted(values: Corrected, numbers: Numbers) -> Tracked
     ensures { λ r. ⌜ r ≡ record {
       refusal = 0;
-      «record» = record { blocks = values .blocks; a = values .a; b = values .b; c = values .c; d = values .d; numbers = numbers };
+      «record» = record {
+        blocks = values .blocks;
+        a = values .a;
+        b = values .b;
+        c = values .c;
+        d = values .d;
+        numbers = numbers;
+      };
     } ⌝ }
 {
     let a = values.a;
@@ -90,7 +97,8 @@ fn accepted(values: Corrected, numbers: Numbers) -> Tracked
 // The line through the first n of 52 places, which are inside their limit.
 fn fit_blocks(n: usize, values: &[i64]) -> Fitted
     requires { ⌜ (4 ≤ n) × (n ≤ 52) × (length (now values) ≡ 52) × (anyBeyond (2 * 10 ^ 12) (now values) ≡ false) ⌝ }
-    ensures { λ r. ⌜ r ≡ Fitted.Line (midpoint 1 n (at (now (values .entry)))) (slope 1 n (at (now (values .entry)))) ⌝ }
+    ensures { λ r. ⌜ r ≡ Fitted.Line (midpoint 1 n (at (now (values .entry))))
+        (slope 1 n (at (now (values .entry)))) ⌝ }
 {
     fit(&values[0..n])
 }

@@ -1,5 +1,5 @@
 // The parts of a hire block: its sizes and the length they make, its labels, and Track of its numbers. What does not lie within the bytes
-// reads as 0, so that every block is answered; Block of document 01 asks for the length before.
+// reads as 0, so that every block is answered; Block asks first whether there are four bytes, then for the sizes, then for the length.
 ghost use mathlib.Core.Path.{_≡_};
 ghost use Prim.Native.Nat.{_*_, _≤_};
 ghost use lib.ListN.{length, take};

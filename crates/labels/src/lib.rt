@@ -1,4 +1,4 @@
-// The labels that a line is written for, and what they and the ten numbers are refused for. All that document 01 says of a line's
+// The labels that a line is written for, and what they and the ten numbers are refused for. All that documents 01 and 02 say of a line's
 // content, but not of its bytes, is here: the labels' ranges, the track length, the start test and the limits on the numbers.
 ghost use mathlib.Core.Path.{_≡_};
 ghost use Rattle.labels.specs.Content.{contentRule};

@@ -1,6 +1,6 @@
 // Line and Block: labels and the ten numbers of a track, or a hire block, become one data line of 113 columns in a lent line.
 // They refuse labels, starts and numbers that the columns cannot hold, a lent line that is too short, and, in a block, what Track
-// refuses, by the numbers and in the order of document 01. Nothing is written before everything is accepted, and nothing behind the
+// refuses, by the numbers and in the order of documents 01 and 02. Nothing is written before everything is accepted, and nothing behind the
 // 113 columns.
 ghost use mathlib.Core.Path.{_≡_};
 ghost use lib.ListN.{length};

@@ -23,10 +23,10 @@ use Rattle.whole.specs.Words.{Word, Within, told, partial}
 use Rattle.exact.specs.Corrected.{at}
 use Rattle.exact.specs.Weights.{place}
 use Rattle.limits.specs.Lists.{anyBeyond}
-use Rattle.series.specs.Fit.{total, moment, midpoint, slope, fitRule}
+use Rattle.series.specs.Fit.{total, moment, midpoint, slope, valuesRule, fitRule}
 use Rattle.limits.specs.Reply.{Reply}
-use Rattle.limits.proofs.Blocks.{within-blocks}
-use Rattle.limits.proofs.Lists.{within-limit, list-passes, any-take}
+use Rattle.limits.proofs.Blocks.{blocks-within, within-blocks}
+use Rattle.limits.proofs.Lists.{within-limit, list-accepted, list-passes, any-take}
 use Rattle.limits.proofs.Replies.{reply-accepted}
 
 -- two numbers that differ by at most m
@@ -62,6 +62,13 @@ module _ (l : List ℤ) (e : anyBeyond (2 * 10 ^ 12) l ≡ false) (n : ℕ) (h :
   pub moment-bound : natAbs (moment n (at l)) ≤ 5408 * 10 ^ 12
   unfolding moment
   moment-bound = moment-part n (le-refl n)
+
+-- a list that Fit and Scatter do not refuse has from 4 to 52 values, inside their limit
+pub values-inside : (l : List ℤ) → valuesRule l ≡ 0 → (4 ≤ length l) × (length l ≤ 52) × (anyBeyond (2 * 10 ^ 12) l ≡ false)
+values-inside l e =
+    let a = list-accepted _ _ _ l e in
+    let b = blocks-within (length l) (a .0) in
+    (b .0, b .1, a .1)
 
 -- n² - 1 and n (n² - 1), for n from 2 to 52
 pub square-bound : (n : ℕ) → n ≤ 52 → n * n - 1 ≤ 2703

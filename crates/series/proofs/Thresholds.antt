@@ -132,7 +132,8 @@ module _ (s n : ℕ) (s-pos : 0 < s) (n-pos : 0 < n) where
       let square : 1 * (1 * (1 * d)) ≤ thresholdOf s n d = mul-le-mul n-pos (mul-le-mul one root) in
       omega arith
 
-  first-threshold : threshold s n 1 ≡ pos (2500 * (s * s) * n)
+  -- the least sum of squares that has a DSG of 1
+  pub first-threshold : threshold s n 1 ≡ pos (2500 * (s * s) * n)
   first-threshold = threshold-natural s n 1 (omega arith) ∙ ap pos (omega arith)
 
   -- ---- DSG

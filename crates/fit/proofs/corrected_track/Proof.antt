@@ -122,7 +122,7 @@ copied-requires-2 c κs =
 judged-requires : tie.Need-judged-requires
 judged-requires c κs =
     let n = sizes (c .before .before .before .before .before .before .before .before .before .before) in
-    (n .size-blocks, search needs)
+    ((omega (arith, n .size-blocks .0), omega (arith, n .size-blocks .1)), search needs)
 
 -- a list of as many values as there are blocks
 counted-by : (m n : ℕ) (f : ℕ → ℤ) (l : List ℤ) → m ≡ n → l ≡ places m f → l ≡ places n f

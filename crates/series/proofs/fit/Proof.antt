@@ -15,9 +15,7 @@ use Rattle.whole.specs.Words.{back-of, fits, bound, plain-is, bounds}
 use Rattle.exact.specs.Corrected.{at}
 use Rattle.limits.specs.Lists.{anyBeyond}
 use Rattle.series.specs.Fit.{midpoint, slope, valuesRule, fitRule}
-use Rattle.limits.proofs.Blocks.{blocks-within}
-use Rattle.limits.proofs.Lists.{list-accepted}
-use Rattle.series.proofs.Fitting.{total-word, moment-word, slope-span}
+use Rattle.series.proofs.Fitting.{values-inside, total-word, moment-word, slope-span}
 use Rattle.limits.proofs.Replies.{reply-accepted, reply-refused}
 use Rattle.series.proofs.fit.Statement.{statement}
 use Rattle.series.proofs.fit.Tie as tie
@@ -38,10 +36,7 @@ accepted c = sym (c .before .values-refusal .ensures) ∙ c .if1 .left
 
 inside : (c : tie.Else1)
     → let l = c .before .before .args .values .now in (4 ≤ length l) × (length l ≤ 52) × (anyBeyond (2 * 10 ^ 12) l ≡ false)
-inside c =
-    let a = list-accepted _ _ _ _ (accepted c) in
-    let b = blocks-within _ (a .0) in
-    (b .0, b .1, a .1)
+inside c = values-inside _ (accepted c)
 
 sums-requires : tie.Need-sums-requires
 sums-requires c κs = (inside c .1, inside c .2)

@@ -15,11 +15,9 @@ use Rattle.limits.specs.Limits.{dsgRule}
 use Rattle.exact.specs.Corrected.{at}
 use Rattle.limits.specs.Reply.{reply}
 use Rattle.limits.specs.Lists.{anyBeyond}
-use Rattle.series.specs.Fit.{valuesRule}
 use Rattle.series.specs.Scatter.{squares, threshold, dsg, scatterRule}
-use Rattle.limits.proofs.Blocks.{blocks-within}
-use Rattle.limits.proofs.Lists.{list-accepted}
-use Rattle.series.proofs.Fitting.{total-word, moment-word}
+use Rattle.series.specs.Fit.{valuesRule}
+use Rattle.series.proofs.Fitting.{values-inside, total-word, moment-word}
 use Rattle.series.proofs.Residuals.{squares-pos}
 use Rattle.series.proofs.Thresholds.{cap-is, dsg-greatest, greatest, dsg-below, sigma-refused, sigma-accepted}
 use Rattle.limits.proofs.Laws.{then-refused, then-passed}
@@ -45,10 +43,7 @@ accepted c = sym (c .before .values-refusal .ensures) ∙ c .if1 .left
 
 inside : (c : tie.Else1)
     → let l = c .before .before .args .values .now in (4 ≤ length l) × (length l ≤ 52) × (anyBeyond (2 * 10 ^ 12) l ≡ false)
-inside c =
-    let a = list-accepted _ _ _ _ (accepted c) in
-    let b = blocks-within _ (a .0) in
-    (b .0, b .1, a .1)
+inside c = values-inside _ (accepted c)
 
 some : (c : tie.Else1) → 0 < length (c .before .before .args .values .now)
 some c = omega (arith, inside c .0)
