@@ -22,7 +22,7 @@ use read_stages::READ_STAGES;
 use reference::good::{good_comment, good_labels, good_numbers};
 use reference::seeded::Seeded;
 use reference::{LEAST_BLOCKS, LINE_BYTES, MOST_BLOCKS, VALUES};
-use stages::{Stage, STAGES};
+use stages::{Stage, MEASUREMENTS, STAGES};
 use timing::Pair;
 
 // Never inlined and with plain names, so that valgrind can count what is inside.
@@ -101,6 +101,7 @@ fn main() {
         pair.agree(&blocks, Some(0));
         pair.whole(count, &blocks);
         pair.split(4 * count, &blocks, &STAGES);
+        pair.refused(4 * count, &blocks, &MEASUREMENTS);
     }
     let lines: Vec<Vec<u8>> = (0..10 * number).map(|_| a_line(&mut seeded)).collect();
     READ.agree(&lines, Some(0));
