@@ -50,7 +50,7 @@ fn silent(a: u8) -> u8 {
     0
 }
 ''',
-    'crates/fit/must-fail/first_block_52_times.edit': '# text\n',
+    'crates/fit/must-fail/first_block_n_times.edit': '# text\n',
     'crates/fit/must-fail/length_779.edit': '# text\n',
     'crates/bench/stdout': 'fit      all -51                  midpoint -1 slope 0\n',
     'tests/reference/src/tests/exact.rs': '#[test]\nfn within() {\n}\nfn helper() {\n}\n',
@@ -113,7 +113,7 @@ class Clauses(unittest.TestCase):
 
     def test_several_names_at_once(self):
         ran = self.run_on(self.page('`def fit/Track trackRule clock` `law fit/Laws inner sum-place²`',
-                                    '`fn fit::track answer accurate` `edit fit/length_779 fit/first_block_52_times`'))
+                                    '`fn fit::track answer accurate` `edit fit/length_779 fit/first_block_n_times`'))
         self.assertEqual((ran.returncode, ran.stdout), (0, 'clauses: 2 clauses, 8 references, all found\n'))
         ran = self.run_on(self.page('`def fit/Track trackRule watch`', '`edit fit/length_779 fit/length_778` reader'))
         self.assertEqual([line.split(': ', 1)[1] for line in ran.stdout.splitlines()],
@@ -144,7 +144,7 @@ class Clauses(unittest.TestCase):
 
     def test_list(self):
         ran = self.run_on(self.page('reader `edit fit/length_779`'), '--list', 'edits')
-        self.assertEqual((ran.returncode, ran.stdout), (0, 'fit/first_block_52_times\n'))
+        self.assertEqual((ran.returncode, ran.stdout), (0, 'fit/first_block_n_times\n'))
 
 
 if __name__ == '__main__':

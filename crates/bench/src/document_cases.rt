@@ -1,5 +1,5 @@
 // The cases of document 01, "What the technician tries", that are not marked P, and some refusals beside them. The starts are
-// those of document 02, Job 2.
+// those of document 02, Job 2, and the counts of values those of Job 3.
 use crate::counts::Tally;
 use crate::lines::FILL;
 use crate::lines::report_line;
@@ -65,7 +65,7 @@ pub fn fit_cases(tally: Tally) -> Tally {
     values[51] = 2 * MOST + 1;
     second
         .with(try_fit(b"last 2 x 10^12 + 1", &values, Reply::refused(2)))
-        .with(try_fit(b"51 values", &[0; 51], Reply::refused(1)))
+        .with(try_fit(b"3 values", &[0; 3], Reply::refused(1)))
         .with(try_fit(b"53 values", &[0; 53], Reply::refused(1)))
 }
 
@@ -91,7 +91,7 @@ pub fn scatter_cases(tally: Tally) -> Tally {
         .with(try_scatter(b"a = 150", &small, Reply::values(2, 0)))
         .with(try_scatter(b"a = 999950", &large, Reply::refused(6)))
         .with(try_scatter(b"a = 2^32", &wrapping, Reply::refused(6)))
-        .with(try_scatter(b"51 values", &[0; 51], Reply::refused(1)))
+        .with(try_scatter(b"3 values", &[0; 3], Reply::refused(1)))
         .with(try_scatter(b"53 values", &[0; 53], Reply::refused(1)))
 }
 

@@ -11,7 +11,7 @@ use Rattle.whole.specs.Sum.{sum}
 use Rattle.whole.specs.Ring.{one-*ℤ}
 use Rattle.whole.specs.Identity.{identity, quote}
 use Rattle.whole.specs.Linear.{le-by, le-is, lt-is}
-use Rattle.whole.specs.Order.{_⩽_, _⋖_, le-refl, le-of-eq, le-of-lt, le-shift, cancel-le, pos-le, zero-le-pos, mul-le, mul-pos}
+use Rattle.whole.specs.Order.{_⩽_, _⋖_, le-refl, le-of-eq, le-of-lt, lt-le-trans, le-shift, cancel-le, pos-le, pos-lt, zero-le-pos, mul-le}
 use Rattle.whole.specs.Magnitude.{magnitude-mul, magnitude-combined}
 use Rattle.limits.specs.declared.Numbers.{Numbers}
 use Rattle.exact.specs.Parabola.{LeastParabola, ExactSmoothed}
@@ -20,8 +20,7 @@ use Rattle.exact.specs.Corrected.{Given, at, block, toA, toB}
 use Rattle.exact.specs.Accurate.{AccurateLine, AccurateScatter, AccurateTrack}
 use Rattle.exact.specs.Weights.{weights, place}
 use Rattle.exact.specs.Smoothing.{weights-exact}
-use Rattle.exact.specs.Places.{span}
-use Rattle.exact.specs.Fitting.{span-pos}
+use Rattle.exact.specs.Places.{span, span-is, minus-one}
 use Rattle.exact.specs.Bounds.{Near, Rounded, midpoint-bound, slope-bound}
 use Rattle.exact.specs.Scattering.{spread, scatter-above, scatter-below}
 
@@ -78,13 +77,6 @@ near-self n v j h = subst (λ (z : ℤ). magnitude z ⩽ pos 1) (sym (none (v j)
 
 -- ---- one fit
 
--- from 51 values on, half a picosecond at each tilts the line by at most 0.02 of a unit
-tilt : (n : ℕ) → 51 ≤ n → pos 50 *ℤ (pos n *ℤ pos n) ⩽ pos (span n)
-tilt n h = pos-le (omega (arith, mul-le-mul-left n (wide n h)))
-  where
-    wide : (n : ℕ) → 51 ≤ n → 50 * n ≤ n * n - 1
-    wide n h = omega (arith, mul-le-mul-left n h)
-
 -- twice the error of a midpoint, and 2n (n² - 1) times that of a slope
 module _ (n : ℕ) (h : 2 ≤ n) (v : ℕ → ℤ) {Y : ℕ → ℤ} {e P Q d : ℤ} (e-pos : pos 0 ⋖ e) (near : Near n v Y e) (l : LeastLine n Y e P Q d) where
   midpoint-error : (r : ℤ) → Rounded r (sum n v) (pos 100 *ℤ pos n) → pos 2 *ℤ magnitude (pos 100 *ℤ d *ℤ r -ℤ P) ⩽ pos 101 *ℤ d
@@ -99,30 +91,19 @@ module _ (n : ℕ) (h : 2 ≤ n) (v : ℕ → ℤ) {Y : ℕ → ℤ} {e P Q d : 
       ∙ ap (λ (u : ℤ). pos 2 *ℤ pos (span n) *ℤ magnitude (u *ℤ r -ℤ pos 10 *ℤ Q)) (one-*ℤ d))
       (slope-bound 1 n v h e-pos near l r rounded)
 
--- at most 13 / 25 of a unit, with u for the error's magnitude, N for n (n² - 1) and w for n²
-hundredths : (N u d w : ℤ) → pos 0 ⋖ N → pos 0 ⩽ d → pos 2 *ℤ N *ℤ u ⩽ d *ℤ (pos 1 *ℤ N +ℤ pos 2 *ℤ w) → pos 50 *ℤ w ⩽ N
-    → pos 25 *ℤ u ⩽ pos 13 *ℤ d
-hundredths N u d w N-pos d-pos error tilted =
-    cancel-le N N-pos
-    (subst₂ _⩽_ (reordered (pos 25) N u) (reordered (pos 13) N d) (summed (N *ℤ u) (N *ℤ d) (d *ℤ w)
-    (le-shift error (identity (N ∷ u ∷ d ∷ w ∷ []) (search quote depth 20 fits 4000) tt))
-    (le-shift (mul-le d d-pos tilted) (identity (N ∷ d ∷ w ∷ []) (search quote depth 20 fits 4000) tt))))
-  where
-    reordered : (k N u : ℤ) → k *ℤ (N *ℤ u) ≡ N *ℤ (k *ℤ u)
-    reordered k N u = identity (k ∷ N ∷ u ∷ []) (search quote depth 20) tt
-
-    summed : (x y z : ℤ) → pos 2 *ℤ x ⩽ y +ℤ pos 2 *ℤ z → pos 50 *ℤ z ⩽ y → pos 25 *ℤ x ⩽ pos 13 *ℤ y
-    summed x y z p q =
-        let ρ : List ℤ = x ∷ y ∷ z ∷ [] in
-        le-by ρ (search quote depth 20) (omega (arith, le-is ρ (search quote depth 20) p, le-is ρ (search quote depth 20) q))
+-- n, a factor of every term, drops out: u is the error's magnitude and m is n² - 1
+by-n : (n m u d : ℤ) → pos 0 ⋖ n → pos 2 *ℤ (n *ℤ m) *ℤ u ⩽ d *ℤ (pos 1 *ℤ (n *ℤ m) +ℤ pos 2 *ℤ (n *ℤ n)) → pos 2 *ℤ m *ℤ u ⩽ (m +ℤ pos 2 *ℤ n) *ℤ d
+by-n n m u d n-pos error =
+    cancel-le n n-pos (le-shift error (identity (n ∷ m ∷ u ∷ d ∷ []) (search quote depth 20 fits 4000) tt))
 
 -- What Fit gives for n whole values: midpoint and slope rounded to the nearest.
 pub record RoundedFit (n : ℕ) (v : ℕ → ℤ) (midpoint slope : ℤ) : Type 0 where
   pub midpointRounded : Rounded midpoint (sum n v) (pos 100 *ℤ pos n)
   pub slopeRounded : Rounded slope (pos 4 *ℤ sum n (λ j. place n j *ℤ v j)) (pos 1 *ℤ pos (span n))
 
--- 0.505 of a unit is within 0.51. At 52 values 0.5 + n / (n² - 1) is 0.5192 of a unit: the next hundredth down, 0.51, is too tight.
-pub accurate-line : (n : ℕ) → 51 ≤ n → (v Y : ℕ → ℤ) (e : ℤ) {midpoint slope : ℤ} → pos 0 ⋖ e → Near n v Y e
+-- 0.505 of a unit is within 0.51 for a midpoint; a slope's bound is half a unit and what half a picosecond at each value can tilt the line, from two
+-- values up.
+pub accurate-line : (n : ℕ) → 2 ≤ n → (v Y : ℕ → ℤ) (e : ℤ) {midpoint slope : ℤ} → pos 0 ⋖ e → Near n v Y e
     → RoundedFit n v midpoint slope → AccurateLine n Y e midpoint slope
 accurate-line n h v Y e {midpoint} {slope} e-pos near f =
     record {
@@ -132,21 +113,59 @@ accurate-line n h v Y e {midpoint} {slope} e-pos near f =
           (omega (
             arith,
             lt-is ρ (search quote depth 20) (l .positive),
-            le-is ρ (search quote depth 20) (midpoint-error n two v e-pos near l midpoint (f .midpointRounded)),
+            le-is ρ (search quote depth 20) (midpoint-error n h v e-pos near l midpoint (f .midpointRounded)),
           ));
       slopeNear = λ P Q d l.
-          let ρ : List ℤ = magnitude (d *ℤ slope -ℤ pos 10 *ℤ Q) ∷ d ∷ [] in
-          le-by ρ (search quote depth 20)
-          (omega (
-            arith,
-            le-is ρ (search quote depth 20)
-                (hundredths (pos (span n)) (magnitude (d *ℤ slope -ℤ pos 10 *ℤ Q)) d (pos n *ℤ pos n) (span-pos n two) (le-of-lt (l .positive))
-                (slope-error n two v e-pos near l slope (f .slopeRounded)) (tilt n h)),
-          ));
+          by-n (pos n) (squared (pos n) -ℤ pos 1) (magnitude (d *ℤ slope -ℤ pos 10 *ℤ Q)) d (pos-lt one)
+          (subst
+          (λ (N : ℤ). pos 2 *ℤ N *ℤ magnitude (d *ℤ slope -ℤ pos 10 *ℤ Q) ⩽ d *ℤ (pos 1 *ℤ N +ℤ pos 2 *ℤ (pos n *ℤ pos n)))
+          (span-is n one) (slope-error n h v e-pos near l slope (f .slopeRounded)));
     }
   where
-    two : 2 ≤ n
-    two = omega arith
+    one : 1 ≤ n
+    one = omega arith
+
+-- ---- document 01's bound on slopes, 0.52 of a unit: what was promised of 52 blocks holds still
+
+-- from 51 values on, n / (n² - 1) is at most 0.02
+pub tilt : (n : ℕ) → 51 ≤ n → pos 50 *ℤ pos n ⩽ squared (pos n) -ℤ pos 1
+tilt n h = subst (λ (m : ℤ). pos 50 *ℤ pos n ⩽ m) (minus-one (n * n) (omega (arith, mul-le-mul-left n h))) (pos-le (omega (arith, mul-le-mul-left n h)))
+
+-- so that a slope's bound is at most 13 / 25 of a unit, with u for the error's magnitude and m for n² - 1
+hundredths : (m n u d : ℤ) → pos 0 ⋖ m → pos 0 ⩽ d → pos 2 *ℤ m *ℤ u ⩽ (m +ℤ pos 2 *ℤ n) *ℤ d → pos 50 *ℤ n ⩽ m
+    → pos 25 *ℤ u ⩽ pos 13 *ℤ d
+hundredths m n u d m-pos d-pos error tilted =
+    cancel-le m m-pos
+    (subst₂ _⩽_ (reordered (pos 25) m u) (reordered (pos 13) m d) (summed (m *ℤ u) (m *ℤ d) (d *ℤ n)
+    (le-shift error (identity (m ∷ n ∷ u ∷ d ∷ []) (search quote depth 20 fits 4000) tt))
+    (le-shift (mul-le d d-pos tilted) (identity (m ∷ n ∷ d ∷ []) (search quote depth 20 fits 4000) tt))))
+  where
+    reordered : (k m u : ℤ) → k *ℤ (m *ℤ u) ≡ m *ℤ (k *ℤ u)
+    reordered k m u = identity (k ∷ m ∷ u ∷ []) (search quote depth 20) tt
+
+    summed : (x y z : ℤ) → pos 2 *ℤ x ⩽ y +ℤ pos 2 *ℤ z → pos 50 *ℤ z ⩽ y → pos 25 *ℤ x ⩽ pos 13 *ℤ y
+    summed x y z p q =
+        let ρ : List ℤ = x ∷ y ∷ z ∷ [] in
+        le-by ρ (search quote depth 20) (omega (arith, le-is ρ (search quote depth 20) p, le-is ρ (search quote depth 20) q))
+
+-- At 52 values 0.5 + n / (n² - 1) is 0.5192 of a unit: the next hundredth down, 0.51, is too tight.
+abbrev pub SlopeWithin52 : (n : ℕ) (Y : ℕ → ℤ) (e slope : ℤ) → Type 0
+SlopeWithin52 n Y e slope =
+    (P Q d : ℤ) → LeastLine n Y e P Q d → (pos 100 *ℤ magnitude (d *ℤ slope -ℤ pos 10 *ℤ Q)) ⩽ (pos 52 *ℤ d)
+
+pub slope-hundredths : (n : ℕ) → 51 ≤ n → {Y : ℕ → ℤ} {e midpoint slope : ℤ} → AccurateLine n Y e midpoint slope → SlopeWithin52 n Y e slope
+slope-hundredths n h {slope = slope} f P Q d l =
+    let ρ : List ℤ = magnitude (d *ℤ slope -ℤ pos 10 *ℤ Q) ∷ d ∷ [] in
+    le-by ρ (search quote depth 20)
+    (omega (
+      arith,
+      le-is ρ (search quote depth 20)
+          (hundredths (squared (pos n) -ℤ pos 1) (pos n) (magnitude (d *ℤ slope -ℤ pos 10 *ℤ Q)) d above (le-of-lt (l .positive))
+          (f .slopeNear P Q d l) (tilt n h)),
+    ))
+  where
+    above : pos 0 ⋖ squared (pos n) -ℤ pos 1
+    above = lt-le-trans (pos-lt {m = 0} {n = 50 * n} (omega arith)) (tilt n h)
 
 -- What Scatter gives for n whole values: residuals rounded to the nearest, the sum q of their squares, and the number whose two thresholds hold q.
 pub record RoundedScatter (n : ℕ) (v : ℕ → ℤ) (dsg : ℤ) : Type 0 where
@@ -192,14 +211,14 @@ pub record Computed (n : ℕ) (g : Given) (v A B C D : ℕ → ℤ) (f : Numbers
   pub fitD : RoundedFit n D (f .mdio) (f .smdi)
   pub scatterB : RoundedScatter n B (f .dsg)
 
-pub accurate-track : (n : ℕ) → 51 ≤ n → (g : Given) (v A B C D : ℕ → ℤ) (f : Numbers) → Computed n g v A B C D f
+pub accurate-track : (n : ℕ) → 2 ≤ n → (g : Given) (v A B C D : ℕ → ℤ) (f : Numbers) → Computed n g v A B C D f
     → AccurateTrack n g f
 accurate-track n h g v A B C D f t =
     record {
       a = λ Y e x. accurate-line n h A (λ j. toA g e j (Y j)) e (x .positive) (near-A Y e x) (t .fitA);
       b = λ Y e x. accurate-line n h B (λ j. toB g e j (Y j)) e (x .positive) (near-B Y e x) (t .fitB);
       scatter = λ Y e x.
-          accurate-scatter n (omega arith) B (λ j. toB g e j (Y j)) e (x .positive) (near-B Y e x) (t .scatterB);
+          accurate-scatter n h B (λ j. toB g e j (Y j)) e (x .positive) (near-B Y e x) (t .scatterB);
       c = accurate-line n h C (at (g .troposphere)) (pos 1) (record { lt = tt }) (near-column C (at (g .troposphere)) (t .isC)) (t .fitC);
       d = accurate-line n h D (at (g .ionosphere)) (pos 1) (record { lt = tt }) (near-column D (at (g .ionosphere)) (t .isD)) (t .fitD);
     }
@@ -223,3 +242,15 @@ accurate-track n h g v A B C D f t =
 
     near-column : (u w : ℕ → ℤ) → ((j : ℕ) → j < n → u j ≡ w j) → Near n u w (pos 1)
     near-column u w same = moved w u w same (near-self n w)
+
+-- The four slopes of a full track are within the 0.52 that document 01 promised.
+pub full-track-slopes : (g : Given) (f : Numbers) → AccurateTrack 52 g f
+    → ((Y : ℕ → ℤ) (e : ℤ) → ExactSmoothed 52 (block g) Y e
+    → SlopeWithin52 52 (λ j. toA g e j (Y j)) e (f .srsv) × SlopeWithin52 52 (λ j. toB g e j (Y j)) e (f .srsys))
+    × SlopeWithin52 52 (at (g .troposphere)) (pos 1) (f .smdt)
+    × SlopeWithin52 52 (at (g .ionosphere)) (pos 1) (f .smdi)
+full-track-slopes g f t = (
+  λ Y e x. (slope-hundredths 52 (omega arith) (t .a Y e x), slope-hundredths 52 (omega arith) (t .b Y e x)),
+  slope-hundredths 52 (omega arith) (t .c),
+  slope-hundredths 52 (omega arith) (t .d),
+)

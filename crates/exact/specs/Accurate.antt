@@ -1,5 +1,5 @@
--- What is promised of a track's figures (document 01, "Exact figures"): each is near the exact one, for every choice of least curves and of
--- denominators. The bound itself is taken in.
+-- What is promised of a track's figures (document 01, "Exact figures"; document 02, Job 3): each is near the exact one, for every choice of
+-- least curves and of denominators. The bound itself is taken in.
 -- Assumes nothing.
 use Prim.Native.Nat.{ℕ}
 use lib.IntN.{ℤ, pos, _+ℤ_, _-ℤ_, _*ℤ_}
@@ -10,12 +10,14 @@ use Rattle.exact.specs.Parabola.{ExactSmoothed}
 use Rattle.exact.specs.Line.{LeastLine, lineMisfit}
 use Rattle.exact.specs.Corrected.{Given, at, block, toA, toB}
 
--- A midpoint in 0.1 ns is within 0.51 of its unit of P / 100d, and a slope in 0.1 ps/s within 0.52 of its unit of 10Q / d, where
--- (P + Qt) / d is the least line through the n values Y j / e.
+-- A midpoint in 0.1 ns is within 0.51 of its unit of P / 100d, and a slope in 0.1 ps/s within 0.5 + n / (n² - 1) of its unit of 10Q / d,
+-- here multiplied by 2 (n² - 1), where (P + Qt) / d is the least line through the n values Y j / e. With 52 values that is within the 0.52 of
+-- document 01: law `slope-hundredths` of the module Accuracy.
 pub record AccurateLine (n : ℕ) (Y : ℕ → ℤ) (e midpoint slope : ℤ) : Type 0 where
   pub midpointNear : (P Q d : ℤ) → LeastLine n Y e P Q d → magnitude (pos 100 *ℤ d *ℤ midpoint -ℤ P) ≤ℤ (pos 51 *ℤ d)
   pub slopeNear : (P Q d : ℤ) → LeastLine n Y e P Q d
-      → (pos 100 *ℤ magnitude (d *ℤ slope -ℤ pos 10 *ℤ Q)) ≤ℤ (pos 52 *ℤ d)
+      → (pos 2 *ℤ (squared (pos n) -ℤ pos 1) *ℤ magnitude (d *ℤ slope -ℤ pos 10 *ℤ Q))
+      ≤ℤ ((squared (pos n) -ℤ pos 1 +ℤ pos 2 *ℤ pos n) *ℤ d)
 
 -- M is the least sum divided by n, lineMisfit / (n (2de)²). A DSG is within 0.51 of its unit, 51 ps, of its root: M is at most
 -- (100 DSG + 51)² and, for a DSG from 1 up, at least (100 DSG - 51)².

@@ -16,7 +16,7 @@ use Rattle.exact.specs.Weights.{weights}
 use Rattle.limits.specs.Lists.{anyBeyond}
 use Rattle.series.specs.Answers.{smoothReply, smoothNumbered}
 use Rattle.series.specs.Smooth.{smoothed, smoothRule}
-use Rattle.limits.proofs.Lists.{list-passes, any-drop, any-take}
+use Rattle.limits.proofs.Lists.{list-passes, counts, any-drop, any-take}
 use Rattle.limits.proofs.Replies.{reply-accepted}
 use Rattle.series.proofs.Replies.{smooth-case}
 
@@ -37,5 +37,5 @@ module _ (m : List ℤ) (from : ℕ) (fits : from + 15 ≤ length m) where
   unfolding smoothRule
   part-value e r a n =
       smooth-case r (smoothed (at (take 15 (drop from m))))
-      (a ∙ reply-accepted _ _ (list-passes 15 _ _ _ part-length (any-take _ _ 15 _ (any-drop _ _ from m e)))) n
+      (a ∙ reply-accepted _ _ (list-passes _ _ _ _ (counts 15 (take 15 (drop from m)) part-length) (any-take _ _ 15 _ (any-drop _ _ from m e)))) n
       ∙ ap Smoothed.Value part-smoothed

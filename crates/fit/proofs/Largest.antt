@@ -7,14 +7,13 @@ use Prim.Native.Nat.{ℕ, _+_, _*_, _^_, _≤_}
 use native.Mathlib.Nat.{le-trans}
 use lib.Dec.{lit≤}
 use lib.IntN.{ℤ, natAbs}
-use Rattle.whole.specs.Table.{tabulate}
 use Rattle.whole.specs.Words.{Word, Within, known, bound, bounds}
 use Rattle.exact.specs.Corrected.{Given, at, block, toA, toB}
 use Rattle.limits.specs.Lists.{anyBeyond}
 use Rattle.limits.proofs.Lists.{within-limit, limit-within}
 use Rattle.series.proofs.Weights.{smoothed-bound}
-use Rattle.fit.specs.Track.{smoothedAt, valueA, valueB, valueC, valueD, recordOf, results, outOfLimits, correctedBeyond}
-use Rattle.fit.proofs.Arrays.{table-bound}
+use Rattle.fit.specs.Track.{blocks, places, smoothedAt, valueA, valueB, valueC, valueD, recordOf, results, outOfLimits, correctedBeyond}
+use Rattle.fit.proofs.Arrays.{places-bound}
 use Rattle.fit.proofs.Tracks.{limited}
 
 -- The smoothed value of a block, and its four corrected values, with measurements within 10^12, geometry within 2 × 10^11 and all else
@@ -56,16 +55,16 @@ module _ (g : Given) (e : outOfLimits g ≡ false) (j : ℕ) where
   d-within = within-limit (10 ^ 10) (g .ionosphere) (limited g e .in-ionosphere) j
 
 -- values within a bound that is not above Fit's limit pass its test
-passes : (f : ℕ → ℤ) (b : ℕ) → b ≤ 2 * 10 ^ 12 → ((j : ℕ) → natAbs (f j) ≤ b) → anyBeyond (2 * 10 ^ 12) (tabulate f 52) ≡ false
-passes f b h k = limit-within (2 * 10 ^ 12) (tabulate f 52) (table-bound f 52 (2 * 10 ^ 12) (λ j. le-trans (k j) h))
+passes : (n : ℕ) (f : ℕ → ℤ) (b : ℕ) → b ≤ 2 * 10 ^ 12 → ((j : ℕ) → natAbs (f j) ≤ b) → anyBeyond (2 * 10 ^ 12) (places n f) ≡ false
+passes n f b h k = limit-within (2 * 10 ^ 12) (places n f) (places-bound f n (2 * 10 ^ 12) (λ j. le-trans (k j) h))
 
 -- No corrected value is outside ±2 × 10^12: what 2 lets through, 10 never refuses.
 pub corrected-within : (g : Given) → outOfLimits g ≡ false → correctedBeyond (results g) ≡ false
 unfolding results recordOf correctedBeyond
 corrected-within g e =
     rw (
-      passes (valueA g) _ (lit≤ tt) (a-within g e),
-      passes (valueB g) _ (lit≤ tt) (b-within g e),
-      passes (valueC g) _ (lit≤ tt) (c-within g e),
-      passes (valueD g) _ (lit≤ tt) (d-within g e),
+      passes (blocks g) (valueA g) _ (lit≤ tt) (a-within g e),
+      passes (blocks g) (valueB g) _ (lit≤ tt) (b-within g e),
+      passes (blocks g) (valueC g) _ (lit≤ tt) (c-within g e),
+      passes (blocks g) (valueD g) _ (lit≤ tt) (d-within g e),
     )

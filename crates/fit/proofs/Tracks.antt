@@ -2,35 +2,34 @@
 -- record comes to.
 -- Assumes nothing.
 use mathlib.Core.Path.{_≡_, refl, sym, ap, _∙_}
-use mathlib.Core.Bool.{false, _||_}
+use mathlib.Core.Bool.{true, false, not, _||_}
 use mathlib.Core.List.{List}
 use Prim.Native.Nat.{ℕ, zero, suc, _*_, _^_, _≤_, _<_}
 use native.Mathlib.Nat.{not-suc-le-zero}
 use native.Mathlib.Omega.{arith}
-use borrow.Author.Tests.{eqb-true, not-false}
-use lib.Dec.{eqb}
 use lib.IntN.{ℤ, pos, natAbs, _+ℤ_, _-ℤ_}
 use lib.Signed.{mag}
 use mir.Syntax.{w64}
 use mir.Val.{toZ, ofZ}
-use lib.ListN.{length}
+use lib.ListN.{length, take}
 use Rattle.whole.specs.Ring.{one-*ℤ}
 use Rattle.whole.specs.Words.{back-of}
-use Rattle.whole.specs.Table.{tabulate}
-use Rattle.whole.specs.Tables.{tabulate-getD, tabulate-cong}
 use Rattle.limits.specs.Refusal.{_when_, _then_}
 use Rattle.limits.specs.Limits.{beyond}
-use Rattle.limits.proofs.Laws.{or-false, magnitude-within, then-zero, when-zero}
+use Rattle.limits.proofs.Laws.{or-false, magnitude-within}
 use Rattle.fit.specs.declared.TrackRecord.{TrackRecord}
 use Rattle.exact.specs.Corrected.{Given, at, toA, toB}
+use Rattle.limits.specs.Blocks.{blocksFit}
 use Rattle.limits.specs.Lists.{miscounted, anyBeyond}
+use Rattle.limits.proofs.Blocks.{blocks-within}
+use Rattle.limits.proofs.Lists.{counted}
 use Rattle.limits.specs.Reply.{Reply}
 use Rattle.series.specs.declared.Fitted.{Fitted}
 use Rattle.series.specs.Answers.{fitReply, fitNumbered}
 use Rattle.series.specs.Fit.{midpoint, slope, fitRule}
-use Rattle.series.proofs.Fitting.{fit-accepted}
-use Rattle.limits.proofs.Laws.{then-refused, then-assoc}
-use Rattle.fit.specs.Track.{smoothedAt, valueA, valueB, valueC, valueD, recordOf, results, wrongSizes, outOfLimits, correctedBeyond, recordNumber, trackNumber, zeros, tracked, trackRule}
+use Rattle.series.proofs.Fitting.{fit-part}
+use Rattle.fit.specs.Track.{blocks, places, smoothedAt, valueA, valueB, valueC, valueD, recordOf, results, wrongSizes, outOfLimits, correctedBeyond, recordNumber, trackNumber, zeros, tracked, trackRule}
+use Rattle.fit.proofs.Arrays.{places-at, places-cong}
 
 pub tracked-refused : (number : ℕ) (t : TrackRecord) → 0 < number → tracked number t ≡ record { refusal = number; «record» = zeros }
 unfolding tracked
@@ -48,9 +47,9 @@ pub record Inside (a b c d : List ℤ) : Type 0 where
   pub in-c : anyBeyond (2 * 10 ^ 12) c ≡ false
   pub in-d : anyBeyond (2 * 10 ^ 12) d ≡ false
 
-pub inside : (a b c d : List ℤ) → correctedBeyond (recordOf a b c d) ≡ false → Inside a b c d
+pub inside : (n : ℕ) (a b c d : List ℤ) → correctedBeyond (recordOf n a b c d) ≡ false → Inside a b c d
 unfolding correctedBeyond recordOf
-inside a b c d e =
+inside n a b c d e =
     let A = anyBeyond (2 * 10 ^ 12) a in
     let B = anyBeyond (2 * 10 ^ 12) b in
     let C = anyBeyond (2 * 10 ^ 12) c in
@@ -60,16 +59,16 @@ inside a b c d e =
     let one = or-false A B (ab .0) in
     record { in-a = one .0; in-b = one .1; in-c = ab .1; in-d = abc .1 }
 
--- Fit's answer to values that are not refused
-abbrev pub lineThrough : List ℤ → Fitted
-lineThrough l = Fitted.Line (midpoint 1 52 (at l)) (slope 1 52 (at l))
+-- Fit's answer to the first n places of values that are not refused
+abbrev pub lineThrough : ℕ → List ℤ → Fitted
+lineThrough n l = Fitted.Line (midpoint 1 n (at l)) (slope 1 n (at l))
 
-pub fit-value : (l : List ℤ) → length l ≡ 52 → anyBeyond (2 * 10 ^ 12) l ≡ false → (r : Fitted) → fitReply r ≡ fitRule l → fitNumbered r
-    → r ≡ lineThrough l
-fit-value l e h (Fitted.Line m s) a n = ap (λ (r : Reply (ℤ × ℤ)). Fitted.Line (r .values .0) (r .values .1)) (a ∙ fit-accepted l e h)
-fit-value l e h (Fitted.Refused k) a n = absurd (never (ap (λ (r : Reply (ℤ × ℤ)). r .number) (a ∙ fit-accepted l e h)) n)
+pub fit-value : (n : ℕ) (l : List ℤ) → 4 ≤ n → n ≤ 52 → n ≤ length l → anyBeyond (2 * 10 ^ 12) l ≡ false
+    → (r : Fitted) → fitReply r ≡ fitRule (take n l) → fitNumbered r → r ≡ lineThrough n l
+fit-value n l h k m e (Fitted.Line x y) a f = ap (λ (r : Reply (ℤ × ℤ)). Fitted.Line (r .values .0) (r .values .1)) (a ∙ fit-part n l h k m e)
+fit-value n l h k m e (Fitted.Refused i) a f = absurd (never (ap (λ (r : Reply (ℤ × ℤ)). r .number) (a ∙ fit-part n l h k m e)) f)
   where
-    never : k ≡ 0 → 0 < k → ⊥
+    never : i ≡ 0 → 0 < i → ⊥
     never z p = omega arith
 
 -- so it is no refusal,
@@ -84,36 +83,34 @@ fit-numbers {r} {x} {y} {m} {s} p q h k = let z : x ≡ m = cc in let w : y ≡ 
 -- ---- what it tells that a track's lists and numbers are not refused
 
 pub record Sized (g : Given) : Type 0 where
-  pub size-measurements : length (g .measurements) ≡ 780
-  pub size-geometry : length (g .geometry) ≡ 52
-  pub size-relativity : length (g .relativity) ≡ 52
-  pub size-ionosphere : length (g .ionosphere) ≡ 52
-  pub size-troposphere : length (g .troposphere) ≡ 52
-  pub size-clock : length (g .clock) ≡ 52
-
-counted : (n : ℕ) (l : List ℤ) → miscounted n l ≡ false → length l ≡ n
-counted n l e = eqb-true (length l) n (not-false (eqb (length l) n) e)
+  pub size-blocks : (4 ≤ blocks g) × (blocks g ≤ 52)
+  pub size-measurements : length (g .measurements) ≡ 15 * blocks g
+  pub size-relativity : length (g .relativity) ≡ blocks g
+  pub size-ionosphere : length (g .ionosphere) ≡ blocks g
+  pub size-troposphere : length (g .troposphere) ≡ blocks g
+  pub size-clock : length (g .clock) ≡ blocks g
 
 pub sized : (g : Given) → wrongSizes g ≡ false → Sized g
 unfolding wrongSizes
 sized g e =
-    let G = miscounted 52 (g .geometry) in
-    let R = miscounted 52 (g .relativity) in
-    let I = miscounted 52 (g .ionosphere) in
-    let T = miscounted 52 (g .troposphere) in
-    let C = miscounted 52 (g .clock) in
-    let all = or-false (miscounted 780 (g .measurements)) (G || R || I || T || C) e in
-    let four = or-false (G || R || I || T) C (all .1) in
-    let three = or-false (G || R || I) T (four .0) in
-    let two = or-false (G || R) I (three .0) in
-    let one = or-false G R (two .0) in
+    let n = blocks g in
+    let M = miscounted (15 * n) (g .measurements) in
+    let R = miscounted n (g .relativity) in
+    let I = miscounted n (g .ionosphere) in
+    let T = miscounted n (g .troposphere) in
+    let C = miscounted n (g .clock) in
+    let all = or-false (not (blocksFit n)) (M || R || I || T || C) e in
+    let four = or-false (M || R || I || T) C (all .1) in
+    let three = or-false (M || R || I) T (four .0) in
+    let two = or-false (M || R) I (three .0) in
+    let one = or-false M R (two .0) in
     record {
-      size-measurements = counted 780 (g .measurements) (all .0);
-      size-geometry = counted 52 (g .geometry) (one .0);
-      size-relativity = counted 52 (g .relativity) (one .1);
-      size-ionosphere = counted 52 (g .ionosphere) (two .1);
-      size-troposphere = counted 52 (g .troposphere) (three .1);
-      size-clock = counted 52 (g .clock) (four .1);
+      size-blocks = blocks-within n (all .0);
+      size-measurements = counted (15 * n) (g .measurements) (one .0);
+      size-relativity = counted n (g .relativity) (one .1);
+      size-ionosphere = counted n (g .ionosphere) (two .1);
+      size-troposphere = counted n (g .troposphere) (three .1);
+      size-clock = counted n (g .clock) (four .1);
     }
 
 pub record Limited (g : Given) : Type 0 where
@@ -165,51 +162,44 @@ limited g e =
 
 -- ---- the corrected values, without the denominator
 
-pub a-table : (g : Given) (s : List ℤ) (delay gd : ℤ) → s ≡ tabulate (smoothedAt g) 52 → delay ≡ g .int +ℤ g .cab -ℤ g .refdly → gd ≡ g .gd
-    → tabulate (λ j. at s j -ℤ delay -ℤ at (g .geometry) j +ℤ at (g .relativity) j -ℤ at (g .ionosphere) j -ℤ at (g .troposphere) j -ℤ gd) 52
-    ≡ tabulate (valueA g) 52
+pub a-places : (n : ℕ) (g : Given) (s : List ℤ) (delay gd : ℤ) → s ≡ places n (smoothedAt g) → delay ≡ g .int +ℤ g .cab -ℤ g .refdly → gd ≡ g .gd
+    → places n (λ j. at s j -ℤ delay -ℤ at (g .geometry) j +ℤ at (g .relativity) j -ℤ at (g .ionosphere) j -ℤ at (g .troposphere) j -ℤ gd)
+    ≡ places n (valueA g)
 unfolding valueA toA
-a-table g s delay gd e w d = rw (e, w, d) (tabulate-cong _ (valueA g) 52 same)
+a-places n g s delay gd e w d = rw (e, w, d) (places-cong n _ (valueA g) same)
   where
-    same : (j : ℕ) → j < 52
-        → at (tabulate (smoothedAt g) 52) j -ℤ (g .int +ℤ g .cab -ℤ g .refdly) -ℤ at (g .geometry) j +ℤ at (g .relativity) j -ℤ at (g .ionosphere) j -ℤ at (g .troposphere) j -ℤ g .gd
+    same : (j : ℕ) → j < n
+        → at (places n (smoothedAt g)) j -ℤ (g .int +ℤ g .cab -ℤ g .refdly) -ℤ at (g .geometry) j +ℤ at (g .relativity) j -ℤ at (g .ionosphere) j -ℤ at (g .troposphere) j -ℤ g .gd
         ≡ valueA g j
-    same j h = simp (tabulate-getD (smoothedAt g) 52 j (pos 0) h, one-*ℤ)
+    same j h = simp (places-at n (smoothedAt g) j h, one-*ℤ)
 
-pub b-table : (g : Given) (a : List ℤ) → a ≡ tabulate (valueA g) 52
-    → tabulate (λ j. at a j +ℤ at (g .clock) j) 52 ≡ tabulate (valueB g) 52
+pub b-places : (n : ℕ) (g : Given) (a : List ℤ) → a ≡ places n (valueA g)
+    → places n (λ j. at a j +ℤ at (g .clock) j) ≡ places n (valueB g)
 unfolding valueA valueB toB
-b-table g a e = rw e (tabulate-cong _ (valueB g) 52 same)
+b-places n g a e = rw e (places-cong n _ (valueB g) same)
   where
-    same : (j : ℕ) → j < 52 → at (tabulate (valueA g) 52) j +ℤ at (g .clock) j ≡ valueB g j
-    same j h = simp (tabulate-getD (valueA g) 52 j (pos 0) h, one-*ℤ)
+    same : (j : ℕ) → j < n → at (places n (valueA g)) j +ℤ at (g .clock) j ≡ valueB g j
+    same j h = simp (places-at n (valueA g) j h, one-*ℤ)
 
 -- ---- the first two refusals
 
--- 1 or 2, or 0
-abbrev pub inputsNumber : Given → ℕ
-inputsNumber g = 1 when wrongSizes g then 2 when outOfLimits g
+pub sizes-refused : (g : Given) → wrongSizes g ≡ true → trackRule g ≡ record { refusal = 1; «record» = zeros }
+unfolding trackRule trackNumber tracked _when_ _then_
+sizes-refused g e = rw e
 
-pub inputs-refused : (g : Given) (n : ℕ) → n ≡ inputsNumber g → 0 < n → trackRule g ≡ record { refusal = n; «record» = zeros }
-unfolding trackRule trackNumber
-inputs-refused g n e h =
-    ap (λ (k : ℕ). tracked k (results g))
-    (sym (then-assoc _ _ (recordNumber (results g))) ∙ ap (λ (k : ℕ). k then recordNumber (results g)) (sym e) ∙ then-refused n _ h)
-    ∙ tracked-refused n (results g) h
-
-pub inputs-accepted : (g : Given) → inputsNumber g ≡ 0 → (wrongSizes g ≡ false) × (outOfLimits g ≡ false)
-inputs-accepted g e =
-    let z = then-zero (1 when wrongSizes g) (2 when outOfLimits g) e in
-    (when-zero 0 (wrongSizes g) (z .0), when-zero 1 (outOfLimits g) (z .1))
+pub limits-refused : (g : Given) → wrongSizes g ≡ false → outOfLimits g ≡ true → trackRule g ≡ record { refusal = 2; «record» = zeros }
+unfolding trackRule trackNumber tracked _when_ _then_
+limits-refused g e h = rw (e, h)
 
 -- a track that is not refused with 1 or 2
-pub inputs-passed : (g : Given) → wrongSizes g ≡ false → outOfLimits g ≡ false → trackRule g ≡ tracked (recordNumber (results g)) (results g)
+inputs-passed : (g : Given) → wrongSizes g ≡ false → outOfLimits g ≡ false → trackRule g ≡ tracked (recordNumber (results g)) (results g)
 unfolding trackRule trackNumber _when_ _then_
 inputs-passed g e h = rw (e, h)
 
 -- is judged by its corrected values
 pub track-judged : (g : Given) (a b c d : List ℤ) → wrongSizes g ≡ false → outOfLimits g ≡ false
-    → a ≡ tabulate (valueA g) 52 → b ≡ tabulate (valueB g) 52 → c ≡ tabulate (valueC g) 52 → d ≡ tabulate (valueD g) 52
-    → tracked (recordNumber (recordOf a b c d)) (recordOf a b c d) ≡ trackRule g
+    → let n = blocks g in
+    a ≡ places n (valueA g) → b ≡ places n (valueB g) → c ≡ places n (valueC g) → d ≡ places n (valueD g)
+    → tracked (recordNumber (recordOf n a b c d)) (recordOf n a b c d) ≡ trackRule g
 unfolding results
 track-judged g a b c d e h ea eb ec ed = rw (ea, eb, ec, ed) (sym (inputs-passed g e h))

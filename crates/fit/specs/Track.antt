@@ -1,10 +1,10 @@
--- Track (document 01): the corrected values of each kind and the ten numbers.
+-- Track (document 01; document 02, Job 3): the corrected values of each kind and the ten numbers of a track of n blocks.
 -- Assumes nothing.
-use Prim.Native.Nat.{ℕ, zero, suc, _*_, _^_}
-use mathlib.Core.Bool.{Bool, _||_}
-use mathlib.Core.List.{List}
+use Prim.Native.Nat.{ℕ, zero, suc, _*_, _-_, _^_}
+use mathlib.Core.Bool.{Bool, not, _||_}
+use mathlib.Core.List.{List, _++_}
 use lib.IntN.{ℤ, pos}
-use lib.ListN.{replicate}
+use lib.ListN.{length, replicate}
 use Rattle.limits.specs.declared.Numbers.{Numbers}
 use Rattle.limits.specs.Refusal.{_when_, _then_}
 use Rattle.limits.specs.Limits.{beyond, limitsRule, dsgRule}
@@ -12,10 +12,15 @@ use Rattle.fit.specs.declared.TrackRecord.{TrackRecord}
 use Rattle.fit.specs.declared.Tracked.{Tracked}
 use Rattle.whole.specs.Table.{tabulate}
 use Rattle.exact.specs.Corrected.{at, Given, block, toA, toB}
+use Rattle.limits.specs.Blocks.{blocksFit}
 use Rattle.limits.specs.Lists.{miscounted, anyBeyond}
 use Rattle.series.specs.Smooth.{smoothed}
 use Rattle.series.specs.Fit.{midpoint, slope}
 use Rattle.series.specs.Scatter.{squares, dsg}
+
+-- How many blocks a track has: as many as its first column, and 1 tells where the other lists disagree.
+abbrev pub blocks : Given → ℕ
+blocks g = length (g .geometry)
 
 -- The smoothed value of block j.
 unfoldable pub smoothedAt : Given → ℕ → ℤ
@@ -34,36 +39,49 @@ valueC g j = at (g .troposphere) j
 unfoldable pub valueD : Given → ℕ → ℤ
 valueD g j = at (g .ionosphere) j
 
--- The ten numbers of the corrected values, with a DSG.
-unfoldable pub numbersWith : (dsg : ℤ) (a b c d : List ℤ) → Numbers
-numbersWith dsg a b c d =
+-- The 52 places of a record: the values of n blocks, and 0 in the others.
+unfoldable pub places : (n : ℕ) (value : ℕ → ℤ) → List ℤ
+places n value = tabulate value n ++ replicate (52 - n) (pos 0)
+
+-- The ten numbers of the corrected values of n blocks, with a DSG. The track length is 15 s a block.
+unfoldable pub numbersWith : (dsg : ℤ) (n : ℕ) (a b c d : List ℤ) → Numbers
+numbersWith dsg n a b c d =
     record {
-      refsv = midpoint 1 52 (at a);
-      srsv = slope 1 52 (at a);
-      refsys = midpoint 1 52 (at b);
-      srsys = slope 1 52 (at b);
-      mdtr = midpoint 1 52 (at c);
-      smdt = slope 1 52 (at c);
-      mdio = midpoint 1 52 (at d);
-      smdi = slope 1 52 (at d);
+      refsv = midpoint 1 n (at a);
+      srsv = slope 1 n (at a);
+      refsys = midpoint 1 n (at b);
+      srsys = slope 1 n (at b);
+      mdtr = midpoint 1 n (at c);
+      smdt = slope 1 n (at c);
+      mdio = midpoint 1 n (at d);
+      smdi = slope 1 n (at d);
       dsg = dsg;
-      trkl = pos 780;
+      trkl = pos (15 * n);
     }
 
--- The record of the corrected values: they themselves, and their ten numbers with the DSG of B.
-unfoldable pub recordOf : (a b c d : List ℤ) → TrackRecord
-recordOf a b c d =
-    record { a = a; b = b; c = c; d = d; numbers = numbersWith (pos (dsg 1 52 (squares 52 (at b)))) a b c d }
+-- The record of the corrected values of n blocks: the places in use, the values themselves, and their ten numbers with the DSG of B.
+unfoldable pub recordOf : (n : ℕ) (a b c d : List ℤ) → TrackRecord
+recordOf n a b c d =
+    record {
+      blocks = n;
+      a = a;
+      b = b;
+      c = c;
+      d = d;
+      numbers = numbersWith (pos (dsg 1 n (squares n (at b)))) n a b c d;
+    }
 
 unfoldable pub results : Given → TrackRecord
-results g = recordOf (tabulate (valueA g) 52) (tabulate (valueB g) 52) (tabulate (valueC g) 52) (tabulate (valueD g) 52)
+results g =
+    let n = blocks g in recordOf n (places n (valueA g)) (places n (valueB g)) (places n (valueC g)) (places n (valueD g))
 
--- 1: the measurements are not 780 or a column is not 52.
+-- 1: the blocks are not from 4 to 52, the measurements are not 15 a block, or the columns disagree.
 unfoldable pub wrongSizes : Given → Bool
 wrongSizes g =
-    miscounted 780 (g .measurements)
-    || (miscounted 52 (g .geometry) || miscounted 52 (g .relativity) || miscounted 52 (g .ionosphere)
-    || miscounted 52 (g .troposphere) || miscounted 52 (g .clock))
+    let n = blocks g in
+    not (blocksFit n)
+    || (miscounted (15 * n) (g .measurements) || miscounted n (g .relativity) || miscounted n (g .ionosphere)
+    || miscounted n (g .troposphere) || miscounted n (g .clock))
 
 -- 2: a measurement is outside ±10^12, a geometry outside ±2 × 10^11, or any other correction or single number outside ±10^10.
 unfoldable pub outOfLimits : Given → Bool
@@ -96,6 +114,7 @@ trackNumber g =
 unfoldable pub zeros : TrackRecord
 zeros =
     record {
+      blocks = 0;
       a = replicate 52 (pos 0);
       b = replicate 52 (pos 0);
       c = replicate 52 (pos 0);

@@ -1,30 +1,41 @@
-// The columns and the delays that a track is given: whether the columns have their size, and whether every number is
-// inside its limits.
+// The lists and the delays that a track is given: whether the lists have their sizes, and whether every number is inside
+// its limits.
 use limits::any_outside;
+use limits::blocks_fit;
 use limits::outside;
 ghost use mathlib.Core.Path.{_≡_};
-ghost use mathlib.Core.Bool.{_||_};
+ghost use mathlib.Core.Bool.{not, _||_};
 ghost use Prim.Native.Nat.{_*_, _^_};
+ghost use lib.ListN.{length};
+ghost use Rattle.limits.specs.Blocks.{blocksFit};
 ghost use Rattle.limits.specs.Limits.{beyond};
 ghost use Rattle.limits.specs.Lists.{miscounted, anyBeyond};
 
-// Whether a column is not 52.
-pub fn columns_miscounted(
+// Whether the blocks are not from 4 to 52, the measurements not 15 a block, or another column not as long as the geometry's.
+pub fn sizes_wrong(
+    measurements: &[i64],
     geometry: &[i64],
     relativity: &[i64],
     ionosphere: &[i64],
     troposphere: &[i64],
     clock: &[i64],
 ) -> bool
-    ensures { λ r. ⌜ r ≡ miscounted 52 (now (geometry .entry)) || miscounted 52 (now (relativity .entry))
-        || miscounted 52 (now (ionosphere .entry)) || miscounted 52 (now (troposphere .entry))
-        || miscounted 52 (now (clock .entry)) ⌝ }
+    ensures { λ r. ⌜ r ≡ not (blocksFit (length (now (geometry .entry))))
+        || (miscounted (15 * length (now (geometry .entry))) (now (measurements .entry))
+        || miscounted (length (now (geometry .entry))) (now (relativity .entry))
+        || miscounted (length (now (geometry .entry))) (now (ionosphere .entry))
+        || miscounted (length (now (geometry .entry))) (now (troposphere .entry))
+        || miscounted (length (now (geometry .entry))) (now (clock .entry))) ⌝ }
 {
-    (geometry.len() != 52)
-        | (relativity.len() != 52)
-        | (ionosphere.len() != 52)
-        | (troposphere.len() != 52)
-        | (clock.len() != 52)
+    let n = geometry.len();
+    if !blocks_fit(n) {
+        return true;
+    }
+    (measurements.len() != 15 * n)
+        | (relativity.len() != n)
+        | (ionosphere.len() != n)
+        | (troposphere.len() != n)
+        | (clock.len() != n)
 }
 
 // Whether a geometry is outside ±2 × 10^11 or any other correction outside ±10^10.

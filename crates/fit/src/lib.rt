@@ -1,5 +1,5 @@
-// From one-second measurements to the ten numbers of a track: Track of document 01, and beside it Smooth, Fit and Scatter,
-// of which it is made and which are those of crate series.
+// From one-second measurements to the ten numbers of a track of 4 to 52 blocks: Track of document 01 and document 02, Job 3,
+// and beside it Smooth, Fit and Scatter, of which it is made and which are those of crate series.
 // Each operation takes lists of any length and numbers of any size and never traps: what it can't use it refuses with
 // the number of the first refusal, in the order of document 01, "Each operation and its refusals, in order".
 // All quantities are whole picoseconds unless a unit is given.
@@ -15,12 +15,10 @@ use correction::copied;
 use correction::delay;
 use correction::smooth_blocks;
 use inputs::columns_beyond;
-use inputs::columns_miscounted;
 use inputs::delays_beyond;
+use inputs::sizes_wrong;
 pub use limits::Numbers;
 use limits::any_outside;
-use limits::then;
-use limits::when;
 use results::Corrected;
 use results::judged;
 use results::refused;
@@ -32,11 +30,14 @@ pub use series::scatter;
 pub use series::smooth;
 ghost use mathlib.Core.Path.{_≡_};
 ghost use mathlib.Core.Bool.{false};
+ghost use lib.ListN.{length};
 ghost use Rattle.exact.specs.Accurate.{AccurateTrack};
 ghost use Rattle.fit.specs.Track.{given, wrongSizes, outOfLimits, trackRule};
 
-// A track's corrected values of each kind at its 52 blocks, A, B, C and D of document 01, and its ten numbers.
+// How many of the 52 places are in use, a track's corrected values of each kind, A, B, C and D of document 01, with 0 in the
+// other places, and its ten numbers.
 pub struct TrackRecord {
+    pub blocks: usize,
     pub a: [i64; 52],
     pub b: [i64; 52],
     pub c: [i64; 52],
@@ -71,7 +72,8 @@ fn corrected_track(
         (now (geometry .entry)) (now (relativity .entry)) (now (ionosphere .entry)) (now (troposphere .entry))
         (now (clock .entry))) ⌝ }
 {
-    let blocks = smooth_blocks(measurements);
+    let n = geometry.len();
+    let blocks = smooth_blocks(measurements, n);
     let refusal = blocks.refusal;
     if refusal != 0 {
         return refused(refusal);
@@ -89,10 +91,17 @@ fn corrected_track(
     let b = b_values(&a, clock);
     let c = copied(troposphere);
     let d = copied(ionosphere);
-    judged(Corrected { a, b, c, d })
+    judged(Corrected {
+        blocks: n,
+        a,
+        b,
+        c,
+        d,
+    })
 }
 
-// A track: 780 one-second measurements, the delays INT, CAB, REF and GD, and five columns of 52 corrections.
+// A track of n blocks, n from 4 to 52: 15n one-second measurements, the delays INT, CAB, REF and GD, and five columns of n
+// corrections.
 pub fn track(
     measurements: &[i64],
     int: i64,
@@ -108,18 +117,26 @@ pub fn track(
     ensures answer { λ r. ⌜ r ≡ trackRule (given (now (measurements .entry)) int cab refdly gd
         (now (geometry .entry)) (now (relativity .entry)) (now (ionosphere .entry)) (now (troposphere .entry))
         (now (clock .entry))) ⌝ }
-    ensures accurate { λ r. ⌜ (r .refusal ≡ 0 → AccurateTrack 52 (given (now (measurements .entry)) int cab refdly gd
+    ensures accurate { λ r. ⌜ (r .refusal ≡ 0 → AccurateTrack (length (now (geometry .entry)))
+        (given (now (measurements .entry)) int cab refdly gd
         (now (geometry .entry)) (now (relativity .entry)) (now (ionosphere .entry)) (now (troposphere .entry))
         (now (clock .entry))) (r .«record» .numbers)) ⌝ }
 {
-    let sizes = (measurements.len() != 780)
-        | columns_miscounted(geometry, relativity, ionosphere, troposphere, clock);
+    if sizes_wrong(
+        measurements,
+        geometry,
+        relativity,
+        ionosphere,
+        troposphere,
+        clock,
+    ) {
+        return refused(1);
+    }
     let beyond = any_outside(measurements, -1_000_000_000_000, 1_000_000_000_000)
         | columns_beyond(geometry, relativity, ionosphere, troposphere, clock)
         | delays_beyond(int, cab, refdly, gd);
-    let refusal = then(when(1, sizes), when(2, beyond));
-    if refusal != 0 {
-        return refused(refusal);
+    if beyond {
+        return refused(2);
     }
     corrected_track(
         measurements,

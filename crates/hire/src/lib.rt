@@ -1,16 +1,19 @@
-// The parts of a hire block: its labels, and Track of its numbers. What does not lie within the bytes reads as 0, so that every block is
-// answered; Block of document 01 asks for the length before.
+// The parts of a hire block: its sizes and the length they make, its labels, and Track of its numbers. What does not lie within the bytes
+// reads as 0, so that every block is answered; Block asks first whether there are four bytes, then for the sizes, then for the length.
 ghost use mathlib.Core.Path.{_≡_};
+ghost use Prim.Native.Nat.{_*_, _≤_};
+ghost use lib.ListN.{length, take};
 ghost use Rattle.decode.specs.Number.{signedsAt};
 ghost use Rattle.fit.specs.Track.{trackRule};
 ghost use Rattle.exact.specs.Accurate.{AccurateTrack};
-ghost use Rattle.hire.specs.Hire.{byteAt, blockLabels, blockGiven};
+ghost use Rattle.hire.specs.Hire.{blocksIn, sizesFit, blockLength, byteAt, blockLabels, delayedIn, givenIn, blockGiven};
 use decode::fill;
 use decode::signed64;
 use decode::unsigned16;
 use decode::unsigned32;
 use fit::Tracked;
 use labels::Labels;
+use limits::blocks_fit;
 
 // The byte at an offset.
 fn byte(block: &[u8], at: usize) -> u8
@@ -39,44 +42,138 @@ pub fn labels(block: &[u8]) -> Labels
     }
 }
 
-// The one-second measurements.
-fn seconds(block: &[u8]) -> [i64; 780]
-    ensures { λ r. ⌜ r ≡ signedsAt (now (block .entry)) 58 8 780 ⌝ }
+// Whether the sizes are 15n and n, n from 4 to 52.
+pub fn sizes_fit(block: &[u8]) -> bool
+    ensures { λ r. ⌜ r ≡ sizesFit (now (block .entry)) ⌝ }
+{
+    let measurements = unsigned16(block, 0) as usize;
+    let blocks = unsigned16(block, 2) as usize;
+    blocks_fit(blocks) & (measurements == 15 * blocks)
+}
+
+// The length in bytes that the sizes make.
+pub fn length(block: &[u8]) -> usize
+    ensures { λ r. ⌜ r ≡ blockLength (blocksIn (now (block .entry))) ⌝ }
+{
+    58 + 160 * unsigned16(block, 2) as usize
+}
+
+// Fills the first places of out, as many as the count, with numbers from an offset on.
+fn fill_first(block: &[u8], at: usize, stride: usize, count: usize, out: &mut [i64])
+    requires { ⌜ count ≤ length (now out) ⌝ }
+    ensures { λ _. ⌜ take count (now (out .exit)) ≡ signedsAt (now (block .entry)) at stride count ⌝ }
+{
+    fill(block, at, stride, &mut out[..count]);
+}
+
+// The one-second measurements of n blocks, in the first places of 780.
+fn seconds(block: &[u8], n: usize) -> [i64; 780]
+    requires { ⌜ n ≤ 52 ⌝ }
+    ensures { λ r. ⌜ take (15 * n) r ≡ signedsAt (now (block .entry)) 58 8 (15 * n) ⌝ }
 {
     let mut values = [0i64; 780];
-    fill(block, 58, 8, &mut values);
+    fill_first(block, 58, 8, 15 * n, &mut values);
     values
 }
 
-// A column of the corrections, its first number at an offset.
-fn column(block: &[u8], at: usize) -> [i64; 52]
-    ensures { λ r. ⌜ r ≡ signedsAt (now (block .entry)) at 40 52 ⌝ }
+// A column of the corrections of n blocks, its first number at an offset, in the first places of 52.
+fn column(block: &[u8], at: usize, n: usize) -> [i64; 52]
+    requires { ⌜ n ≤ 52 ⌝ }
+    ensures { λ r. ⌜ take n r ≡ signedsAt (now (block .entry)) at 40 n ⌝ }
 {
     let mut values = [0i64; 52];
-    fill(block, at, 40, &mut values);
+    fill_first(block, at, 40, n, &mut values);
     values
 }
 
-pub fn track(block: &[u8]) -> Tracked
-    ensures answer { λ r. ⌜ r ≡ trackRule (blockGiven (now (block .entry))) ⌝ }
-    ensures accurate { λ r. ⌜ (r .refusal ≡ 0 → AccurateTrack 52 (blockGiven (now (block .entry))) (r .«record» .numbers)) ⌝ }
+// Track of these lists and of the delays in the block.
+fn with_delays(
+    block: &[u8],
+    measurements: &[i64],
+    geometry: &[i64],
+    relativity: &[i64],
+    ionosphere: &[i64],
+    troposphere: &[i64],
+    clock: &[i64],
+) -> Tracked
+    ensures answer { λ r. ⌜ r ≡ trackRule (delayedIn (now (block .entry)) (now (measurements .entry)) (now (geometry .entry))
+        (now (relativity .entry)) (now (ionosphere .entry)) (now (troposphere .entry)) (now (clock .entry))) ⌝ }
+    ensures accurate { λ r. ⌜ (r .refusal ≡ 0 → AccurateTrack (length (now (geometry .entry))) (delayedIn (now (block .entry))
+        (now (measurements .entry)) (now (geometry .entry)) (now (relativity .entry)) (now (ionosphere .entry)) (now (troposphere .entry))
+        (now (clock .entry))) (r .«record» .numbers)) ⌝ }
 {
-    let measurements = seconds(block);
-    let geometry = column(block, 6298);
-    let relativity = column(block, 6306);
-    let ionosphere = column(block, 6314);
-    let troposphere = column(block, 6322);
-    let clock = column(block, 6330);
     fit::track(
-        &measurements,
+        measurements,
         signed64(block, 26),
         signed64(block, 34),
         signed64(block, 42),
         signed64(block, 50),
+        geometry,
+        relativity,
+        ionosphere,
+        troposphere,
+        clock,
+    )
+}
+
+// Track of 52 blocks, whose lists have lengths and offsets that the compiler knows.
+fn full_track(block: &[u8]) -> Tracked
+    ensures answer { λ r. ⌜ r ≡ trackRule (givenIn 52 (now (block .entry))) ⌝ }
+    ensures accurate { λ r. ⌜ (r .refusal ≡ 0 → AccurateTrack 52 (givenIn 52 (now (block .entry))) (r .«record» .numbers)) ⌝ }
+{
+    let measurements = seconds(block, 52);
+    let geometry = column(block, 6298, 52);
+    let relativity = column(block, 6306, 52);
+    let ionosphere = column(block, 6314, 52);
+    let troposphere = column(block, 6322, 52);
+    let clock = column(block, 6330, 52);
+    with_delays(
+        block,
+        &measurements,
         &geometry,
         &relativity,
         &ionosphere,
         &troposphere,
         &clock,
     )
+}
+
+// Track of n blocks.
+fn short_track(block: &[u8], n: usize) -> Tracked
+    requires { ⌜ n ≤ 52 ⌝ }
+    ensures answer { λ r. ⌜ r ≡ trackRule (givenIn n (now (block .entry))) ⌝ }
+    ensures accurate { λ r. ⌜ (r .refusal ≡ 0 → AccurateTrack n (givenIn n (now (block .entry))) (r .«record» .numbers)) ⌝ }
+{
+    let from = 58 + 120 * n;
+    let measurements = seconds(block, n);
+    let geometry = column(block, from, n);
+    let relativity = column(block, from + 8, n);
+    let ionosphere = column(block, from + 16, n);
+    let troposphere = column(block, from + 24, n);
+    let clock = column(block, from + 32, n);
+    with_delays(
+        block,
+        &measurements[..15 * n],
+        &geometry[..n],
+        &relativity[..n],
+        &ionosphere[..n],
+        &troposphere[..n],
+        &clock[..n],
+    )
+}
+
+// Track of the block's numbers. Blocks that are too few or too many are given to it as none, which it refuses alike.
+pub fn track(block: &[u8]) -> Tracked
+    ensures answer { λ r. ⌜ r ≡ trackRule (blockGiven (now (block .entry))) ⌝ }
+    ensures accurate { λ r. ⌜ (r .refusal ≡ 0 → AccurateTrack (blocksIn (now (block .entry))) (blockGiven (now (block .entry)))
+        (r .«record» .numbers)) ⌝ }
+{
+    let n = unsigned16(block, 2) as usize;
+    if n == 52 {
+        return full_track(block);
+    }
+    if blocks_fit(n) {
+        return short_track(block, n);
+    }
+    short_track(block, 0)
 }

@@ -3,18 +3,17 @@
 -- Assumes nothing.
 use Prim.Native.Nat.{ℕ}
 use mathlib.Core.Bool.{not, _||_}
-use lib.IntN.{pos}
 use Rattle.limits.specs.declared.Numbers.{Numbers}
 use Rattle.limits.specs.Refusal.{_when_, _then_}
-use Rattle.limits.specs.Limits.{outside, limitsRule, dsgRule}
+use Rattle.limits.specs.Limits.{limitsRule, dsgRule}
 use Rattle.schedule.specs.Schedule.{startRule}
 use Rattle.labels.specs.declared.Labels.{Labels}
-use Rattle.labels.specs.Labels.{labelsFit, trackLength}
+use Rattle.labels.specs.Labels.{labelsFit, trackLengthFits}
 
 -- 7, 8, 3, 4, 5 and 6, in this order.
 unfoldable pub contentRule : Labels → Numbers → ℕ
 contentRule l n =
-    7 when (not (labelsFit l) || outside (pos trackLength) (pos trackLength) (n .trkl))
+    7 when (not (labelsFit l) || not (trackLengthFits (n .trkl)))
     then startRule (l .mjd) (l .start)
     then limitsRule n
     then dsgRule (n .dsg)

@@ -1,9 +1,11 @@
--- The labels' ranges and the track length (document 01, "The line's columns").
+-- The labels' ranges and the track length (document 01, "The line's columns"; document 02, Job 3).
 -- Assumes nothing.
-use Prim.Native.Nat.{ℕ}
+use Prim.Native.Nat.{ℕ, _/_, _%_}
 use Prim.Native.Char.{code}
-use mathlib.Core.Bool.{Bool, _&&_, _||_}
+use mathlib.Core.Bool.{Bool, false, _&&_, _||_}
 use lib.Dec.{leb, eqb}
+use lib.IntN.{ℤ, pos, negsuc}
+use Rattle.limits.specs.Blocks.{blocksFit}
 use Rattle.labels.specs.declared.Labels.{Labels}
 
 -- The constellation letters G, R, E, C and J, and each one's ranges of IOE and FR.
@@ -30,6 +32,7 @@ labelsFit l =
     && leb (l .elv) 900
     && leb (l .azth) 3599
 
--- The one track length there is, in seconds.
-abbrev pub trackLength : ℕ
-trackLength = 780
+-- A track length in seconds: 15 for each block of a track that there may be.
+unfoldable pub trackLengthFits : ℤ → Bool
+trackLengthFits (pos s) = eqb (s % 15) 0 && blocksFit (s / 15)
+trackLengthFits (negsuc s) = false

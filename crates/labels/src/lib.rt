@@ -1,9 +1,8 @@
-// The labels that a line is written for, and what they and the ten numbers are refused for. All that document 01 says of a line's
+// The labels that a line is written for, and what they and the ten numbers are refused for. All that documents 01 and 02 say of a line's
 // content, but not of its bytes, is here: the labels' ranges, the track length, the start test and the limits on the numbers.
 ghost use mathlib.Core.Path.{_≡_};
 ghost use Rattle.labels.specs.Content.{contentRule};
 pub use limits::Numbers;
-use limits::outside;
 use limits::then;
 use limits::when;
 
@@ -26,13 +25,11 @@ pub struct Labels {
     pub ioe: u16,
 }
 
-const TRACK_LENGTH: i64 = 780;
-
 // The first refusal of labels and numbers, or 0.
 pub fn refusal(labels: Labels, numbers: Numbers) -> u32
     ensures { λ r. ⌜ r ≡ contentRule labels numbers ⌝ }
 {
-    let label = !ranges::labels_fit(labels) | outside(TRACK_LENGTH, TRACK_LENGTH, numbers.trkl);
+    let label = !ranges::labels_fit(labels) | !ranges::track_length_fits(numbers.trkl);
     let start = schedule::start(labels.mjd, labels.start);
     let number = limits::limits(numbers);
     let scatter = limits::dsg(numbers.dsg);

@@ -1,7 +1,9 @@
-// The ranges of the labels.
+// The ranges of the labels and of the track length.
 ghost use mathlib.Core.Path.{_≡_};
-ghost use Rattle.labels.specs.Labels.{constellationFits, codeFits, labelsFit};
+ghost use Rattle.labels.specs.Labels.{constellationFits, codeFits, labelsFit, trackLengthFits};
 use crate::Labels;
+use limits::outside;
+use whole::magnitude;
 
 // Whether the letter is a constellation's, and IOE and FR are in its ranges.
 fn constellation_fits(letter: u8, ioe: u16, fr: u8) -> bool
@@ -32,4 +34,16 @@ pub fn labels_fit(labels: Labels) -> bool
         & (code_fits(labels.frc1) & code_fits(labels.frc2) & code_fits(labels.frc3))
         & (labels.elv <= 900)
         & (labels.azth <= 3599)
+}
+
+// The least and the greatest track length in seconds: 4 and 52 blocks.
+const SHORTEST: i64 = 60;
+
+const LONGEST: i64 = 780;
+
+// Whether the track length is 15 s for each block of a track that there may be.
+pub fn track_length_fits(trkl: i64) -> bool
+    ensures { λ r. ⌜ r ≡ trackLengthFits trkl ⌝ }
+{
+    (magnitude(trkl) % 15 == 0) & !outside(SHORTEST, LONGEST, trkl)
 }

@@ -2,19 +2,18 @@
 -- Assumes nothing.
 use mathlib.Core.Path.{_≡_, sym, ap, ap₂, _∙_}
 use mathlib.Core.List.{List, _++_}
-use mathlib.Core.Bool.{true, false, not, _||_}
+use mathlib.Core.Bool.{true, not}
 use Prim.Native.Nat.{ℕ, _≤_}
 use lib.ListN.{length, take, drop}
 use lib.Seq.{take-length}
-use lib.IntN.{pos}
 use borrow.Author.Tests.{ltb-false, not-false, eq-eqb, ne-eqb}
 use Rattle.limits.specs.Refusal.{_when_, _then_}
-use Rattle.limits.specs.Limits.{outside, limitsRule, dsgRule}
+use Rattle.limits.specs.Limits.{limitsRule, dsgRule}
 use Rattle.limits.proofs.Laws.{then-zero, when-zero, or-false}
 use Rattle.schedule.specs.Schedule.{startRule}
 use Rattle.labels.specs.declared.Labels.{Labels}
 use Rattle.limits.specs.declared.Numbers.{Numbers}
-use Rattle.labels.specs.Labels.{labelsFit, trackLength}
+use Rattle.labels.specs.Labels.{labelsFit, trackLengthFits}
 use Rattle.labels.specs.Content.{contentRule}
 use Rattle.line.specs.Line.{lineAnswer, lineAfter}
 use Rattle.columns.specs.Text.{lineLength, lineText}
@@ -22,7 +21,7 @@ use Rattle.columns.proofs.Widths.{line-width}
 
 pub record Accepted (l : Labels) (n : Numbers) (bytes : ℕ) : Type 0 where
   pub labels : labelsFit l ≡ true
-  pub trkl : outside (pos trackLength) (pos trackLength) (n .trkl) ≡ false
+  pub trkl : trackLengthFits (n .trkl) ≡ true
   pub start : startRule (l .mjd) (l .start) ≡ 0
   pub limits : limitsRule n ≡ 0
   pub dsg : dsgRule (n .dsg) ≡ 0
@@ -35,10 +34,10 @@ accepted l n bytes e =
     let label = then-zero _ _ (content .0) in
     let start = then-zero _ _ (label .1) in
     let limits = then-zero _ _ (start .1) in
-    let either = or-false (not (labelsFit l)) (outside (pos trackLength) (pos trackLength) (n .trkl)) (when-zero 6 _ (label .0)) in
+    let either = or-false (not (labelsFit l)) (not (trackLengthFits (n .trkl))) (when-zero 6 _ (label .0)) in
     record {
       labels = not-false (labelsFit l) (either .0);
-      trkl = either .1;
+      trkl = not-false (trackLengthFits (n .trkl)) (either .1);
       start = start .0;
       limits = limits .0;
       dsg = limits .1;

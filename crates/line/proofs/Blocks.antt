@@ -1,16 +1,13 @@
 -- Laws of Block (specs/Block.antt): which number comes first, and that the numbers in the columns of an accepted line are accurate.
 -- Assumes nothing.
 use mathlib.Core.Path.{_≡_, refl, sym, ap, _∙_, subst}
-use mathlib.Core.Bool.{Bool, true, false, not, _||_}
 use mathlib.Core.List.{List}
 use Prim.Native.Nat.{ℕ, zero, suc, _<_}
 use native.Mathlib.Omega.{arith}
 use lib.ListN.{length}
-use lib.Dec.{eqb}
-use borrow.Author.Tests.{eq-eqb, ne-eqb}
-use Rattle.limits.specs.Refusal.{_when_, _then_}
+use borrow.Author.Tests.{ne-eqb}
+use Rattle.limits.specs.Refusal.{_then_}
 use Rattle.limits.proofs.Laws.{then-refused, then-passed}
-use Rattle.decode.specs.Number.{unsignedAt}
 use Rattle.exact.specs.Corrected.{Given}
 use Rattle.exact.specs.Accurate.{AccurateTrack}
 use Rattle.fit.specs.declared.TrackRecord.{TrackRecord}
@@ -19,8 +16,8 @@ use Rattle.fit.specs.Track.{results, tracked, trackNumber, trackRule}
 use Rattle.limits.specs.declared.Numbers.{Numbers}
 use Rattle.columns.specs.Columns.{readNumbers}
 use Rattle.line.specs.Line.{lineAnswer, lineAfter}
-use Rattle.hire.specs.Hire.{blockLength, blockLabels, blockGiven}
-use Rattle.line.specs.Block.{blockNumbers, blockAnswer, blockAfter}
+use Rattle.hire.specs.Hire.{blocksIn, blockLabels, blockGiven}
+use Rattle.line.specs.Block.{blockNumbers, sizesNumber, blockAnswer, blockAfter}
 use Rattle.line.proofs.ReadBack.{numbers-read}
 
 -- ---- what Track's answer says
@@ -41,33 +38,23 @@ track-record g t e h =
 
 -- ---- the answer, test by test
 
--- the two sizes are wrong
-abbrev pub missized : List ℕ → Bool
-missized b = not (eqb (unsignedAt 2 b 0) 780) || not (eqb (unsignedAt 2 b 2) 52)
-
 module _ (b : List ℕ) (room : ℕ) where
-  pub wrong-length : (length b ≡ blockLength → ⊥) → 11 ≡ blockAnswer b room
-  unfolding blockAnswer _when_ _then_
-  wrong-length h = rw (ne-eqb (length b) blockLength h)
+  pub sizes-refuse : (n : ℕ) → n ≡ sizesNumber b → 0 < n → n ≡ blockAnswer b room
+  unfolding blockAnswer
+  sizes-refuse n e h = sym (then-refused n _ h) ∙ ap (λ (m : ℕ). m then trackNumber (blockGiven b) then lineAnswer (blockLabels b) (blockNumbers b) room) e
 
-  pub wrong-sizes : length b ≡ blockLength → missized b ≡ true → 1 ≡ blockAnswer b room
-  unfolding blockAnswer _when_ _then_
-  wrong-sizes h e = rw (eq-eqb (length b) blockLength h, e)
+  passed : sizesNumber b ≡ 0 → blockAnswer b room ≡ trackNumber (blockGiven b) then lineAnswer (blockLabels b) (blockNumbers b) room
+  unfolding blockAnswer
+  passed e = then-passed (sizesNumber b) _ e
 
-  passed : length b ≡ blockLength → missized b ≡ false
-      → blockAnswer b room ≡ trackNumber (blockGiven b) then lineAnswer (blockLabels b) (blockNumbers b) room
-  unfolding blockAnswer _when_
-  passed h e = rw (eq-eqb (length b) blockLength h, e) (then-passed 0 _ refl ∙ then-passed 0 _ refl)
-
-  pub track-refuses : length b ≡ blockLength → missized b ≡ false → (n : ℕ) → n ≡ trackNumber (blockGiven b) → 0 < n
-      → n ≡ blockAnswer b room
-  track-refuses h e n t k =
+  pub track-refuses : sizesNumber b ≡ 0 → (n : ℕ) → n ≡ trackNumber (blockGiven b) → 0 < n → n ≡ blockAnswer b room
+  track-refuses e n t k =
       let next = lineAnswer (blockLabels b) (blockNumbers b) room in
-      sym (then-refused n next k) ∙ ap (λ (m : ℕ). m then next) t ∙ sym (passed h e)
+      sym (then-refused n next k) ∙ ap (λ (m : ℕ). m then next) t ∙ sym (passed e)
 
-  pub line-answers : length b ≡ blockLength → missized b ≡ false → trackNumber (blockGiven b) ≡ 0
+  pub line-answers : sizesNumber b ≡ 0 → trackNumber (blockGiven b) ≡ 0
       → lineAnswer (blockLabels b) (blockNumbers b) room ≡ blockAnswer b room
-  line-answers h e t = sym (then-passed (trackNumber (blockGiven b)) _ t) ∙ sym (passed h e)
+  line-answers e t = sym (then-passed (trackNumber (blockGiven b)) _ t) ∙ sym (passed e)
 
 -- ---- the three clauses
 
@@ -75,7 +62,7 @@ module _ (b lent : List ℕ) where
   abbrev pub Promised : ℕ → List ℕ → Type 0
   Promised r after =
       (r ≡ blockAnswer b (length lent))
-      × ((after ≡ blockAfter b lent) × (r ≡ 0 → AccurateTrack 52 (blockGiven b) (readNumbers after)))
+      × ((after ≡ blockAfter b lent) × (r ≡ 0 → AccurateTrack (blocksIn b) (blockGiven b) (readNumbers after)))
 
   kept : (blockAnswer b (length lent) ≡ 0 → ⊥) → lent ≡ blockAfter b lent
   unfolding blockAfter
@@ -94,17 +81,17 @@ module _ (b lent : List ℕ) where
   unfolding lineAfter blockAfter
   same-after e = rw e
 
-  pub written : (t : Tracked) → length b ≡ blockLength → missized b ≡ false → t ≡ trackRule (blockGiven b)
-      → (t .refusal ≡ 0 → AccurateTrack 52 (blockGiven b) (t .«record» .numbers)) → t .refusal ≡ 0
+  pub written : (t : Tracked) → sizesNumber b ≡ 0 → t ≡ trackRule (blockGiven b)
+      → (t .refusal ≡ 0 → AccurateTrack (blocksIn b) (blockGiven b) (t .«record» .numbers)) → t .refusal ≡ 0
       → (r : ℕ) (after : List ℕ) → r ≡ lineAnswer (blockLabels b) (t .«record» .numbers) (length lent)
       → after ≡ lineAfter (blockLabels b) (t .«record» .numbers) lent → Promised r after
-  written t h s e accurate z r after answer line =
+  written t s e accurate z r after answer line =
       let g = blockGiven b in
       let is = ap (λ (x : TrackRecord). x .numbers) (track-record g t e z) in
-      let number = line-answers b (length lent) h s (sym (track-number g t e) ∙ z) in (
+      let number = line-answers b (length lent) s (sym (track-number g t e) ∙ z) in (
         answer ∙ ap (λ (n : Numbers). lineAnswer (blockLabels b) n (length lent)) is ∙ number,
         (
           line ∙ ap (λ (n : Numbers). lineAfter (blockLabels b) n lent) is ∙ same-after number,
-          λ k. subst (AccurateTrack 52 g) (sym (ap readNumbers line ∙ numbers-read (blockLabels b) (t .«record» .numbers) lent (sym answer ∙ k))) (accurate z),
+          λ k. subst (AccurateTrack (blocksIn b) g) (sym (ap readNumbers line ∙ numbers-read (blockLabels b) (t .«record» .numbers) lent (sym answer ∙ k))) (accurate z),
         ),
       )

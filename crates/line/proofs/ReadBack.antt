@@ -18,7 +18,8 @@ use Rattle.fields.specs.Read.{readDecimal, readSigned, readHexadecimal}
 use Rattle.fields.proofs.Laws.{read-decimal, read-signed, read-hexadecimal, length-decimal}
 use Rattle.labels.specs.declared.Labels.{Labels}
 use Rattle.limits.specs.declared.Numbers.{Numbers}
-use Rattle.labels.specs.Labels.{constellationFits, codeFits, labelsFit, trackLength}
+use Rattle.labels.specs.Labels.{constellationFits, codeFits, labelsFit}
+use Rattle.labels.proofs.Lengths.{length-within}
 use Rattle.line.specs.Line.{lineAnswer, lineAfter}
 use Rattle.columns.specs.Text.{lineLength, clock, trackColumns, clockColumns, delayColumns, columns, spaced, lineText}
 use Rattle.columns.specs.Columns.{byteIn, field, readNumbers, readLabels}
@@ -85,8 +86,8 @@ numbers-back l n bytes rest a =
     d : (pos (natAbs (n .dsg)) ≡ n .dsg) × (natAbs (n .dsg) ≤ 9999)
     d = limits.dsg-within (n .dsg) (a .dsg)
 
-    t : (pos (natAbs (n .trkl)) ≡ n .trkl) × (trackLength ≤ natAbs (n .trkl)) × (natAbs (n .trkl) ≤ trackLength)
-    t = limits.natural-within trackLength trackLength (n .trkl) (a .trkl)
+    t : (pos (natAbs (n .trkl)) ≡ n .trkl) × (60 ≤ natAbs (n .trkl)) × (natAbs (n .trkl) ≤ 780)
+    t = length-within (n .trkl) (a .trkl)
 
 -- ---- the labels
 

@@ -9,7 +9,8 @@ use Rattle.schedule.specs.Schedule.{broughtIn, startMinute, some, isStart, star
 use Rattle.fields.specs.Text.{bytesOf, decimal, sign, signed, hexDigit, hexadecimal, byteSum, checksum}
 use Rattle.labels.specs.declared.Labels.{Labels}
 use Rattle.limits.specs.declared.Numbers.{Numbers}
-use Rattle.labels.specs.Labels.{constellationFits, codeFits, labelsFit}
+use Rattle.limits.specs.Blocks.{blocksFit}
+use Rattle.labels.specs.Labels.{constellationFits, codeFits, labelsFit, trackLengthFits}
 use Rattle.labels.specs.Content.{contentRule}
 use Rattle.line.specs.Line.{lineAnswer}
 use Rattle.columns.specs.Text.{clock, trackColumns, clockColumns, delayColumns, columns, spaced, lineText}
@@ -52,5 +53,5 @@ unfolding bytesOf lineText columns trackColumns clockColumns delayColumns spaced
 sample = refl
 
 pub sample-accepted : lineAnswer labels numbers 113 ≡ 0
-unfolding lineAnswer contentRule _when_ _then_ labelsFit constellationFits codeFits startRule isStart some startMinute broughtIn limitsRule dsgRule outside
+unfolding lineAnswer contentRule _when_ _then_ labelsFit constellationFits codeFits startRule isStart some startMinute broughtIn limitsRule dsgRule outside trackLengthFits blocksFit
 sample-accepted = refl

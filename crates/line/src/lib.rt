@@ -1,15 +1,14 @@
 // Line and Block: labels and the ten numbers of a track, or a hire block, become one data line of 113 columns in a lent line.
 // They refuse labels, starts and numbers that the columns cannot hold, a lent line that is too short, and, in a block, what Track
-// refuses, by the numbers and in the order of document 01. Nothing is written before everything is accepted, and nothing behind the
+// refuses, by the numbers and in the order of documents 01 and 02. Nothing is written before everything is accepted, and nothing behind the
 // 113 columns.
 ghost use mathlib.Core.Path.{_≡_};
 ghost use lib.ListN.{length};
 ghost use Rattle.exact.specs.Accurate.{AccurateTrack};
 ghost use Rattle.columns.specs.Columns.{readNumbers};
 ghost use Rattle.line.specs.Line.{lineAnswer, lineAfter};
-ghost use Rattle.hire.specs.Hire.{blockGiven};
-ghost use Rattle.line.specs.Block.{blockAnswer, blockAfter};
-use decode::unsigned16;
+ghost use Rattle.hire.specs.Hire.{blocksIn, blockGiven};
+ghost use Rattle.line.specs.Block.{sizesNumber, blockAnswer, blockAfter};
 pub use labels::Labels;
 pub use labels::Numbers;
 use limits::then;
@@ -32,17 +31,26 @@ pub fn line(labels: Labels, numbers: Numbers, lent: &mut [u8]) -> u32
     0
 }
 
+// What a block is refused for by its sizes and its length.
+fn sizes_refusal(block: &[u8]) -> u32
+    ensures { λ r. ⌜ r ≡ sizesNumber (now (block .entry)) ⌝ }
+{
+    let short = when(11, block.len() < 4);
+    let sizes = when(1, !hire::sizes_fit(block));
+    let length = when(11, block.len() != hire::length(block));
+    then(short, then(sizes, length))
+}
+
 // The line of a hire block: what it is refused for, else its line in the lent one.
 pub fn block(block: &[u8], lent: &mut [u8]) -> u32
     ensures answer { λ r. ⌜ r ≡ blockAnswer (now (block .entry)) (length (now (lent .entry))) ⌝ }
     ensures written { λ _. ⌜ now (lent .exit) ≡ blockAfter (now (block .entry)) (now (lent .entry)) ⌝ }
-    ensures accurate { λ r. ⌜ (r ≡ 0 → AccurateTrack 52 (blockGiven (now (block .entry))) (readNumbers (now (lent .exit)))) ⌝ }
+    ensures accurate { λ r. ⌜ (r ≡ 0 → AccurateTrack (blocksIn (now (block .entry))) (blockGiven (now (block .entry)))
+        (readNumbers (now (lent .exit)))) ⌝ }
 {
-    if block.len() != 8378 {
-        return 11;
-    }
-    if (unsigned16(block, 0) != 780) | (unsigned16(block, 2) != 52) {
-        return 1;
+    let sizes = sizes_refusal(block);
+    if sizes != 0 {
+        return sizes;
     }
     let tracked = hire::track(block);
     let refusal = tracked.refusal;

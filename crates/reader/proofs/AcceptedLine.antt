@@ -149,7 +149,7 @@ module _ (line : List ℕ) (s : Spelled line) (v : Valued line) where
 
   content-zero : contentRule (readLabels line) (readNumbers line) ≡ 0
   unfolding _when_ _then_
-  content-zero = content-is line (s .columns) (v .trkl) ∙ simp (v .labels, v .start)
+  content-zero = content-is line (s .columns) ∙ simp (v .labels, v .trkl, v .start)
 
 -- Line answers 0 to content that is not refused, where there is room
 pub answer-zero : (l : Labels) (n : Numbers) (room : ℕ) → contentRule l n ≡ 0 → lineLength ≤ room → lineAnswer l n room ≡ 0

@@ -1,14 +1,14 @@
 -- The rows of refusals (specs/Read.antt): what it takes for a row to be 0, and that the row of the values is that of Line's content.
 -- Assumes nothing.
 use mathlib.Core.Path.{_≡_, refl, sym, ap, ap₂, _∙_, subst}
-use mathlib.Core.Bool.{Bool, true, false, not, _||_, or-false as or-none}
+use mathlib.Core.Bool.{Bool, true, false, not, _||_}
 use mathlib.Core.List.{List}
 use Prim.Native.Nat.{ℕ, zero, suc, _^_, _≤_, _<_}
 use native.Mathlib.Omega.{arith}
 use lib.Dec.{ltb, eqb·suc-zero}
 use lib.IntN.{pos, natAbs}
 use lib.ListN.{length, drop}
-use borrow.Author.Tests.{ltb-false, le-ltb, eqb-true, eq-eqb, ne-eqb, not-false}
+use borrow.Author.Tests.{ltb-false, le-ltb, eq-eqb, ne-eqb, not-false}
 use Rattle.limits.specs.Refusal.{_when_, _then_}
 use Rattle.limits.specs.Limits.{outside, beyond, limitsRule, dsgRule}
 use Rattle.limits.proofs.Laws.{then-zero, then-refused, then-passed, then-assoc, when-zero, or-false, within-magnitude}
@@ -18,12 +18,12 @@ use Rattle.schedule.specs.Schedule.{startRule}
 use Rattle.fields.specs.Read.{readDecimal, readSigned}
 use Rattle.labels.specs.declared.Labels.{Labels}
 use Rattle.limits.specs.declared.Numbers.{Numbers}
-use Rattle.labels.specs.Labels.{labelsFit, trackLength}
+use Rattle.labels.specs.Labels.{labelsFit, trackLengthFits}
 use Rattle.labels.specs.Content.{contentRule}
 use Rattle.columns.specs.Text.{lineLength}
 use Rattle.columns.specs.Columns.{field, readLabels, readNumbers}
 use Rattle.reader.specs.Kinds.{kinds, allowed, printable, checked}
-use Rattle.reader.specs.Read.{signedFields, minusZero, trackLengthDiffers, clockBeyond, charactersNumber, valuesNumber, readNumber, noLabels, noNumbers, readRule, commentOffset}
+use Rattle.reader.specs.Read.{signedFields, minusZero, clockBeyond, charactersNumber, valuesNumber, readNumber, noLabels, noNumbers, readRule, commentOffset}
 use Rattle.reader.specs.declared.Reading.{Reading}
 use Rattle.reader.specs.Answers.{readReply, readNumbered}
 use Rattle.reader.specs.Fields.{Digits, Signed}
@@ -61,8 +61,8 @@ spelled-zero line s =
 
 pub record Valued (line : List ℕ) : Type 0 where
   pub minus : minusZero signedFields line ≡ false
-  pub trkl : trackLengthDiffers line ≡ false
   pub labels : labelsFit (readLabels line) ≡ true
+  pub trkl : trackLengthFits (readNumbers line .trkl) ≡ true
   pub start : startRule (readLabels line .mjd) (readLabels line .start) ≡ 0
   pub clock : clockBeyond line ≡ false
 
@@ -70,20 +70,20 @@ pub valued : (line : List ℕ) → valuesNumber line ≡ 0 → Valued line
 unfolding valuesNumber
 valued line e =
     let minus = then-zero _ _ e in
-    let trkl = then-zero _ _ (minus .1) in
-    let seven = then-zero _ _ (trkl .1) in
-    let eight = then-zero _ _ (seven .1) in
+    let seven = then-zero _ _ (minus .1) in
+    let trkl = then-zero _ _ (seven .1) in
+    let eight = then-zero _ _ (trkl .1) in
     record {
       minus = when-zero 12 _ (minus .0);
-      trkl = when-zero 12 _ (trkl .0);
-      labels = not-false _ (when-zero 6 _ (seven .0));
+      labels = not-false _ (when-zero _ _ (seven .0));
+      trkl = not-false _ (when-zero _ _ (trkl .0));
       start = eight .0;
       clock = when-zero 7 _ (eight .1);
     }
 
 pub valued-zero : (line : List ℕ) → Valued line → valuesNumber line ≡ 0
 unfolding valuesNumber _when_ _then_
-valued-zero line v = simp (v .minus, v .trkl, v .labels, v .start, v .clock)
+valued-zero line v = simp (v .minus, v .labels, v .trkl, v .start, v .clock)
 
 pub accepted : (line : List ℕ) → readNumber line ≡ 0 → Spelled line × Valued line
 unfolding readNumber
@@ -97,6 +97,14 @@ then-none : (number : ℕ) → number then 0 ≡ number
 unfolding _then_
 then-none zero = refl
 then-none (suc n) = rw (eqb·suc-zero n)
+
+-- one test on two conditions is two tests
+when-either : (number : ℕ) (a b : Bool) → number when (a || b) ≡ number when a then number when b
+unfolding _when_ _then_
+when-either zero true true = refl
+when-either zero true false = refl
+when-either (suc n) true b = rw (eqb·suc-zero n)
+when-either number false b = refl
 
 -- ---- the numbers of a line are within their limits
 
@@ -143,45 +151,18 @@ module _ (line : List ℕ) (e : allowed kinds line ≡ true) where
 
   -- ---- what is left of Line's refusals of the content
 
-  length-inside : trackLengthDiffers line ≡ false → outside (pos trackLength) (pos trackLength) (readNumbers line .trkl) ≡ false
-  unfolding trackLengthDiffers readNumbers
-  length-inside d =
-      let k = eqb-true (readDecimal (field 21 24 line)) 780 (not-false _ d) in
-      natural-inside 780 780 (readDecimal (field 21 24 line)) (omega arith) (omega arith)
-
-  pub content-is : trackLengthDiffers line ≡ false
-      → contentRule (readLabels line) (readNumbers line) ≡ 7 when not (labelsFit (readLabels line)) then startRule (readLabels line .mjd) (readLabels line .start)
-  unfolding contentRule
-  content-is d = simp (length-inside d, limits-zero, dsg-zero, or-none, then-none)
-
-  -- the row that the code goes by, whatever the test on the track length gives
-  abbrev Row : Bool → Type 0
-  Row t =
-      13 when minusZero signedFields line
-      then 13 when t
-      then contentRule (readLabels line) (readNumbers line)
-      then 8 when clockBeyond line
-      ≡ 13 when minusZero signedFields line
-      then 13 when t
-      then 7 when not (labelsFit (readLabels line))
+  pub content-is : contentRule (readLabels line) (readNumbers line)
+      ≡ 7 when not (labelsFit (readLabels line))
+      then 7 when not (trackLengthFits (readNumbers line .trkl))
       then startRule (readLabels line .mjd) (readLabels line .start)
-      then 8 when clockBeyond line
+  unfolding contentRule
+  content-is = simp (limits-zero, dsg-zero, then-none, when-either, then-assoc)
 
-  differs : Row true
-  unfolding _when_ _then_
-  differs = refl
-
-  pub values-row : 13 when minusZero signedFields line
-      then 13 when trackLengthDiffers line
-      then contentRule (readLabels line) (readNumbers line)
-      then 8 when clockBeyond line
+  -- the row that the code goes by
+  pub values-row : 13 when minusZero signedFields line then contentRule (readLabels line) (readNumbers line) then 8 when clockBeyond line
       ≡ valuesNumber line
   unfolding valuesNumber
-  values-row = elim (trackLengthDiffers line) as (λ t. trackLengthDiffers line ≡ t → Row t) [
-    | true ↦ λ d. differs
-    | false ↦ λ d. ap (λ (n : ℕ). 13 when minusZero signedFields line then 13 when false then n then 8 when clockBeyond line) (content-is d)
-        ∙ ap (λ (n : ℕ). 13 when minusZero signedFields line then 13 when false then n) (then-assoc _ _ _)
-  ] refl
+  values-row = simp (content-is, then-assoc)
 
 -- ---- the reply
 

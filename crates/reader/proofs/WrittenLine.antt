@@ -1,13 +1,13 @@
 -- What Line wrote is read back whole (document 02, Job 1), whatever comment may stand behind it.
 -- Assumes nothing.
 use mathlib.Core.Path.{_≡_, refl, sym, ap, ap₂, _∙_}
-use mathlib.Core.Bool.{true, false, not, _&&_}
+use mathlib.Core.Bool.{true, false, _&&_}
 use mathlib.Core.List.{List, [], _++_, append-assoc, append-nil}
 use Prim.Native.Nat.{ℕ, suc, _+_, _-_, _/_, _%_, _≤_, _<_}
 use native.Mathlib.Nat.{add-zero, le-refl}
 use native.Mathlib.Omega.{arith}
 use lib.Dec.{eqb·suc-zero, lit<, lit≤}
-use lib.IntN.{ℤ, pos, negsuc, natAbs}
+use lib.IntN.{ℤ, pos, negsuc}
 use lib.ListN.{length, take, drop, getD, length-append, length-drop}
 use lib.Seq.{take-at, drop-at, getD-drop, getD-take}
 use borrow.Author.Tests.{le-ltb, eq-eqb}
@@ -21,7 +21,7 @@ use Rattle.fields.specs.Read.{readDecimal, readSigned}
 use Rattle.fields.proofs.Laws.{length-decimal, read-decimal}
 use Rattle.labels.specs.declared.Labels.{Labels}
 use Rattle.limits.specs.declared.Numbers.{Numbers}
-use Rattle.labels.specs.Labels.{labelsFit, trackLength}
+use Rattle.labels.specs.Labels.{labelsFit, trackLengthFits}
 use Rattle.labels.specs.Content.{contentRule}
 use Rattle.columns.specs.Text.{lineLength, clock, trackColumns, clockColumns, delayColumns, columns, spaced, lineText}
 use Rattle.columns.specs.Columns.{byteIn, field, readLabels, readNumbers}
@@ -31,7 +31,7 @@ use Rattle.line.proofs.Accepted.{Accepted, accepted, after-is}
 use Rattle.line.proofs.Sample as sample
 use Rattle.line.proofs.ReadBack.{numbers-back, labels-back}
 use Rattle.reader.specs.Kinds.{printable, checked}
-use Rattle.reader.specs.Read.{signedFields, isMinusZero, minusZero, trackLengthDiffers, clockBeyond, readNumber, noLabels, noNumbers, readRule, commentOffset}
+use Rattle.reader.specs.Read.{signedFields, isMinusZero, minusZero, clockBeyond, readNumber, noLabels, noNumbers, readRule, commentOffset}
 use Rattle.reader.proofs.Columns.{columns-of, field-length}
 use Rattle.reader.proofs.Refusals.{Spelled, Valued, accepted-zero, reply-line, offset-accepted}
 use Rattle.reader.proofs.AcceptedLine.{time-joined, answer-zero}
@@ -131,13 +131,6 @@ module _ (l : Labels) (n : Numbers) (comment : List ℕ) (a : Accepted l n lineL
         sign-fits-in 97 3 (n .smdi) (column-at (columns-sized l n) 16 (lit< tt) behind) (ap (λ (m : Numbers). m .smdi) numbers-are),
       )
 
-  length-fits : trackLengthDiffers line ≡ false
-  unfolding trackLengthDiffers readNumbers
-  length-fits =
-      let t = limits.natural-within trackLength trackLength (n .trkl) (a .trkl) in
-      let r = ap (λ (m : Numbers). natAbs (m .trkl)) numbers-are in
-      ap not (eq-eqb (readDecimal (field 21 24 line)) 780 (omega (arith, t, r)))
-
   -- the parts of the time
   time : (field 14 15 line ≡ decimal 2 (l .start / 3600))
       × (field 16 17 line ≡ decimal 2 (l .start / 60 % 60))
@@ -163,8 +156,8 @@ module _ (l : Labels) (n : Numbers) (comment : List ℕ) (a : Accepted l n lineL
   valued =
       record {
         minus = no-minus;
-        trkl = length-fits;
         labels = ap labelsFit labels-are ∙ a .labels;
+        trkl = ap (λ (m : Numbers). trackLengthFits (m .trkl)) numbers-are ∙ a .trkl;
         start = ap (λ (m : Labels). startRule (m .mjd) (m .start)) labels-are ∙ a .start;
         clock = time-fits;
       }

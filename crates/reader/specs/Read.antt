@@ -1,4 +1,4 @@
--- Reading a line back (document 02, Job 1): what a line is refused for, in the order of the refusals, and what stands in it.
+-- Reading a line back (document 02, Jobs 1 and 3): what a line is refused for, in the order of the refusals, and what stands in it.
 -- Assumes nothing.
 use Prim.Native.Nat.{ℕ, _+_}
 use Prim.Native.Char.{code}
@@ -14,7 +14,7 @@ use Rattle.schedule.specs.Schedule.{startRule}
 use Rattle.labels.specs.declared.Labels.{Labels}
 use Rattle.limits.specs.declared.Numbers.{Numbers}
 use Rattle.labels.specs.Given.{labelsOf, numbersOf}
-use Rattle.labels.specs.Labels.{labelsFit, trackLength}
+use Rattle.labels.specs.Labels.{labelsFit, trackLengthFits}
 use Rattle.columns.specs.Text.{lineLength}
 use Rattle.columns.specs.Columns.{byteIn, field, readLabels, readNumbers}
 use Rattle.reader.specs.Kinds.{kinds, allowed, printable, checked}
@@ -32,10 +32,6 @@ minusZero [] line = false
 minusZero ((first, last) ∷ fields) line =
     isMinusZero (byteIn first line) (readSigned (field first last line)) || minusZero fields line
 
--- The track length is not 0780.
-unfoldable pub trackLengthDiffers : List ℕ → Bool
-trackLengthDiffers line = not (eqb (readDecimal (field 21 24 line)) trackLength)
-
 -- An hour above 23, or a minute or a second above 59.
 unfoldable pub clockBeyond : List ℕ → Bool
 clockBeyond line =
@@ -50,13 +46,13 @@ charactersNumber columns longest kinds line =
     then 13 when not (allowed kinds line)
     then 13 when not (printable (drop (columns + 2) line))
 
--- What the values are refused for. 13: a minus before a zero, or the track length. 7: a label or the date is out of range. 8: no start of that
+-- What the values are refused for. 13: a minus before a zero. 7: a label, the track length or the date is out of range. 8: no start of that
 -- day, or no time of a day.
 unfoldable pub valuesNumber : List ℕ → ℕ
 valuesNumber line =
     13 when minusZero signedFields line
-    then 13 when trackLengthDiffers line
     then 7 when not (labelsFit (readLabels line))
+    then 7 when not (trackLengthFits (readNumbers line .trkl))
     then startRule (readLabels line .mjd) (readLabels line .start)
     then 8 when clockBeyond line
 

@@ -1,6 +1,6 @@
 // The reader: what stands in a data line. It takes any bytes and answers the labels and the ten numbers of the line, or the number of its
 // first refusal, in the order of document 02, Job 1: 12 for the length, 14 for CK, 13 for a character that is not allowed in its column,
-// 7 for labels and 8 for starts that Line would refuse. A second function gives the comment behind the columns.
+// 7 for labels and track lengths and 8 for starts that Line would refuse. A second function gives the comment behind the columns.
 ghost use mathlib.Core.Bool.{true};
 ghost use mathlib.Core.Path.{_≡_};
 ghost use Rattle.columns.specs.Columns.{readLabels, readNumbers};
@@ -12,7 +12,6 @@ use labels::Labels;
 use labels::Numbers;
 use limits::then;
 use limits::when;
-use whole::magnitude;
 
 mod characters;
 mod values;
@@ -25,8 +24,6 @@ pub enum Reading {
 
 const LINE_LENGTH: usize = 113;
 
-const TRACK_LENGTH: u64 = 780;
-
 // What a line is refused for once its characters are those of its columns.
 fn values_refusal(line: &[u8], labels: Labels, numbers: Numbers) -> u32
     requires { ⌜ allowed kinds (now line) ≡ true ⌝ }
@@ -35,10 +32,9 @@ fn values_refusal(line: &[u8], labels: Labels, numbers: Numbers) -> u32
     ensures { λ r. ⌜ r ≡ valuesNumber (now (line .entry)) ⌝ }
 {
     let minus = when(13, values::minus_zero(line, numbers));
-    let length = when(13, magnitude(numbers.trkl) != TRACK_LENGTH);
     let label = labels::refusal(labels, numbers);
     let clock = when(8, values::clock_beyond(line));
-    then(minus, then(length, then(label, clock)))
+    then(minus, then(label, clock))
 }
 
 // The labels and the numbers in the columns of a line.

@@ -1,14 +1,18 @@
--- Laws of the sums of a fit (specs/Fit.antt): how large they can be, and the numbers that document 01 has for 52 values.
+-- Laws of the sums of a fit (specs/Fit.antt): how large they can be, the numbers that document 01 has for 52 values, and that a fit reads no value
+-- past its n.
 -- Assumes nothing.
-use mathlib.Core.Path.{_≡_, refl}
+use mathlib.Core.Path.{_≡_, refl, sym, ap, ap₂, _∙_, subst}
 use mathlib.Core.Bool.{false}
 use mathlib.Core.List.{List, [], _∷_}
 use Prim.Native.Nat.{ℕ, _+_, _*_, _-_, _^_, _≤_, _<_}
-use native.Mathlib.Nat.{le-trans, le-of-eq, le-refl, mul-le-mul}
+use native.Mathlib.Nat.{le-trans, le-of-eq, le-refl, mul-le-mul, mul-le-mul-left, mul-le-mul-right, one-le-mul, one-mul}
 use native.Mathlib.Omega.{arith}
 use lib.Dec.{lit<}
 use lib.IntN.{ℤ, pos, natAbs, _-ℤ_, _*ℤ_}
-use lib.ListN.{length}
+use lib.ListN.{length, take}
+use lib.Seq.{length-take-le, getD-take}
+use Rattle.whole.specs.Sum.{sum}
+use Rattle.whole.specs.Sums.{sum-cong}
 use Rattle.whole.specs.Nearest.{nearest}
 use Rattle.whole.specs.Identity.{quote}
 use Rattle.whole.specs.Linear.{le-by}
@@ -19,8 +23,10 @@ use Rattle.whole.specs.Words.{Word, Within, told, partial}
 use Rattle.exact.specs.Corrected.{at}
 use Rattle.exact.specs.Weights.{place}
 use Rattle.limits.specs.Lists.{anyBeyond}
-use Rattle.series.specs.Fit.{total, moment, midpoint, slope, fitRule}
-use Rattle.limits.proofs.Lists.{within-limit, list-passes}
+use Rattle.series.specs.Fit.{total, moment, midpoint, slope, valuesRule, fitRule}
+use Rattle.limits.specs.Reply.{Reply}
+use Rattle.limits.proofs.Blocks.{blocks-within, within-blocks}
+use Rattle.limits.proofs.Lists.{within-limit, list-accepted, list-passes, any-take}
 use Rattle.limits.proofs.Replies.{reply-accepted}
 
 -- two numbers that differ by at most m
@@ -34,18 +40,48 @@ pub place-bound : (n j : ℕ) → j < n → natAbs (place n j) ≤ n
 unfolding place
 place-bound n j h = apart (2 * j) (n - 1) n (omega arith) (omega arith)
 
-module _ (limit : ℕ) (l : List ℤ) (e : anyBeyond limit l ≡ false) where
-  pub product-bound : (n j : ℕ) → j < n → natAbs (place n j *ℤ at l j) ≤ n * limit
-  product-bound n j h =
-      le-trans (le-of-eq (natAbs-mul (place n j) (at l j))) (mul-le-mul (place-bound n j h) (within-limit limit l e j))
+-- sums over the first k of n values that are inside Fit's limit, n being at most 52
+module _ (l : List ℤ) (e : anyBeyond (2 * 10 ^ 12) l ≡ false) (n : ℕ) (h : n ≤ 52) where
+  product-bound : (j : ℕ) → j < n → natAbs (place n j *ℤ at l j) ≤ n * (2 * 10 ^ 12)
+  product-bound j k =
+      le-trans (le-of-eq (natAbs-mul (place n j) (at l j))) (mul-le-mul (place-bound n j k) (within-limit (2 * 10 ^ 12) l e j))
 
-  pub total-bound : (n : ℕ) → natAbs (total n (at l)) ≤ n * limit
+  pub total-part : (k : ℕ) → k ≤ n → natAbs (sum k (at l)) ≤ 104 * 10 ^ 12
+  total-part k m =
+      le-trans (partial n k (at l) (2 * 10 ^ 12) m (λ j i. within-limit (2 * 10 ^ 12) l e j)) (mul-le-mul-right (2 * 10 ^ 12) h)
+
+  pub moment-part : (k : ℕ) → k ≤ n → natAbs (sum k (λ j. place n j *ℤ at l j)) ≤ 5408 * 10 ^ 12
+  moment-part k m =
+      le-trans (partial n k (λ j. place n j *ℤ at l j) (n * (2 * 10 ^ 12)) m product-bound)
+      (mul-le-mul h (mul-le-mul-right (2 * 10 ^ 12) h))
+
+  pub total-bound : natAbs (total n (at l)) ≤ 104 * 10 ^ 12
   unfolding total
-  total-bound n = partial n n (at l) limit (le-refl n) (λ j h. within-limit limit l e j)
+  total-bound = total-part n (le-refl n)
 
-  pub moment-bound : (n : ℕ) → natAbs (moment n (at l)) ≤ n * (n * limit)
+  pub moment-bound : natAbs (moment n (at l)) ≤ 5408 * 10 ^ 12
   unfolding moment
-  moment-bound n = partial n n (λ j. place n j *ℤ at l j) (n * limit) (le-refl n) (product-bound n)
+  moment-bound = moment-part n (le-refl n)
+
+-- a list that Fit and Scatter do not refuse has from 4 to 52 values, inside their limit
+pub values-inside : (l : List ℤ) → valuesRule l ≡ 0 → (4 ≤ length l) × (length l ≤ 52) × (anyBeyond (2 * 10 ^ 12) l ≡ false)
+values-inside l e =
+    let a = list-accepted _ _ _ l e in
+    let b = blocks-within (length l) (a .0) in
+    (b .0, b .1, a .1)
+
+-- n² - 1 and n (n² - 1), for n from 2 to 52
+pub square-bound : (n : ℕ) → n ≤ 52 → n * n - 1 ≤ 2703
+square-bound n h = omega (arith, mul-le-mul h h)
+
+pub span-bound : (n : ℕ) → n ≤ 52 → n * (n * n - 1) ≤ 140556
+span-bound n h = mul-le-mul h (square-bound n h)
+
+pub span-some : (n : ℕ) → 2 ≤ n → 0 < n * (n * n - 1)
+span-some n h = one-le-mul one (omega (arith, mul-le-mul-left n h))
+  where
+    one : 1 ≤ n
+    one = omega arith
 
 -- two numbers that are said to be the two sums S and T, and to be within b and c, as words
 module _ {s t S T : ℤ} {b c : ℕ} (h : ((s ≡ S) × (t ≡ T)) × (Within b s × Within c t)) where
@@ -54,6 +90,11 @@ module _ {s t S T : ℤ} {b c : ℕ} (h : ((s ≡ S) × (t ≡ T)) × (Within b 
 
   abbrev pub moment-word : Word t
   moment-word = told (h .0 .1) (h .1 .1)
+
+-- the slope's divisor at one step a picosecond
+pub slope-span : (n : ℕ) (v : ℕ → ℤ) → slope 1 n v ≡ nearest (pos 4 *ℤ moment n v) (n * (n * n - 1))
+unfolding slope
+slope-span n v = ap (nearest (pos 4 *ℤ moment n v)) (one-mul (n * (n * n - 1)))
 
 -- document 01's numbers
 pub midpoint-52 : (v : ℕ → ℤ) → midpoint 1 52 v ≡ nearest (total 52 v) 5200
@@ -64,8 +105,47 @@ pub slope-52 : (v : ℕ → ℤ) → slope 1 52 v ≡ nearest (moment 52 v) 3513
 unfolding slope
 slope-52 v = nearest-scale (moment 52 v) 35139 4 (lit< tt) (lit< tt)
 
+-- ---- no value past the n values is read
+
+module _ (n : ℕ) {u v : ℕ → ℤ} (same : (j : ℕ) → j < n → u j ≡ v j) where
+  pub total-cong : total n u ≡ total n v
+  unfolding total
+  total-cong = sum-cong n same
+
+  pub moment-cong : moment n u ≡ moment n v
+  unfolding moment
+  moment-cong = sum-cong n (λ j h. ap (λ (z : ℤ). place n j *ℤ z) (same j h))
+
+  midpoint-cong : midpoint 1 n u ≡ midpoint 1 n v
+  unfolding midpoint
+  midpoint-cong = ap (λ (z : ℤ). nearest z (100 * 1 * n)) total-cong
+
+  slope-cong : slope 1 n u ≡ slope 1 n v
+  unfolding slope
+  slope-cong = ap (λ (z : ℤ). nearest (pos 4 *ℤ z) (1 * (n * (n * n - 1)))) moment-cong
+
 -- Fit's reply to values that are not refused
-pub fit-accepted : (l : List ℤ) → length l ≡ 52 → anyBeyond (2 * 10 ^ 12) l ≡ false
-    → fitRule l ≡ record { number = 0; values = (midpoint 1 52 (at l), slope 1 52 (at l)) }
+fit-accepted : (l : List ℤ) → 4 ≤ length l → length l ≤ 52 → anyBeyond (2 * 10 ^ 12) l ≡ false
+    → fitRule l ≡ record { number = 0; values = (midpoint 1 (length l) (at l), slope 1 (length l) (at l)) }
 unfolding fitRule
-fit-accepted l e h = reply-accepted _ _ (list-passes 52 _ _ l e h)
+fit-accepted l h k e = reply-accepted _ _ (list-passes _ _ _ l (within-blocks (length l) h k) e)
+
+-- to the first n values of a list
+pub fit-part : (n : ℕ) (l : List ℤ) → 4 ≤ n → n ≤ 52 → n ≤ length l → anyBeyond (2 * 10 ^ 12) l ≡ false
+    → fitRule (take n l) ≡ record { number = 0; values = (midpoint 1 n (at l), slope 1 n (at l)) }
+fit-part n l h k m e =
+    fit-accepted (take n l) (subst (λ (i : ℕ). 4 ≤ i) (sym count) h) (subst (λ (i : ℕ). i ≤ 52) (sym count) k) (any-take _ _ n l e)
+    ∙ ap (λ (i : ℕ). line i (at (take n l))) count
+    ∙ ap₂ (λ (x y : ℤ). answer x y) (midpoint-cong n same) (slope-cong n same)
+  where
+    count : length (take n l) ≡ n
+    count = length-take-le n l m
+
+    same : (j : ℕ) → j < n → at (take n l) j ≡ at l j
+    same j i = getD-take n l j (pos 0) i
+
+    answer : ℤ → ℤ → Reply (ℤ × ℤ)
+    answer x y = record { number = 0; values = (x, y) }
+
+    line : ℕ → (ℕ → ℤ) → Reply (ℤ × ℤ)
+    line i v = answer (midpoint 1 i v) (slope 1 i v)

@@ -3,7 +3,7 @@
 use mathlib.Core.Path.{_≡_, sym, ap, ap₂, _∙_, subst, subst₂}
 use mathlib.Core.List.{[], _∷_}
 use mathlib.Core.Logic.{⊎-elim}
-use Prim.Native.Nat.{ℕ, zero, suc, _+_, _*_, _≤_, _<_}
+use Prim.Native.Nat.{ℕ, zero, suc, _+_, _*_, _-_, _≤_, _<_}
 use native.Mathlib.Nat.{eq-or-lt-of-le, le-of-suc-le-suc, not-suc-le-zero}
 use native.Mathlib.Numerals.{add-one}
 use lib.Dec.{lit<}
@@ -14,11 +14,12 @@ use Rattle.whole.specs.Nearest.{nearest}
 use Rattle.whole.specs.Identity.{identity, quote}
 use Rattle.whole.specs.Order.{_⩽_, le-refl, add-le, square-nonneg, as-pos, pos-le-is}
 use Rattle.whole.specs.Magnitude.{square-magnitude}
-use Rattle.whole.specs.Sums.{sum-suc, sum-squares-nonneg}
+use Rattle.whole.specs.Sums.{sum-cong, sum-suc, sum-squares-nonneg}
 use Rattle.whole.specs.Rounding.{nearest-scale}
 use Rattle.exact.specs.Weights.{place}
 use Rattle.series.specs.Fit.{total, moment}
 use Rattle.series.specs.Scatter.{residual, squares}
+use Rattle.series.proofs.Fitting.{total-cong, moment-cong}
 
 -- document 01's numbers
 pub residual-52 : (v : ℕ → ℤ) (j : ℕ)
@@ -65,6 +66,17 @@ module _ (f : ℕ → ℤ) where
   pub square-least : (n r j : ℕ) → j < n → r ≡ natAbs (f j) → r * r ≤ natAbs (sum n (λ k. squared (f k)))
   square-least n r j h e =
       pos-le-is (subst₂ (λ (x y : ℤ). x ⩽ y) (sym (square-of r j e)) (squares-natural n) (one-of n j h))
+
+-- no value past the n values is read
+pub squares-cong : (n : ℕ) {u v : ℕ → ℤ} → ((j : ℕ) → j < n → u j ≡ v j) → squares n u ≡ squares n v
+unfolding squares residual
+squares-cong n {u} {v} same = sum-cong n (λ j h. ap squared (alike j h))
+  where
+    alike : (j : ℕ) → j < n → residual n u j ≡ residual n v j
+    alike j h = λ i.
+        nearest
+        (pos (n * (n * n - 1)) *ℤ same j h i -ℤ pos (n * n - 1) *ℤ total-cong n same i -ℤ pos 3 *ℤ (place n j *ℤ moment-cong n same i))
+        (n * (n * n - 1))
 
 pub squares-pos : (n : ℕ) (v : ℕ → ℤ) → squares n v ≡ pos (natAbs (squares n v))
 unfolding squares

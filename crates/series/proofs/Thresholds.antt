@@ -5,12 +5,13 @@ use mathlib.Core.Path.{_≡_, refl, sym, ap, _∙_, subst, subst₂}
 use mathlib.Core.Bool.{Bool, true, false, cond}
 use mathlib.Core.List.{List, [], _∷_}
 use mathlib.Core.Logic.{⊎-elim}
-use lib.ListN.{length}
+use lib.ListN.{length, take}
+use lib.Seq.{length-take-le, getD-take}
 use Prim.Native.Nat.{ℕ, zero, suc, _+_, _*_, _-_, _^_, _≤_, _<_, zero-le}
-use native.Mathlib.Nat.{le-trans, lt-of-not-le, mul-le-mul, mul-le-mul-left, le-antisymm}
+use native.Mathlib.Nat.{le-trans, lt-of-not-le, mul-le-mul, mul-le-mul-left, mul-comm, le-antisymm}
 use native.Mathlib.Decide.{decLe}
 use native.Mathlib.Omega.{arith}
-use lib.Dec.{T}
+use lib.Dec.{T, lit<}
 use borrow.Author.Tests.{lt-ltb, le-ltb}
 use lib.IntN.{ℤ, pos, natAbs, _-ℤ_, _*ℤ_}
 use lib.Signed.{leZ, ltZ}
@@ -23,9 +24,11 @@ use Rattle.limits.specs.Refusal.{_when_}
 use Rattle.limits.specs.Limits.{outside, dsgRule}
 use Rattle.exact.specs.Corrected.{at}
 use Rattle.limits.specs.Lists.{anyBeyond}
-use Rattle.limits.specs.Reply.{reply}
+use Rattle.limits.specs.Reply.{Reply, reply}
 use Rattle.series.specs.Scatter.{squares, threshold, climb, dsg, scatterRule}
-use Rattle.limits.proofs.Lists.{list-passes}
+use Rattle.limits.proofs.Blocks.{within-blocks}
+use Rattle.limits.proofs.Lists.{list-passes, any-take}
+use Rattle.series.proofs.Residuals.{squares-cong}
 use Rattle.limits.proofs.Laws.{then-passed}
 
 -- ---- tests
@@ -80,6 +83,15 @@ pub threshold-natural : (s n d : ℕ) → 0 < d → threshold s n d ≡ pos (thr
 unfolding threshold
 threshold-natural s n d h = ap (λ (z : ℤ). pos n *ℤ squared (pos s *ℤ z)) (pos-sub (100 * d) 50 (omega arith))
 
+-- document 01's number: with 52 values the first threshold is 130000
+pub first-threshold-52 : threshold 1 52 1 ≡ pos 130000
+unfolding threshold
+first-threshold-52 = refl
+
+-- the threshold of 10000, from which on DSG is above 9999
+pub cap-is : (n : ℕ) → threshold 1 n 10000 ≡ pos (999900002500 * n)
+cap-is n = threshold-natural 1 n 10000 (lit< tt) ∙ ap pos (mul-comm n 999900002500)
+
 pub threshold-mono : (s n : ℕ) {d e : ℕ} → 0 < d → d ≤ e → threshold s n d ⩽ threshold s n e
 threshold-mono s n {d} {e} h k =
     subst₂ (λ (x y : ℤ). x ⩽ y) (sym (threshold-natural s n d h)) (sym (threshold-natural s n e (le-trans h k)))
@@ -120,7 +132,8 @@ module _ (s n : ℕ) (s-pos : 0 < s) (n-pos : 0 < n) where
       let square : 1 * (1 * (1 * d)) ≤ thresholdOf s n d = mul-le-mul n-pos (mul-le-mul one root) in
       omega arith
 
-  first-threshold : threshold s n 1 ≡ pos (2500 * (s * s) * n)
+  -- the least sum of squares that has a DSG of 1
+  pub first-threshold : threshold s n 1 ≡ pos (2500 * (s * s) * n)
   first-threshold = threshold-natural s n 1 (omega arith) ∙ ap pos (omega arith)
 
   -- ---- DSG
@@ -132,7 +145,7 @@ module _ (s n : ℕ) (s-pos : 0 < s) (n-pos : 0 < n) where
       (pos-lt (le-trans {m = suc (natAbs q + 1)} (omega arith) (threshold-least (suc (natAbs q + 1)) (omega arith)))))
 
   -- What the definition climbs to is the greatest: its own threshold is reached, if it is not 0, and the next one is not. With `greatest`, which says what
-  -- follows of every other number, this is "the greatest d from 1 up with 52 × (100d - 50)² not above Q", or 0 where there is none.
+  -- follows of every other number, this is "the greatest d from 1 up with n × (100d - 50)² not above Q", or 0 where there is none.
   pub dsg-greatest : (q : ℤ) → Greatest s n q (dsg s n q)
   unfolding dsg
   dsg-greatest q = go (ltZ q (pos (2500 * (s * s) * n))) refl
@@ -156,6 +169,10 @@ module _ (s n : ℕ) (s-pos : 0 < s) (n-pos : 0 < n) where
 
 -- ---- the limit on DSG
 
+-- the reply with a DSG, or with its refusal
+abbrev pub sigmaReply : ℕ → Reply ℤ
+sigmaReply d = reply (pos 0) (dsgRule (pos d)) (pos d)
+
 pub sigma-refused : (d : ℕ) → 9999 < d → dsgRule (pos d) ≡ 6
 unfolding dsgRule outside _when_
 sigma-refused d h = rw (le-ltb d 0 zero-le, lt-ltb 9999 d h)
@@ -165,9 +182,20 @@ unfolding dsgRule outside _when_
 sigma-accepted d h = rw (le-ltb d 0 zero-le, le-ltb 9999 d h)
 
 -- Scatter's reply to values that are not refused before their DSG is known
-pub scatter-passed : (l : List ℤ) → length l ≡ 52 → anyBeyond (2 * 10 ^ 12) l ≡ false
-    → scatterRule l ≡ reply (pos 0) (dsgRule (pos (dsg 1 52 (squares 52 (at l))))) (pos (dsg 1 52 (squares 52 (at l))))
+scatter-passed : (l : List ℤ) → 4 ≤ length l → length l ≤ 52 → anyBeyond (2 * 10 ^ 12) l ≡ false
+    → scatterRule l ≡ sigmaReply (dsg 1 (length l) (squares (length l) (at l)))
 unfolding scatterRule
-scatter-passed l e h =
-    let sigma = pos (dsg 1 52 (squares 52 (at l))) in
-    ap (λ (n : ℕ). reply (pos 0) n sigma) (then-passed _ (dsgRule sigma) (list-passes 52 _ _ l e h))
+scatter-passed l h k e =
+    let sigma = pos (dsg 1 (length l) (squares (length l) (at l))) in
+    ap (λ (n : ℕ). reply (pos 0) n sigma) (then-passed _ (dsgRule sigma) (list-passes _ _ _ l (within-blocks (length l) h k) e))
+
+-- to the first n values of a list
+pub scatter-part : (n : ℕ) (l : List ℤ) → 4 ≤ n → n ≤ 52 → n ≤ length l → anyBeyond (2 * 10 ^ 12) l ≡ false
+    → scatterRule (take n l) ≡ sigmaReply (dsg 1 n (squares n (at l)))
+scatter-part n l h k m e =
+    scatter-passed (take n l) (subst (λ (i : ℕ). 4 ≤ i) (sym count) h) (subst (λ (i : ℕ). i ≤ 52) (sym count) k) (any-take _ _ n l e)
+    ∙ ap (λ (i : ℕ). sigmaReply (dsg 1 i (squares i (at (take n l))))) count
+    ∙ ap (λ (q : ℤ). sigmaReply (dsg 1 n q)) (squares-cong n (λ j i. getD-take n l j (pos 0) i))
+  where
+    count : length (take n l) ≡ n
+    count = length-take-le n l m

@@ -1,13 +1,16 @@
--- Fit (document 01, "Fitting"): the line through the values v 0 .. v (n - 1), of which there are 52, counted in steps of which a picosecond
--- has s, today 1.
+-- Fit (document 01, "Fitting"; document 02, Job 3): the line through the values v 0 .. v (n - 1), counted in steps of which a picosecond has s,
+-- today 1.
 -- Assumes nothing.
 use Prim.Native.Nat.{ℕ, _*_, _-_, _^_}
+use mathlib.Core.Bool.{not}
 use mathlib.Core.List.{List}
 use lib.IntN.{ℤ, pos, _*ℤ_}
+use lib.ListN.{length}
 use Rattle.exact.specs.Weights.{place}
 use Rattle.whole.specs.Sum.{sum}
 use Rattle.whole.specs.Nearest.{nearest}
 use Rattle.exact.specs.Corrected.{at}
+use Rattle.limits.specs.Blocks.{blocksFit}
 use Rattle.limits.specs.Lists.{listRule}
 use Rattle.limits.specs.Reply.{Reply, reply}
 
@@ -25,6 +28,10 @@ midpoint s n v = nearest (total n v) (100 * s * n)
 unfoldable pub slope : ℕ → ℕ → (ℕ → ℤ) → ℤ
 slope s n v = nearest (pos 4 *ℤ moment n v) (s * (n * (n * n - 1)))
 
--- 1: the count is not 52. 2: a value is outside ±2 × 10^12. The values of an accepted reply are the midpoint and the slope.
+-- The refusals of a list that Fit and Scatter share. 1: the count is not from 4 to 52. 2: a value is outside ±2 × 10^12.
+abbrev pub valuesRule : List ℤ → ℕ
+valuesRule l = listRule (not (blocksFit (length l))) (2 * 10 ^ 12) l
+
+-- The values of an accepted reply are the midpoint and the slope.
 unfoldable pub fitRule : List ℤ → Reply (ℤ × ℤ)
-fitRule l = reply (pos 0, pos 0) (listRule 52 (2 * 10 ^ 12) l) (midpoint 1 52 (at l), slope 1 52 (at l))
+fitRule l = let n = length l in reply (pos 0, pos 0) (valuesRule l) (midpoint 1 n (at l), slope 1 n (at l))

@@ -1,10 +1,11 @@
--- Scatter (document 01, "Scatter"): DSG, the root mean square of the residuals of n values from their line, in 0.1 ns. The values are
+-- Scatter (document 01, "Scatter"; document 02, Job 3): DSG, the root mean square of the residuals of n values from their line, in 0.1 ns. The values are
 -- counted in steps of which a picosecond has s.
 -- Assumes nothing.
-use Prim.Native.Nat.{ℕ, zero, suc, _*_, _-_, _^_}
+use Prim.Native.Nat.{ℕ, zero, suc, _*_, _-_}
 use mathlib.Core.Bool.{true, false, cond}
 use mathlib.Core.List.{List}
 use lib.IntN.{ℤ, pos, natAbs, _-ℤ_, _*ℤ_}
+use lib.ListN.{length}
 use lib.Signed.{leZ, ltZ}
 use Rattle.whole.specs.Sum.{sum}
 use Rattle.whole.specs.Nearest.{nearest}
@@ -13,9 +14,8 @@ use Rattle.limits.specs.Refusal.{_then_}
 use Rattle.limits.specs.Limits.{dsgRule}
 use Rattle.exact.specs.Corrected.{at}
 use Rattle.exact.specs.Weights.{place}
-use Rattle.limits.specs.Lists.{listRule}
 use Rattle.limits.specs.Reply.{Reply, reply}
-use Rattle.series.specs.Fit.{total, moment}
+use Rattle.series.specs.Fit.{total, moment, valuesRule}
 
 -- The residual of value j: the value - S / n - 3 (2j - (n - 1)) T / (n (n² - 1)), nearest. With 52 values that is
 -- (46852 × value - 901 × S - (2j - 51) × T) / 46852.
@@ -46,5 +46,6 @@ dsg s n q = cond (ltZ q (pos (2500 * (s * s) * n))) 0 (climb (threshold s n) q (
 -- 1 and 2 as in Fit. 6: DSG is above 9999.
 unfoldable pub scatterRule : List ℤ → Reply ℤ
 scatterRule l =
-    let sigma = pos (dsg 1 52 (squares 52 (at l))) in
-    reply (pos 0) (listRule 52 (2 * 10 ^ 12) l then dsgRule sigma) sigma
+    let n = length l in
+    let sigma = pos (dsg 1 n (squares n (at l))) in
+    reply (pos 0) (valuesRule l then dsgRule sigma) sigma

@@ -1,4 +1,5 @@
-// Smooth, Fit and Scatter of document 01: the three operations on a list of values.
+// Smooth, Fit and Scatter of document 01, Fit and Scatter for 4 to 52 values (document 02, Job 3): the three operations on a
+// list of values.
 // Each takes a list of any length and numbers of any size and never traps: what it can't use it refuses with the number of
 // the first refusal, in the order of document 01, "Each operation and its refusals, in order".
 // All quantities are whole picoseconds unless a unit is given.
@@ -7,6 +8,7 @@ mod number;
 mod sums;
 
 use number::nearest;
+use number::nearest_by_span;
 use sums::CAP;
 use sums::dsg;
 use sums::list_refusal;
@@ -43,14 +45,19 @@ pub fn smooth(measurements: &[i64]) -> Smoothed
     ensures answer { λ r. ⌜ smoothReply r ≡ smoothRule (now (measurements .entry)) ⌝ }
     ensures variant { λ r. ⌜ smoothNumbered r ⌝ }
 {
-    let refusal = list_refusal(measurements, 15, -1_000_000_000_000, 1_000_000_000_000);
+    let refusal = list_refusal(
+        measurements,
+        measurements.len() != 15,
+        -1_000_000_000_000,
+        1_000_000_000_000,
+    );
     if refusal != 0 {
         return Smoothed::Refused(refusal);
     }
     Smoothed::Value(nearest(weighted(measurements), 1105))
 }
 
-// The line through 52 values with the least sum of squared residuals: its value at the midpoint, and its slope.
+// The line through 4 to 52 values with the least sum of squared residuals: its value at the midpoint, and its slope.
 pub fn fit(values: &[i64]) -> Fitted
     ensures answer { λ r. ⌜ fitReply r ≡ fitRule (now (values .entry)) ⌝ }
     ensures variant { λ r. ⌜ fitNumbered r ⌝ }
@@ -59,14 +66,15 @@ pub fn fit(values: &[i64]) -> Fitted
     if refusal != 0 {
         return Fitted::Refused(refusal);
     }
+    let n = values.len();
     let s = sums(values);
     Fitted::Line {
-        midpoint: nearest(s.total, 5200),
-        slope: nearest(s.moment, 35139),
+        midpoint: nearest(s.total, 100 * n as u32),
+        slope: nearest_by_span(4 * s.moment, n),
     }
 }
 
-// DSG: the root mean square of the residuals of 52 values from their line.
+// DSG: the root mean square of the residuals of 4 to 52 values from their line.
 pub fn scatter(values: &[i64]) -> Scattered
     ensures answer { λ r. ⌜ scatterReply r ≡ scatterRule (now (values .entry)) ⌝ }
     ensures variant { λ r. ⌜ scatterNumbered r ⌝ }
@@ -75,10 +83,11 @@ pub fn scatter(values: &[i64]) -> Scattered
     if refusal != 0 {
         return Scattered::Refused(refusal);
     }
+    let n = values.len();
     let s = sums(values);
     let q = squares(values, s.total, s.moment);
-    if CAP <= q {
+    if CAP * n as u64 <= q {
         return Scattered::Refused(6);
     }
-    Scattered::Sigma(dsg(q) as i64)
+    Scattered::Sigma(dsg(n, q) as i64)
 }

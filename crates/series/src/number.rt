@@ -1,6 +1,6 @@
 // The nearest whole number to a fraction.
 ghost use mathlib.Core.Path.{_≡_};
-ghost use Prim.Native.Nat.{_+_, _^_, _<_};
+ghost use Prim.Native.Nat.{_+_, _*_, _-_, _^_, _≤_, _<_};
 ghost use lib.IntN.{pos};
 ghost use lib.Signed.{mag};
 ghost use Rattle.whole.specs.Nearest.{nearest};
@@ -25,4 +25,16 @@ pub fn nearest(n: i64, d: u32) -> i64
     let m = 2 * d as i64;
     let q = folded(x) / m;
     if x < 0 { -1 - q } else { q }
+}
+
+// The nearest whole number to numerator / (n (n² - 1)). A full track has 52 values: its divisor is written out, as a quotient by
+// a constant costs less.
+pub fn nearest_by_span(numerator: i64, n: usize) -> i64
+    requires { ⌜ Within (2 ^ 61) numerator × (2 ≤ n) × (n ≤ 52) ⌝ }
+    ensures { λ r. ⌜ r ≡ nearest numerator (n * (n * n - 1)) ⌝ }
+{
+    if n == 52 {
+        return nearest(numerator, 140556);
+    }
+    nearest(numerator, (n * (n * n - 1)) as u32)
 }

@@ -1,12 +1,13 @@
 // Lists of values: the refusals that they share, the weighted sum of a block, the sums of a fit, the squared residuals, and DSG.
-use super::number::nearest;
+use super::number::nearest_by_span;
 use limits::any_outside;
+use limits::blocks_fit;
 use limits::then;
 use limits::when;
 use whole::magnitude;
 ghost use mathlib.Core.Path.{_≡_};
 ghost use mathlib.Core.Bool.{false};
-ghost use Prim.Native.Nat.{min, _*_, _^_, _<_, _≤_};
+ghost use Prim.Native.Nat.{min, _*_, _-_, _^_, _<_, _≤_};
 ghost use lib.IntN.{pos, natAbs, _-ℤ_, _*ℤ_};
 ghost use lib.ListN.{length};
 ghost use Rattle.whole.specs.Sum.{sum};
@@ -14,8 +15,8 @@ ghost use Rattle.whole.specs.Nearest.{nearest};
 ghost use Rattle.whole.specs.Words.{Within};
 ghost use Rattle.exact.specs.Corrected.{at};
 ghost use Rattle.exact.specs.Weights.{weights, place};
-ghost use Rattle.limits.specs.Lists.{anyBeyond, rangeRule, listRule};
-ghost use Rattle.series.specs.Fit.{total, moment};
+ghost use Rattle.limits.specs.Lists.{anyBeyond, rangeRule};
+ghost use Rattle.series.specs.Fit.{total, moment, valuesRule};
 ghost use Rattle.series.specs.Scatter.{squares, threshold, dsg};
 
 // The weights of the parabola's value at the middle of fifteen measurements, over 1105.
@@ -37,24 +38,26 @@ const WEIGHTS: [i64; 15] = [
     -78,
 ];
 
-// The least sum of squares that has a DSG above 9999.
-pub const CAP: u64 = 51_994_800_130_000;
+// A sum of squares from n times this up has a DSG above 9999.
+pub const CAP: u64 = 999_900_002_500;
 
-// 1 where the values are not count many, 2 where one is outside low to high, else 0.
-pub fn list_refusal(values: &[i64], count: usize, low: i64, high: i64) -> u32
-    ensures { λ r. ⌜ r ≡ rangeRule count low high (now (values .entry)) ⌝ }
+// 1 where their count is wrong, 2 where one of the values is outside low to high, else 0.
+pub fn list_refusal(values: &[i64], wrong: bool, low: i64, high: i64) -> u32
+    ensures { λ r. ⌜ r ≡ rangeRule wrong low high (now (values .entry)) ⌝ }
 {
-    then(
-        when(1, values.len() != count),
-        when(2, any_outside(values, low, high)),
-    )
+    then(when(1, wrong), when(2, any_outside(values, low, high)))
 }
 
-// The same for the values of Fit and Scatter: 52 of them, each within ±2 × 10^12.
+// The same for the values of Fit and Scatter: 4 to 52 of them, each within ±2 × 10^12.
 pub fn values_refusal(values: &[i64]) -> u32
-    ensures { λ r. ⌜ r ≡ listRule 52 (2 * 10 ^ 12) (now (values .entry)) ⌝ }
+    ensures { λ r. ⌜ r ≡ valuesRule (now (values .entry)) ⌝ }
 {
-    list_refusal(values, 52, -2_000_000_000_000, 2_000_000_000_000)
+    list_refusal(
+        values,
+        !blocks_fit(values.len()),
+        -2_000_000_000_000,
+        2_000_000_000_000,
+    )
 }
 
 // The sum of fifteen measurements, each times its weight.
@@ -72,87 +75,98 @@ pub fn weighted(measurements: &[i64]) -> i64
     sum
 }
 
-// S and T of document 01: the sum of the values, and that of 2j - 51 times the value.
+// S and T of document 01: the sum of the values, and that of each times its place.
 pub struct Moments {
     pub total: i64,
     pub moment: i64,
 }
 
-// 2j - 51: how far value j lies from the mean date, in half blocks.
-pub fn place(j: usize) -> i64
-    requires { ⌜ j < 52 ⌝ }
-    ensures { λ r. ⌜ r ≡ place 52 j ⌝ }
+// 2j - (n - 1): how far value j of n lies from their mean date, in half blocks.
+pub fn place(n: usize, j: usize) -> i64
+    requires { ⌜ (n ≤ 52) × (j < n) ⌝ }
+    ensures { λ r. ⌜ r ≡ place n j ⌝ }
 {
-    2 * (j as i64) - 51
+    2 * (j as i64) - (n - 1) as i64
 }
 
-// S and T of 52 values.
+// S and T of at most 52 values.
 pub fn sums(values: &[i64]) -> Moments
-    requires { ⌜ (length (now values) ≡ 52) × (anyBeyond (2 * 10 ^ 12) (now values) ≡ false) ⌝ }
-    ensures { λ r. ⌜ (r .total ≡ total 52 (at (now (values .entry))))
-        × (r .moment ≡ moment 52 (at (now (values .entry)))) ⌝ }
+    requires { ⌜ (length (now values) ≤ 52) × (anyBeyond (2 * 10 ^ 12) (now values) ≡ false) ⌝ }
+    ensures { λ r. ⌜ (r .total ≡ total (length (now (values .entry))) (at (now (values .entry))))
+        × (r .moment ≡ moment (length (now (values .entry))) (at (now (values .entry)))) ⌝ }
     ensures { λ r. ⌜ Within (104 * 10 ^ 12) (r .total) × Within (5408 * 10 ^ 12) (r .moment) ⌝ }
 {
+    let n = values.len();
     let mut total: i64 = 0;
     let mut moment: i64 = 0;
     let mut j = 0;
-    while j < 52 {
+    while j < n {
         let value = values[j];
         total += value;
-        moment += place(j) * value;
+        moment += place(n, j) * value;
         j += 1;
     }
     Moments { total, moment }
 }
 
-// The residual of a value at a place, by the two sums of its list.
-fn residual(value: i64, place: i64, total: i64, moment: i64) -> i64
+// The residual of one of n values, at a place, by the two sums of its list.
+fn residual(n: usize, value: i64, place: i64, total: i64, moment: i64) -> i64
+    requires { ⌜ (2 ≤ n) × (n ≤ 52) ⌝ }
     requires { ⌜ Within (2 * 10 ^ 12) value × Within 52 place
         × Within (104 * 10 ^ 12) total × Within (5408 * 10 ^ 12) moment ⌝ }
-    ensures { λ r. ⌜ r ≡ nearest (pos 46852 *ℤ value -ℤ pos 901 *ℤ total -ℤ place *ℤ moment) 46852 ⌝ }
+    ensures { λ r. ⌜ r ≡ nearest (pos (n * (n * n - 1)) *ℤ value -ℤ pos (n * n - 1) *ℤ total
+        -ℤ pos 3 *ℤ (place *ℤ moment)) (n * (n * n - 1)) ⌝ }
 {
-    nearest(46852 * value - 901 * total - place * moment, 46852)
+    let m = n * n - 1;
+    nearest_by_span(
+        (n * m) as i64 * value - m as i64 * total - 3 * (place * moment),
+        n,
+    )
 }
 
-// The sum of the squared residuals of values whose sums are s and t, or CAP where it is more: a square may not fit 64
-// bits.
+// The sum of the squared residuals of n values whose sums are s and t, or n times CAP where it is more: a square may not fit
+// 64 bits.
 pub fn squares(values: &[i64], s: i64, t: i64) -> u64
-    requires { ⌜ (length (now values) ≡ 52) × (anyBeyond (2 * 10 ^ 12) (now values) ≡ false) ⌝ }
-    requires { ⌜ (s ≡ total 52 (at (now values))) × (t ≡ moment 52 (at (now values))) ⌝ }
-    ensures { λ r. ⌜ r ≡ min 51994800130000 (natAbs (squares 52 (at (now (values .entry))))) ⌝ }
+    requires { ⌜ (2 ≤ length (now values)) × (length (now values) ≤ 52) × (anyBeyond (2 * 10 ^ 12) (now values) ≡ false) ⌝ }
+    requires { ⌜ (s ≡ total (length (now values)) (at (now values)))
+        × (t ≡ moment (length (now values)) (at (now values))) ⌝ }
+    ensures { λ r. ⌜ r ≡ min (999900002500 * length (now (values .entry)))
+        (natAbs (squares (length (now (values .entry))) (at (now (values .entry))))) ⌝ }
 {
+    let n = values.len();
+    let cap = CAP * n as u64;
     let mut q: u64 = 0;
     let mut j = 0;
-    while j < 52 {
-        let r = magnitude(residual(values[j], place(j), s, t));
+    while j < n {
+        let r = magnitude(residual(n, values[j], place(n, j), s, t));
         if 10_000_000 < r {
-            return CAP;
+            return cap;
         }
         q += r * r;
         j += 1;
     }
-    if CAP < q { CAP } else { q }
+    if cap < q { cap } else { q }
 }
 
-// The least sum of squares that a DSG of d has.
-fn threshold(d: u64) -> u64
-    requires { ⌜ (0 < d) × (d ≤ 10000) ⌝ }
-    ensures { λ r. ⌜ pos r ≡ threshold 1 52 d ⌝ }
+// The least sum of n squares that a DSG of d has.
+fn threshold(n: usize, d: u64) -> u64
+    requires { ⌜ (n ≤ 52) × (0 < d) × (d ≤ 10000) ⌝ }
+    ensures { λ r. ⌜ pos r ≡ threshold 1 n d ⌝ }
 {
     let e = 100 * d - 50;
-    52 * (e * e)
+    n as u64 * (e * e)
 }
 
-// DSG of a sum of squares below CAP, by halving between 0 and 10000.
-pub fn dsg(q: u64) -> u64
-    requires { ⌜ q < 51994800130000 ⌝ }
-    ensures { λ r. ⌜ r ≡ dsg 1 52 (pos q) ⌝ }
+// DSG of a sum of n squares below n times CAP, by halving between 0 and 10000.
+pub fn dsg(n: usize, q: u64) -> u64
+    requires { ⌜ (0 < n) × (n ≤ 52) × (q < 999900002500 * n) ⌝ }
+    ensures { λ r. ⌜ r ≡ dsg 1 n (pos q) ⌝ }
 {
     let mut low: u64 = 0;
     let mut high: u64 = 10000;
     while low + 1 < high {
         let middle = (low + high) / 2;
-        if threshold(middle) <= q {
+        if threshold(n, middle) <= q {
             low = middle;
         } else {
             high = middle;

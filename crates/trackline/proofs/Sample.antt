@@ -15,21 +15,22 @@ use Rattle.decode.proofs.Rows.{repeat, signeds-behind, signeds-repeat, signeds-
 use Rattle.decode.specs.Number.{little, unsignedAt, twosComplement, signedAt, signedsAt}
 use Rattle.exact.specs.Corrected.{Given, block, toA, toB}
 use Rattle.exact.specs.Weights.{weights, place}
+use Rattle.limits.specs.Blocks.{blocksFit}
 use Rattle.limits.specs.Lists.{anyOutside}
 use Rattle.series.specs.Smooth.{smoothed}
 use Rattle.series.specs.Fit.{total, moment, midpoint, slope}
 use Rattle.series.specs.Scatter.{residual, squares, threshold, climb, dsg}
 use Rattle.fit.specs.declared.TrackRecord.{TrackRecord}
-use Rattle.fit.specs.Track.{smoothedAt, valueA, valueB, valueC, valueD, numbersWith, recordOf, results, given, wrongSizes, outOfLimits, correctedBeyond, numbersRule, recordNumber, trackNumber}
+use Rattle.fit.specs.Track.{smoothedAt, valueA, valueB, valueC, valueD, places, numbersWith, recordOf, results, given, wrongSizes, outOfLimits, correctedBeyond, numbersRule, recordNumber, trackNumber}
 use Rattle.columns.specs.Text.{lineLength, lineText}
 use Rattle.line.specs.Line.{lineAnswer}
-use Rattle.hire.specs.Hire.{blockLabels, blockGiven}
-use Rattle.line.specs.Block.{blockNumbers, blockAnswer}
+use Rattle.hire.specs.Hire.{measurementsIn, blocksIn, sizesFit, blockLabels, givenIn, blockGiven}
+use Rattle.line.specs.Block.{blockNumbers, sizesNumber, blockAnswer}
 use Rattle.fields.specs.Text.{bytesOf}
 use Rattle.line.proofs.Sample.{labels, numbers, sample, sample-accepted}
 use Rattle.labels.specs.declared.Labels.{Labels}
 use Rattle.limits.specs.declared.Numbers.{Numbers}
-use Rattle.line.proofs.Blocks.{missized, line-answers}
+use Rattle.line.proofs.Blocks.{line-answers}
 use Rattle.trackline.specs.Printed.{printed}
 use Rattle.trackline.proofs.Texts.{accepted-answer}
 
@@ -41,27 +42,27 @@ sampleTrack =
 
 -- its corrected values: the measurements alike, and no air
 abbrev pub sampleRecord : TrackRecord
-sampleRecord = recordOf (replicate 52 (pos 1000)) (replicate 52 (pos 1000)) (replicate 52 (pos 0)) (replicate 52 (pos 0))
+sampleRecord = recordOf 52 (replicate 52 (pos 1000)) (replicate 52 (pos 1000)) (replicate 52 (pos 0)) (replicate 52 (pos 0))
 
-sample-a : tabulate (valueA sampleTrack) 52 ≡ replicate 52 (pos 1000)
-unfolding sum nearest tabulate block toA weights smoothed smoothedAt valueA
+sample-a : places 52 (valueA sampleTrack) ≡ replicate 52 (pos 1000)
+unfolding sum nearest tabulate block toA weights smoothed smoothedAt valueA places
 sample-a = refl
 
-sample-b : tabulate (valueB sampleTrack) 52 ≡ replicate 52 (pos 1000)
-unfolding sum nearest tabulate block toA toB weights smoothed smoothedAt valueB
+sample-b : places 52 (valueB sampleTrack) ≡ replicate 52 (pos 1000)
+unfolding sum nearest tabulate block toA toB weights smoothed smoothedAt valueB places
 sample-b = refl
 
-sample-c : tabulate (valueC sampleTrack) 52 ≡ replicate 52 (pos 0)
-unfolding tabulate valueC
+sample-c : places 52 (valueC sampleTrack) ≡ replicate 52 (pos 0)
+unfolding tabulate valueC places
 sample-c = refl
 
-sample-d : tabulate (valueD sampleTrack) 52 ≡ replicate 52 (pos 0)
-unfolding tabulate valueD
+sample-d : places 52 (valueD sampleTrack) ≡ replicate 52 (pos 0)
+unfolding tabulate valueD places
 sample-d = refl
 
 sample-results : results sampleTrack ≡ sampleRecord
 unfolding results
-sample-results = rw (sample-a, sample-b, sample-c, sample-d)
+sample-results = λ i. recordOf 52 (sample-a i) (sample-b i) (sample-c i) (sample-d i)
 
 sample-numbers : sampleRecord .numbers ≡ numbers
 unfolding sum nearest place total moment midpoint slope residual squares threshold climb dsg recordOf numbersWith
@@ -69,7 +70,7 @@ sample-numbers = refl
 
 -- and Track accepts it
 sample-inside : (wrongSizes sampleTrack ≡ false) × (outOfLimits sampleTrack ≡ false)
-unfolding outside anyOutside wrongSizes outOfLimits
+unfolding blocksFit outside anyOutside wrongSizes outOfLimits
 sample-inside = (refl, refl)
 
 sample-record-accepted : recordNumber sampleRecord ≡ 0
@@ -117,26 +118,26 @@ sample-column at =
     ∙ signeds-behind (repeat 780 thousand) (replicate 2080 0) at 40 52
     ∙ signeds-zeros 2080 at 40 52
 
+sample-blocks : blocksIn sampleBlock ≡ 52
+unfolding repeat sampleBlock unsignedAt little blocksIn
+sample-blocks = refl
+
 sample-given : blockGiven sampleBlock ≡ sampleTrack
-unfolding blockGiven
+unfolding givenIn blockGiven
 sample-given =
-    rw (sample-measurements, sample-delays .0, sample-delays .1, sample-delays .2, sample-delays .3, sample-column 0, sample-column 8, sample-column 16, sample-column 24, sample-column 32)
+    rw (sample-blocks, sample-measurements, sample-delays .0, sample-delays .1, sample-delays .2, sample-delays .3, sample-column 0, sample-column 8, sample-column 16, sample-column 24, sample-column 32)
 
 sample-numbers-given : blockNumbers sampleBlock ≡ numbers
 sample-numbers-given = ap (λ (g : Given). results g .numbers) sample-given ∙ ap (λ (t : TrackRecord). t .numbers) sample-results ∙ sample-numbers
 
 -- Block accepts it, with room for a line
-sample-sizes : missized sampleBlock ≡ false
-unfolding repeat sampleBlock unsignedAt little
+sample-sizes : sizesNumber sampleBlock ≡ 0
+unfolding repeat sampleBlock unsignedAt little measurementsIn blocksIn blocksFit sizesFit _when_ _then_ sizesNumber
 sample-sizes = refl
-
-sample-length : length sampleBlock ≡ 8378
-unfolding repeat sampleBlock
-sample-length = refl
 
 sample-answer : blockAnswer sampleBlock lineLength ≡ 0
 sample-answer =
-    sym (line-answers sampleBlock lineLength sample-length sample-sizes (ap trackNumber sample-given ∙ sample-accepted-track))
+    sym (line-answers sampleBlock lineLength sample-sizes (ap trackNumber sample-given ∙ sample-accepted-track))
     ∙ ap₂ (λ (l : Labels) (n : Numbers). lineAnswer l n lineLength) sample-labels sample-numbers-given
     ∙ sample-accepted
 

@@ -9,7 +9,7 @@ ghost use Rattle.trackline.specs.Buffer.{Text, Pushed};
 use libc::STDIN_FILENO;
 use libc::STDOUT_FILENO;
 
-// One byte more than a block has, so that a longer input is noticed.
+// One byte more than the longest block has, so that a longer input is noticed.
 const INPUT: usize = 8379;
 
 // Room for a line, carriage return and line feed.

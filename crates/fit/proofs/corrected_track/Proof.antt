@@ -1,24 +1,23 @@
 -- `fit::corrected_track` meets its contract.
 -- Assumes nothing.
 use borrow.Author.Needs.{needs}
-use mathlib.Core.Path.{_≡_, ap, _∙_}
-use Prim.Native.Nat.{_*_, _^_}
+use mathlib.Core.List.{List}
+use mathlib.Core.Path.{_≡_, sym, ap, _∙_, subst}
+use Prim.Native.Nat.{ℕ, _*_, _^_, _≤_}
 use native.Mathlib.Nat.{le-trans}
 use native.Mathlib.Omega.{arith}
 use lib.Dec.{lit≤}
-use lib.IntN.{_+ℤ_, _-ℤ_}
+use lib.IntN.{ℤ, _+ℤ_, _-ℤ_}
 use lib.ListN.{length}
 use mir.Syntax.{w64}
 use mir.Val.{toZ, ofZ}
 use mir.Facts.{toZ-ofZ}
-use Rattle.whole.specs.Table.{tabulate}
-use Rattle.whole.specs.Tables.{tabulate-length}
 use Rattle.whole.specs.Words.{Word, known, equal, read, sum-of, negation-of, bound, back-of}
 use Rattle.exact.specs.Corrected.{Given, block}
-use Rattle.fit.specs.Track.{given, smoothedAt, valueA, valueC, valueD}
-use Rattle.fit.proofs.Arrays.{table-bound}
+use Rattle.fit.specs.Track.{blocks, places, given, smoothedAt, valueA, valueC, valueD}
+use Rattle.fit.proofs.Arrays.{places-length, places-bound}
 use Rattle.fit.proofs.Largest.{smoothed-within, a-within}
-use Rattle.fit.proofs.Tracks.{Sized, sized, Limited, limited, a-table, b-table, track-judged}
+use Rattle.fit.proofs.Tracks.{Sized, sized, Limited, limited, a-places, b-places, track-judged}
 use Rattle.fit.proofs.corrected_track.Statement.{statement}
 use Rattle.fit.proofs.corrected_track.Tie as tie
 
@@ -40,12 +39,12 @@ abbrev words : (c : tie.Start) → let a = c .args in Word (a .int) × Word (a .
 words c = let l = limits c in (known (l .in-int), known (l .in-cab), known (l .in-refdly), known (l .in-gd))
 
 -- the smoothed values
-smoothed-is : (c : tie.After-smooth-blocks) → c .smooth-blocks .result .values ≡ tabulate (smoothedAt (g (c .before))) 52
+smoothed-is : (c : tie.After-smooth-blocks) → c .smooth-blocks .result .values ≡ places (blocks (g (c .before))) (smoothedAt (g (c .before)))
 unfolding smoothedAt block
 smoothed-is c = c .smooth-blocks .ensures .1
 
 smooth-blocks-requires : tie.Need-smooth-blocks-requires
-smooth-blocks-requires c κs = (sizes c .size-measurements, limits c .in-measurements)
+smooth-blocks-requires c κs = (sizes c .size-blocks .1, sizes c .size-measurements, limits c .in-measurements)
 
 refused-requires : tie.Need-refused-requires
 refused-requires c κs = search needs
@@ -75,11 +74,14 @@ a-values-requires c κs =
     let e = smoothed-is (c .before .before .before .before) in
     let n = sizes s in
     let l = limits s in (
-      (ap length e ∙ tabulate-length _ 52, λ j. record { within = rw e (table-bound (smoothedAt (g s)) 52 (2 * 10 ^ 12) (λ i. le-trans (smoothed-within (g s) (s .pre .1) i) (lit≤ tt)) j) }),
+      (
+        ap length e ∙ places-length _ _ (n .size-blocks .1),
+        λ j. record { within = rw e (places-bound (smoothedAt (g s)) _ (2 * 10 ^ 12) (λ i. le-trans (smoothed-within (g s) (s .pre .1) i) (lit≤ tt)) j) },
+      ),
       (
         (bound (equal (delay-is c) (sum-of (sum-of (w .0) (w .1)) (negation-of (w .2)))) tt, bound (read (w .3)) tt),
         (
-          (n .size-geometry, l .in-geometry),
+          (n .size-blocks .1, l .in-geometry),
           ((n .size-relativity, l .in-relativity), ((n .size-ionosphere, l .in-ionosphere), (n .size-troposphere, l .in-troposphere))),
         ),
       ),
@@ -89,31 +91,42 @@ slice-aggregate-b-values : tie.Need-slice-aggregate-b-values
 slice-aggregate-b-values c = search needs
 
 -- the corrected values A
-a-is : (c : tie.After-a-values) → c .a-values .result ≡ tabulate (valueA (g (c .before .before .before .before .before .before))) 52
+a-is : (c : tie.After-a-values) → let t = g (c .before .before .before .before .before .before) in c .a-values .result ≡ places (blocks t) (valueA t)
 a-is c =
     let s = c .before .before .before .before .before .before in
     c .a-values .ensures
-    ∙ a-table (g s) _ _ _ (smoothed-is (c .before .before .before .before .before)) (delay-is (c .before)) (toZ-ofZ (s .fits .gd))
+    ∙ a-places _ (g s) _ _ _ (smoothed-is (c .before .before .before .before .before)) (delay-is (c .before)) (toZ-ofZ (s .fits .gd))
 
 b-values-requires : tie.Need-b-values-requires
 b-values-requires c κs =
     let s = c .before .before .before .before .before .before .before in
-    let e = a-is (c .before) in (
+    let e = a-is (c .before) in
+    let n = sizes s in (
       (
-        ap length e ∙ tabulate-length _ 52,
-        λ j. record { within = rw e (table-bound (valueA (g s)) 52 (2 * 10 ^ 12) (λ i. le-trans (a-within (g s) (s .pre .1) i) (lit≤ tt)) j) },
+        ap length e ∙ places-length _ _ (n .size-blocks .1),
+        λ j. record { within = rw e (places-bound (valueA (g s)) _ (2 * 10 ^ 12) (λ i. le-trans (a-within (g s) (s .pre .1) i) (lit≤ tt)) j) },
       ),
-      (sizes s .size-clock, limits s .in-clock),
+      (subst (λ (k : ℕ). k ≤ 52) (sym (n .size-clock)) (n .size-blocks .1), limits s .in-clock),
     )
 
 copied-requires : tie.Need-copied-requires
-copied-requires c κs = let n = sizes (c .before .before .before .before .before .before .before .before) in search
+copied-requires c κs =
+    let n = sizes (c .before .before .before .before .before .before .before .before) in
+    subst (λ (k : ℕ). k ≤ 52) (sym (n .size-troposphere)) (n .size-blocks .1)
 
 copied-requires-2 : tie.Need-copied-requires-2
-copied-requires-2 c κs = let n = sizes (c .before .before .before .before .before .before .before .before .before) in search
+copied-requires-2 c κs =
+    let n = sizes (c .before .before .before .before .before .before .before .before .before) in
+    subst (λ (k : ℕ). k ≤ 52) (sym (n .size-ionosphere)) (n .size-blocks .1)
 
 judged-requires : tie.Need-judged-requires
-judged-requires c κs = search needs
+judged-requires c κs =
+    let n = sizes (c .before .before .before .before .before .before .before .before .before .before) in
+    ((omega (arith, n .size-blocks .0), omega (arith, n .size-blocks .1)), search needs)
+
+-- a list of as many values as there are blocks
+counted-by : (m n : ℕ) (f : ℕ → ℤ) (l : List ℤ) → m ≡ n → l ≡ places m f → l ≡ places n f
+counted-by m n f l e h = h ∙ ap (λ (k : ℕ). places k f) e
 
 returns-2 : tie.Need-returns-2
 unfolding valueC valueD
@@ -123,9 +136,11 @@ returns-2 c =
     let b = k .before in
     let a = b .before .before in
     let s = a .before .before .before .before .before .before in
+    let n = sizes s in
     c .judged .ensures
     ∙ track-judged (g s) (a .a-values .result) (b .b-values .result) (k .copied .result) (d .copied2 .result) (s .pre .0) (s .pre .1) (a-is a)
-    (b .b-values .ensures ∙ b-table (g s) (a .a-values .result) (a-is a)) (k .copied .ensures) (d .copied2 .ensures)
+    (counted-by _ _ _ _ (n .size-clock) (b .b-values .ensures) ∙ b-places _ (g s) (a .a-values .result) (a-is a))
+    (counted-by _ _ _ _ (n .size-troposphere) (k .copied .ensures)) (counted-by _ _ _ _ (n .size-ionosphere) (d .copied2 .ensures))
 
 pub corrected-track-spec : {M : Type 1} → statement M
 corrected-track-spec =

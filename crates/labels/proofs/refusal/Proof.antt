@@ -10,8 +10,8 @@ use Rattle.labels.proofs.refusal.Tie as tie
 labels-fit-requires : tie.Need-labels-fit-requires
 labels-fit-requires c κs = search needs
 
-outside-requires : tie.Need-outside-requires
-outside-requires c κs = search needs
+track-length-fits-requires : tie.Need-track-length-fits-requires
+track-length-fits-requires c κs = search needs
 
 start-requires : tie.Need-start-requires
 start-requires c κs = search needs
@@ -52,7 +52,7 @@ returns c =
       dsg .dsg .ensures,
       dsg .before .before .limits .ensures,
       start .start .ensures,
-      start .before .outside .ensures,
+      start .before .track-length-fits .ensures,
       start .before .before .before .labels-fit .ensures,
       toZ-ofZ (f .dsg),
       toZ-ofZ (f .trkl),
@@ -63,7 +63,7 @@ refusal-spec =
     tie.close
     (tie.spec
     labels-fit-requires
-    outside-requires
+    track-length-fits-requires
     start-requires
     limits-requires
     dsg-requires

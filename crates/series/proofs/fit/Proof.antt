@@ -2,19 +2,20 @@
 -- Assumes nothing.
 use borrow.Author.Needs.{needs}
 use mathlib.Core.Path.{_≡_, sym, ap, _∙_}
-use Prim.Native.Nat.{_*_, _^_, _<_}
+use mathlib.Core.Bool.{false}
+use mathlib.Core.List.{List}
+use Prim.Native.Nat.{_*_, _-_, _^_, _≤_, _<_}
 use native.Mathlib.Omega.{arith}
-use lib.Dec.{lit<}
 use lib.IntN.{ℤ}
+use lib.ListN.{length}
 use mir.Syntax.{w64}
 use mir.Val.{toZ, ofZ}
 use Rattle.whole.specs.Nearest.{nearest}
-use Rattle.whole.specs.Words.{back-of, bound, plain-is, bounds}
+use Rattle.whole.specs.Words.{back-of, fits, bound, plain-is, bounds}
 use Rattle.exact.specs.Corrected.{at}
-use Rattle.limits.specs.Lists.{listRule}
-use Rattle.series.specs.Fit.{midpoint, slope, fitRule}
-use Rattle.limits.proofs.Lists.{list-accepted}
-use Rattle.series.proofs.Fitting.{total-word, moment-word, midpoint-52, slope-52}
+use Rattle.limits.specs.Lists.{anyBeyond}
+use Rattle.series.specs.Fit.{midpoint, slope, valuesRule, fitRule}
+use Rattle.series.proofs.Fitting.{values-inside, total-word, moment-word, slope-span}
 use Rattle.limits.proofs.Replies.{reply-accepted, reply-refused}
 use Rattle.series.proofs.fit.Statement.{statement}
 use Rattle.series.proofs.fit.Tie as tie
@@ -29,37 +30,67 @@ returns c =
     let h : 0 < r .result = omega arith in
     (rw (r .ensures) (sym (reply-refused _ _ (rw (r .ensures) at h))), h)
 
--- the list is not refused
-accepted : (c : tie.Else1) → listRule 52 (2 * 10 ^ 12) (c .before .before .args .values .now) ≡ 0
+-- the list is not refused, so its values are from 4 to 52 and inside their limit
+accepted : (c : tie.Else1) → valuesRule (c .before .before .args .values .now) ≡ 0
 accepted c = sym (c .before .values-refusal .ensures) ∙ c .if1 .left
 
+inside : (c : tie.Else1)
+    → let l = c .before .before .args .values .now in (4 ≤ length l) × (length l ≤ 52) × (anyBeyond (2 * 10 ^ 12) l ≡ false)
+inside c = values-inside _ (accepted c)
+
 sums-requires : tie.Need-sums-requires
-sums-requires c κs = list-accepted _ _ _ _ (accepted c)
+sums-requires c κs = (inside c .1, inside c .2)
+
+cast-nearest : tie.Need-cast-nearest
+cast-nearest c = omega (arith, inside (c .before))
+
+mul-nearest : tie.Need-mul-nearest
+mul-nearest c = omega (arith, inside (c .before))
 
 nearest-requires : tie.Need-nearest-requires
-nearest-requires c κs = let s = total-word (c .before .sums .ensures) in (bound (search bounds depth 9) tt, lit< tt)
+nearest-requires c κs =
+    let s = total-word (c .before .sums .ensures) in
+    (bound (search bounds depth 9) tt, omega (arith, inside (c .before .before)))
 
-nearest-requires-2 : tie.Need-nearest-requires-2
-nearest-requires-2 c κs = let t = moment-word (c .before .before .before .sums .ensures) in (bound (search bounds depth 9) tt, lit< tt)
+-- where the two sums are known, seen from the slope
+abbrev summed : tie.After-struct-told2 → tie.After-sums
+summed c = c .before .before .before .before
 
-midpoint-is : (c : tie.After-nearest2)
-    → toZ w64 (ofZ w64 (c .before .before .nearest .result)) ≡ midpoint 1 52 (at (c .before .before .before .before .before .before .before .args .values .now))
+mul-nearest-by-span : tie.Need-mul-nearest-by-span
+mul-nearest-by-span c = let t = moment-word (summed c .sums .ensures) in fits (search bounds depth 9) tt
+
+nearest-by-span-requires : tie.Need-nearest-by-span-requires
+nearest-by-span-requires c κs =
+    let t = moment-word (summed c .sums .ensures) in
+    let i = inside (summed c .before) in
+    (bound (search bounds depth 12) tt, omega (arith, i .0), omega (arith, i .1))
+
+-- the values that are fitted
+abbrev values : tie.After-nearest-by-span → List ℤ
+values c = summed (c .before) .before .before .before .args .values .now
+
+midpoint-is : (c : tie.After-nearest-by-span)
+    → toZ w64 (ofZ w64 (c .before .before .before .nearest .result)) ≡ midpoint 1 (length (values c)) (at (values c))
+unfolding midpoint
 midpoint-is c =
-    let s = total-word (c .before .before .before .before .sums .ensures) in
-    let n = c .before .before .nearest in
-    back-of (n .ok) ∙ n .ensures ∙ ap (λ (z : ℤ). nearest z 5200) (plain-is (search bounds depth 9) tt) ∙ sym (midpoint-52 _)
+    let s = total-word (summed (c .before) .sums .ensures) in
+    let n = c .before .before .before .nearest in
+    back-of (n .ok) ∙ n .ensures ∙ ap (λ (z : ℤ). nearest z (100 * length (values c))) (plain-is (search bounds depth 9) tt)
 
-slope-is : (c : tie.After-nearest2)
-    → toZ w64 (ofZ w64 (c .nearest2 .result)) ≡ slope 1 52 (at (c .before .before .before .before .before .before .before .args .values .now))
+slope-is : (c : tie.After-nearest-by-span)
+    → toZ w64 (ofZ w64 (c .nearest-by-span .result)) ≡ slope 1 (length (values c)) (at (values c))
 slope-is c =
-    let t = moment-word (c .before .before .before .before .sums .ensures) in
-    let n = c .nearest2 in
-    back-of (n .ok) ∙ n .ensures ∙ ap (λ (z : ℤ). nearest z 35139) (plain-is (search bounds depth 9) tt) ∙ sym (slope-52 _)
+    let t = moment-word (summed (c .before) .sums .ensures) in
+    let k = length (values c) in
+    let n = c .nearest-by-span in
+    back-of (n .ok)
+    ∙ n .ensures
+    ∙ ap (λ (z : ℤ). nearest z (k * (k * k - 1))) (plain-is (search bounds depth 12) tt)
+    ∙ sym (slope-span k (at (values c)))
 
 returns-2 : tie.Need-returns-2
 unfolding fitRule
-returns-2 c =
-    (rw (midpoint-is c, slope-is c) (sym (reply-accepted _ _ (accepted (c .before .before .before .before .before)))), tt)
+returns-2 c = (rw (midpoint-is c, slope-is c) (sym (reply-accepted _ _ (accepted (summed (c .before) .before)))), tt)
 
 pub fit-spec : {M : Type 1} → statement M
 fit-spec =
@@ -68,6 +99,9 @@ fit-spec =
     values-refusal-requires
     returns
     sums-requires
+    cast-nearest
+    mul-nearest
     nearest-requires
-    nearest-requires-2
+    mul-nearest-by-span
+    nearest-by-span-requires
     returns-2)

@@ -10,9 +10,9 @@ use lib.IntN.{ℤ}
 use Rattle.whole.specs.Nearest.{nearest}
 use Rattle.whole.specs.Words.{Word, known, equal, back-of, bound, plain-is, bounds}
 use Rattle.exact.specs.Corrected.{at}
-use Rattle.limits.specs.Lists.{listRule}
+use Rattle.limits.specs.Lists.{miscounted, listRule}
 use Rattle.series.specs.Smooth.{smoothed, smoothRule}
-use Rattle.limits.proofs.Lists.{list-accepted, within-limit}
+use Rattle.limits.proofs.Lists.{list-accepted, counted, within-limit}
 use Rattle.series.proofs.Weights.{weighted-bound}
 use Rattle.limits.proofs.Replies.{reply-accepted, reply-refused}
 use Rattle.series.proofs.smooth.Statement.{statement}
@@ -29,7 +29,8 @@ returns c =
     (rw (r .ensures) (sym (reply-refused _ _ (rw (r .ensures) at h))), h)
 
 -- the list is not refused
-accepted : (c : tie.Else1) → listRule 15 (10 ^ 12) (c .before .before .args .measurements .now) ≡ 0
+accepted : (c : tie.Else1)
+    → let m = c .before .before .args .measurements .now in listRule (miscounted 15 m) (10 ^ 12) m ≡ 0
 accepted c = sym (c .before .list-refusal .ensures) ∙ c .if1 .left
 
 -- the sum that weighted hands back
@@ -40,7 +41,7 @@ sum-word c =
     (known (weighted-bound (at m) (within-limit (10 ^ 12) m (list-accepted _ _ _ _ (accepted (c .before)) .1)) 15 (le-refl 15)))
 
 weighted-requires : tie.Need-weighted-requires
-weighted-requires c κs = list-accepted _ _ _ _ (accepted c)
+weighted-requires c κs = let a = list-accepted _ _ _ _ (accepted c) in (counted 15 (c .before .before .args .measurements .now) (a .0), a .1)
 
 nearest-requires : tie.Need-nearest-requires
 nearest-requires c κs = let w = sum-word c in (bound (search bounds depth 9) tt, lit< tt)

@@ -7,15 +7,15 @@ use Prim.Native.Nat.{ℕ, _-_, _*_, _^_, _≤_}
 use native.Mathlib.Nat.{le-antisymm}
 use native.Mathlib.Omega.{arith}
 use lib.IntN.{ℤ, _+ℤ_, _-ℤ_}
-use lib.ListN.{length, take, length-set}
+use lib.ListN.{length, length-set}
 use mir.Syntax.{w64}
 use mir.Val.{toZ, ofZ}
 use mir.Facts.{toZ-ofZ}
-use Rattle.whole.specs.Table.{tabulate}
 use Rattle.whole.specs.Words.{Word, known, read, back, back-of, bound}
 use Rattle.exact.specs.Corrected.{at}
 use Rattle.limits.proofs.Lists.{within-limit}
-use Rattle.fit.proofs.Arrays.{fill-none, fill-more, fill-all}
+use Rattle.fit.specs.Track.{places}
+use Rattle.fit.proofs.Arrays.{fill-none, fill-more}
 use Rattle.fit.proofs.correction.a_values.Statement.{statement}
 use Rattle.fit.proofs.correction.a_values.Tie as tie
 
@@ -23,12 +23,12 @@ abbrev value : (smoothed : List ℤ) (delay : ℤ) (geometry relativity ionosphe
 value s w g r i t d j = at s j -ℤ w -ℤ at g j +ℤ at r j -ℤ at i j -ℤ at t j -ℤ d
 
 abbrev Inv-loop : tie.InvT-loop
-Inv-loop smoothed delay geometry relativity ionosphere troposphere gd values₀ j₀ values j =
-    (j ≤ 52) × (length values ≡ 52)
-    × (take j values ≡ tabulate (value smoothed (toZ w64 delay) geometry relativity ionosphere troposphere (toZ w64 gd)) j)
+Inv-loop smoothed delay geometry relativity ionosphere troposphere gd n values₀ j₀ values j =
+    (j ≤ n) × (n ≤ 52) × (length values ≡ 52)
+    × (values ≡ places j (value smoothed (toZ w64 delay) geometry relativity ionosphere troposphere (toZ w64 gd)))
 
 abbrev μ-loop : tie.MeasureT-loop
-μ-loop smoothed delay geometry relativity ionosphere troposphere gd values₀ j₀ values j = 52 - j
+μ-loop smoothed delay geometry relativity ionosphere troposphere gd n values₀ j₀ values j = n - j
 
 -- what is known of the numbers at block j
 abbrev words : (c : tie.Start Inv-loop μ-loop) (j : ℕ)
@@ -48,7 +48,7 @@ words c j =
     )
 
 loop-holds : tie.Need-loop-holds Inv-loop μ-loop
-loop-holds c = (search needs, refl, fill-none _)
+loop-holds c = (search needs, c .pre .1 .1 .0 .0, refl, fill-none _)
 
 mul-corrected : tie.Need-mul-corrected Inv-loop μ-loop
 mul-corrected c = search needs
@@ -106,8 +106,9 @@ loop-again c =
     let a = n .before .args in
     let w = words (n .before) (n .loop .j) in (
       search needs,
-      rw length-set (n .loop .inv .1),
-      fill-more _ (n .loop .values) (n .loop .j) (omega arith) (n .loop .inv .2)
+      n .loop .inv .1,
+      rw length-set (n .loop .inv .2),
+      fill-more _ (n .loop .values) (n .loop .j) (omega arith) (n .loop .inv .3)
           (back-of (c .corrected .ok)
           ∙ c .corrected .ensures
           ∙ (λ i. back (w .0) tt i -ℤ toZ w64 (ofZ w64 (a .delay)) -ℤ back (w .3) tt i +ℤ back (w .4) tt i -ℤ back (w .5) tt i -ℤ back (w .6) tt i -ℤ toZ w64 (ofZ w64 (a .gd)))),
@@ -116,9 +117,9 @@ loop-again c =
 returns : tie.Need-returns Inv-loop μ-loop
 returns c =
     let n = c .before in
-    let e : n .loop .j ≡ 52 = le-antisymm (n .loop .inv .0) (c .loop-test .left) in
+    let e : n .loop .j ≡ length (n .before .args .geometry .now) = le-antisymm (n .loop .inv .0) (c .loop-test .left) in
     let f = n .before .fits in
-    fill-all _ _ (n .loop .inv .1) (simp (e, toZ-ofZ (f .delay), toZ-ofZ (f .gd)) at (n .loop .inv .2))
+    simp (e, toZ-ofZ (f .delay), toZ-ofZ (f .gd)) at (n .loop .inv .3)
 
 pub a-values-spec : {M : Type 1} → statement M
 a-values-spec =

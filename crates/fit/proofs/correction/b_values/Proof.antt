@@ -7,12 +7,12 @@ use Prim.Native.Nat.{ℕ, _-_, _^_, _≤_}
 use native.Mathlib.Nat.{le-antisymm}
 use native.Mathlib.Omega.{arith}
 use lib.IntN.{ℤ, _+ℤ_}
-use lib.ListN.{length, take, length-set}
-use Rattle.whole.specs.Table.{tabulate}
+use lib.ListN.{length, length-set}
 use Rattle.whole.specs.Words.{Word, known, fits, plain-is, bounds}
 use Rattle.exact.specs.Corrected.{at}
 use Rattle.limits.proofs.Lists.{within-limit}
-use Rattle.fit.proofs.Arrays.{fill-none, fill-more, fill-all}
+use Rattle.fit.specs.Track.{places}
+use Rattle.fit.proofs.Arrays.{fill-none, fill-more}
 use Rattle.fit.proofs.correction.b_values.Statement.{statement}
 use Rattle.fit.proofs.correction.b_values.Tie as tie
 
@@ -20,11 +20,11 @@ abbrev value : List ℤ → List ℤ → ℕ → ℤ
 value a clock j = at a j +ℤ at clock j
 
 abbrev Inv-loop : tie.InvT-loop
-Inv-loop a clock values₀ j₀ values j =
-    (j ≤ 52) × (length a ≡ 52) × (length clock ≡ 52) × (length values ≡ 52) × (take j values ≡ tabulate (value a clock) j)
+Inv-loop a clock n values₀ j₀ values j =
+    (j ≤ n) × (length a ≡ 52) × (length clock ≤ 52) × (length values ≡ 52) × (values ≡ places j (value a clock))
 
 abbrev μ-loop : tie.MeasureT-loop
-μ-loop a clock values₀ j₀ values j = 52 - j
+μ-loop a clock n values₀ j₀ values j = n - j
 
 abbrev a-word : (c : tie.Start Inv-loop μ-loop) (j : ℕ) → Word (at (c .args .a .now) j)
 a-word c j = known (c .pre .0 .1 j .within)
@@ -75,15 +75,15 @@ loop-again c =
       n .loop .inv .1,
       n .loop .inv .2,
       rw length-set (n .loop .inv .3),
-      fill-more (value (n .before .args .a .now) (n .before .args .clock .now)) (n .loop .values) (n .loop .j) (omega arith) (n .loop .inv .4)
+      fill-more (value (n .before .args .a .now) (n .before .args .clock .now)) (n .loop .values) (n .loop .j) (omega (arith, n .loop .inv .2)) (n .loop .inv .4)
           (plain-is (search bounds depth 9) tt),
     )
 
 returns : tie.Need-returns Inv-loop μ-loop
 returns c =
     let n = c .before in
-    let e : n .loop .j ≡ 52 = le-antisymm (n .loop .inv .0) (c .loop-test .left) in
-    fill-all _ _ (n .loop .inv .3) (rw e at (n .loop .inv .4))
+    let e : n .loop .j ≡ length (n .before .args .clock .now) = le-antisymm (n .loop .inv .0) (c .loop-test .left) in
+    rw e at (n .loop .inv .4)
 
 pub b-values-spec : {M : Type 1} → statement M
 b-values-spec =

@@ -5,35 +5,34 @@ use mathlib.Core.Path.{_≡_, refl}
 use Prim.Native.Nat.{_-_, _≤_}
 use native.Mathlib.Nat.{le-antisymm}
 use native.Mathlib.Omega.{arith}
-use lib.ListN.{length, take, length-set}
-use Rattle.whole.specs.Table.{tabulate}
+use lib.ListN.{length, length-set}
 use Rattle.whole.specs.Words.{back-of}
 use Rattle.exact.specs.Corrected.{at}
-use Rattle.fit.proofs.Arrays.{fill-none, fill-more, fill-all}
+use Rattle.fit.specs.Track.{places}
+use Rattle.fit.proofs.Arrays.{fill-none, fill-more}
 use Rattle.fit.proofs.correction.copied.Statement.{statement}
 use Rattle.fit.proofs.correction.copied.Tie as tie
 
 abbrev Inv-loop : tie.InvT-loop
-Inv-loop column values₀ j₀ values j =
-    (j ≤ 52) × (length column ≡ 52) × (length values ≡ 52) × (take j values ≡ tabulate (at column) j)
+Inv-loop column n copy₀ j₀ copy j = (j ≤ n) × (length copy ≡ 52) × (copy ≡ places j (at column))
 
 abbrev μ-loop : tie.MeasureT-loop
-μ-loop column values₀ j₀ values j = 52 - j
+μ-loop column n copy₀ j₀ copy j = n - j
 
 loop-holds : tie.Need-loop-holds Inv-loop μ-loop
-loop-holds c = (search needs, c .pre, refl, fill-none _)
+loop-holds c = (search needs, refl, fill-none _)
 
-mul-values : tie.Need-mul-values Inv-loop μ-loop
-mul-values c = search needs
+mul-copy : tie.Need-mul-copy Inv-loop μ-loop
+mul-copy c = search needs
 
-shared-slice-copy-out-values : tie.Need-shared-slice-copy-out-values Inv-loop μ-loop
-shared-slice-copy-out-values c = search needs
+shared-slice-copy-out-copy : tie.Need-shared-slice-copy-out-copy Inv-loop μ-loop
+shared-slice-copy-out-copy c = search needs
 
-mul-values-2 : tie.Need-mul-values-2 Inv-loop μ-loop
-mul-values-2 c = search needs
+mul-copy-2 : tie.Need-mul-copy-2 Inv-loop μ-loop
+mul-copy-2 c = search needs
 
-array-set-from-values : tie.Need-array-set-from-values Inv-loop μ-loop
-array-set-from-values c = search needs
+array-set-from-copy : tie.Need-array-set-from-copy Inv-loop μ-loop
+array-set-from-copy c = omega (arith, c .before .before .before .pre)
 
 add-j : tie.Need-add-j Inv-loop μ-loop
 add-j c = search needs
@@ -45,16 +44,15 @@ loop-again : tie.Need-loop-again Inv-loop μ-loop
 loop-again c =
     let n = c .before .before in (
       search needs,
-      n .loop .inv .1,
-      rw length-set (n .loop .inv .2),
-      fill-more (at (n .before .args .column .now)) (n .loop .values) (n .loop .j) (omega arith) (n .loop .inv .3) (back-of (c .values .given)),
+      rw length-set (n .loop .inv .1),
+      fill-more (at (n .before .args .column .now)) (n .loop .copy) (n .loop .j) (omega (arith, n .before .pre)) (n .loop .inv .2) (back-of (c .copy .given)),
     )
 
 returns : tie.Need-returns Inv-loop μ-loop
 returns c =
     let n = c .before in
-    let e : n .loop .j ≡ 52 = le-antisymm (n .loop .inv .0) (c .loop-test .left) in
-    fill-all _ _ (n .loop .inv .2) (rw e at (n .loop .inv .3))
+    let e : n .loop .j ≡ length (n .before .args .column .now) = le-antisymm (n .loop .inv .0) (c .loop-test .left) in
+    rw e at (n .loop .inv .2)
 
 pub copied-spec : {M : Type 1} → statement M
 copied-spec =
@@ -63,10 +61,10 @@ copied-spec =
     Inv-loop
     μ-loop
     loop-holds
-    mul-values
-    shared-slice-copy-out-values
-    mul-values-2
-    array-set-from-values
+    mul-copy
+    shared-slice-copy-out-copy
+    mul-copy-2
+    array-set-from-copy
     add-j
     loop-less
     loop-again

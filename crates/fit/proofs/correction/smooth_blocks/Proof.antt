@@ -10,13 +10,13 @@ use lib.IntN.{ℤ}
 use lib.ListN.{length, take, drop, length-set}
 use mir.Syntax.{w64}
 use mir.Val.{toZ, ofZ}
-use Rattle.whole.specs.Table.{tabulate}
 use Rattle.whole.specs.Words.{back-of}
 use Rattle.series.specs.declared.Smoothed.{Smoothed}
 use Rattle.exact.specs.Corrected.{at}
 use Rattle.series.specs.Answers.{smoothReply}
 use Rattle.series.specs.Smooth.{smoothed, smoothRule}
-use Rattle.fit.proofs.Arrays.{fill-none, fill-more, fill-all}
+use Rattle.fit.specs.Track.{places}
+use Rattle.fit.proofs.Arrays.{fill-none, fill-more}
 use Rattle.fit.proofs.Blocks.{part-value}
 use Rattle.series.proofs.Replies.{smooth-cases}
 use Rattle.fit.proofs.correction.smooth_blocks.Statement.{statement}
@@ -27,11 +27,11 @@ abbrev value : List ℤ → ℕ → ℤ
 value m j = smoothed (λ i. at m (15 * j + i))
 
 abbrev Inv-loop : tie.InvT-loop
-Inv-loop measurements values₀ j₀ values j =
-    (j ≤ 52) × (length measurements ≡ 780) × (length values ≡ 52) × (take j values ≡ tabulate (value measurements) j)
+Inv-loop measurements n values₀ j₀ values j =
+    (j ≤ n) × (n ≤ 52) × (length measurements ≡ 15 * n) × (length values ≡ 52) × (values ≡ places j (value measurements))
 
 abbrev μ-loop : tie.MeasureT-loop
-μ-loop measurements values₀ j₀ values j = 52 - j
+μ-loop measurements n values₀ j₀ values j = n - j
 
 -- what Smooth answers
 answered : (c : tie.After-smooth Inv-loop μ-loop)
@@ -40,11 +40,11 @@ answered : (c : tie.After-smooth Inv-loop μ-loop)
 answered c =
     let n = c .before .before .before in
     let e : 15 * n .loop .j + 15 - 15 * n .loop .j ≡ 15 = omega arith in
-    part-value (n .before .args .measurements .now) (15 * n .loop .j) (omega arith) (n .before .pre .1) (c .smooth .result)
+    part-value (n .before .args .measurements .now) (15 * n .loop .j) (omega arith) (n .before .pre .2) (c .smooth .result)
     (subst (λ (k : ℕ). smoothReply (c .smooth .result) ≡ smoothRule (take k (drop (15 * n .loop .j) (n .before .args .measurements .now)))) e (c .smooth .ensures .0)) (c .smooth .ensures .1)
 
 loop-holds : tie.Need-loop-holds Inv-loop μ-loop
-loop-holds c = (search needs, c .pre .0, refl, fill-none _)
+loop-holds c = (search needs, c .pre .0, c .pre .1, refl, fill-none _)
 
 mul-from : tie.Need-mul-from Inv-loop μ-loop
 mul-from c = search needs
@@ -99,15 +99,16 @@ loop-again c =
     let same : c .before .answer .given .0 .0 ≡ value m (n .loop .j) = cc (answered (c .before .before .before)) in (
       search needs,
       n .loop .inv .1,
-      rw length-set (n .loop .inv .2),
-      fill-more (value m) (n .loop .values) (n .loop .j) (omega arith) (n .loop .inv .3) (back ∙ same),
+      n .loop .inv .2,
+      rw length-set (n .loop .inv .3),
+      fill-more (value m) (n .loop .values) (n .loop .j) (omega arith) (n .loop .inv .4) (back ∙ same),
     )
 
 returns-2 : tie.Need-returns-2 Inv-loop μ-loop
 returns-2 c =
     let n = c .before in
-    let e : n .loop .j ≡ 52 = le-antisymm (n .loop .inv .0) (c .loop-test .left) in
-    (refl, fill-all _ _ (n .loop .inv .2) (rw e at (n .loop .inv .3)))
+    let e : n .loop .j ≡ n .before .args .n = le-antisymm (n .loop .inv .0) (c .loop-test .left) in
+    (refl, rw e at (n .loop .inv .4))
 
 pub smooth-blocks-spec : {M : Type 1} → statement M
 smooth-blocks-spec =

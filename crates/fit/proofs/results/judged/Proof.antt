@@ -17,7 +17,7 @@ abbrev start : tie.After-any-outside4 → tie.Start
 start c = c .before .before .before .before .before .before .before .before .before .before .before .before .before .before .before .before
 
 abbrev t : tie.After-any-outside4 → TrackRecord
-t c = let v = start c .args .t1 in recordOf (v .a) (v .b) (v .c) (v .d)
+t c = let v = start c .args .t1 in recordOf (v .blocks) (v .a) (v .b) (v .c) (v .d)
 
 -- the four tests are the rule's
 beyond-is : (c : tie.After-any-outside4)
@@ -64,7 +64,9 @@ returns c =
     c .refused .ensures ∙ sym (ap (λ (k : ℕ). tracked k (t n)) e ∙ tracked-refused 10 (t n) (lit< tt))
 
 results-requires : tie.Need-results-requires
-results-requires c κs = (start (c .before) .pre, sym (beyond-is (c .before)) ∙ c .if1 .left)
+results-requires c κs =
+    let p = start (c .before) .pre in
+    (p .0, (p .1, sym (beyond-is (c .before)) ∙ c .if1 .left))
 
 returns-2 : tie.Need-returns-2
 returns-2 c =

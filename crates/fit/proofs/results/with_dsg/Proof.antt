@@ -12,7 +12,6 @@ use Rattle.limits.specs.Reply.{Reply, reply}
 use Rattle.series.specs.Answers.{scatterReply, scatterNumbered}
 use Rattle.fit.specs.declared.TrackRecord.{TrackRecord}
 use Rattle.fit.specs.Track.{numbersWith, recordOf, numbersRule, tracked}
-use Rattle.series.proofs.Thresholds.{scatter-passed}
 use Rattle.limits.proofs.Laws.{then-refused, then-passed}
 use Rattle.limits.proofs.Replies.{reply-number, reply-values}
 use Rattle.fit.proofs.Tracks.{tracked-refused, tracked-accepted}
@@ -22,12 +21,12 @@ use Rattle.fit.proofs.results.with_dsg.Tie as tie
 
 -- the record
 abbrev t : tie.Start → TrackRecord
-t c = let v = c .args .t1 in recordOf (v .a) (v .b) (v .c) (v .d)
+t c = let v = c .args .t1 in recordOf (v .blocks) (v .a) (v .b) (v .c) (v .d)
 
 -- the limits do not ask for DSG
 limit-is : (c : tie.After-limits) → c .limits .result ≡ limitsRule (t (c .before) .numbers)
 unfolding limitsRule recordOf numbersWith
-limit-is c = c .limits .ensures ∙ ap limitsRule (c .before .pre .1)
+limit-is c = c .limits .ensures ∙ ap limitsRule (c .before .pre .1 .1)
 
 -- the first refusal of the record: from 3 to 5, or else 6
 from-limits : (c : tie.After-limits) → 0 < c .limits .result → numbersRule (t (c .before)) ≡ c .limits .result
@@ -39,13 +38,11 @@ unfolding numbersRule
 from-scatter c = then-passed _ _ (sym (limit-is (c .before)) ∙ c .if1 .left)
 
 -- what Scatter replies
-sigma : (c : tie.After-scatter)
+sigma : (c : tie.After-scatter-blocks)
     → let s = t (c .before .before .before .before .before .before) .numbers .dsg in
-    scatterReply (c .scatter .result) ≡ reply (pos 0) (dsgRule s) s
+    scatterReply (c .scatter-blocks .result) ≡ reply (pos 0) (dsgRule s) s
 unfolding recordOf numbersWith
-sigma c =
-    let s = c .before .before .before .before .before .before in
-    c .scatter .ensures .0 ∙ scatter-passed (s .args .t1 .b) (s .pre .0 .0) (s .pre .0 .1)
+sigma c = c .scatter-blocks .ensures .0
 
 limits-requires : tie.Need-limits-requires
 limits-requires c κs = search needs
@@ -59,8 +56,10 @@ returns c =
     let h : 0 < n .limits .result = omega (arith, c .before .if1 .taken) in
     c .refused .ensures ∙ sym (ap (λ (k : ℕ). tracked k (t (n .before))) (from-limits n h) ∙ tracked-refused _ (t (n .before)) h)
 
-scatter-requires : tie.Need-scatter-requires
-scatter-requires c κs = search needs
+scatter-blocks-requires : tie.Need-scatter-blocks-requires
+scatter-blocks-requires c κs =
+    let p = c .before .before .before .before .before .pre in
+    (p .0 .0, p .0 .1, p .1 .0 .0, p .1 .0 .1)
 
 enum-known-answer : tie.Need-enum-known-answer
 enum-known-answer c = search needs
@@ -80,7 +79,7 @@ returns-2 c =
     let n = a .before .before .before .before in
     let told = c .before .before .enum-told .given .1 in
     let number = c .before .scattered-number .ensures in
-    let some : 0 < c .before .scattered-number .result = rw (number ∙ ap (λ (r : Scattered). scatterReply r .number) told) (subst scatterNumbered told (a .scatter .ensures .1)) in
+    let some : 0 < c .before .scattered-number .result = rw (number ∙ ap (λ (r : Scattered). scatterReply r .number) told) (subst scatterNumbered told (a .scatter-blocks .ensures .1)) in
     let e = from-scatter n ∙ sym (number ∙ ap (λ (r : Reply ℤ). r .number) (sigma a) ∙ reply-number _ _ _) in
     c .refused2 .ensures ∙ sym (ap (λ (k : ℕ). tracked k (t (n .before .before))) e ∙ tracked-refused _ (t (n .before .before)) some)
 
@@ -103,7 +102,7 @@ unfolding recordOf numbersWith
 record-is c =
     let k = c .before in
     let s = k .before .before .before .before .before .before .before .before .before in
-    simp (s .pre .1, back-of (k .known-told .given .0 .1) ∙ sigma-is k .1) at (c .accepted .ensures)
+    simp (s .pre .1 .1, back-of (k .known-told .given .0 .1) ∙ sigma-is k .1) at (c .accepted .ensures)
 
 returns-3 : tie.Need-returns-3
 returns-3 c =
@@ -118,7 +117,7 @@ with-dsg-spec =
     limits-requires
     refused-requires
     returns
-    scatter-requires
+    scatter-blocks-requires
     enum-known-answer
     enum-told
     scattered-number-requires

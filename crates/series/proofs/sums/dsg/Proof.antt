@@ -1,26 +1,30 @@
 -- `series::sums::dsg` meets its contract: low's threshold is reached, high's is not, and they come together.
 -- Assumes nothing.
-use mathlib.Core.Path.{_≡_, subst}
+use mathlib.Core.Path.{_≡_, sym, subst}
 use Prim.Native.Nat.{ℕ, suc, _-_, _≤_, _<_}
 use native.Mathlib.Omega.{arith}
 use lib.Dec.{lit<}
 use lib.IntN.{ℤ, pos}
 use Rattle.whole.specs.Order.{_⩽_, _⋖_, pos-le, pos-lt}
 use Rattle.series.specs.Scatter.{threshold}
-use Rattle.series.proofs.Thresholds.{dsg-greatest, greatest-only}
+use Rattle.series.proofs.Thresholds.{cap-is, dsg-greatest, greatest-only}
 use Rattle.series.proofs.sums.dsg.Statement.{statement}
 use Rattle.series.proofs.sums.dsg.Tie as tie
 
 abbrev Inv-loop : tie.InvT-loop
-Inv-loop q low₀ high₀ low high =
-    (low < high) × (high ≤ 10000) × (1 ≤ low → threshold 1 52 low ⩽ pos q) × (pos q ⋖ threshold 1 52 high)
+Inv-loop n q low₀ high₀ low high =
+    (low < high) × (high ≤ 10000) × (1 ≤ low → threshold 1 n low ⩽ pos q) × (pos q ⋖ threshold 1 n high)
 
 abbrev μ-loop : tie.MeasureT-loop
-μ-loop q low₀ high₀ low high = high - low
+μ-loop n q low₀ high₀ low high = high - low
 
 loop-holds : tie.Need-loop-holds Inv-loop μ-loop
-unfolding threshold
-loop-holds c = (lit< tt, omega arith, λ h. absurd (omega arith), pos-lt (c .pre))
+loop-holds c = (
+  lit< tt,
+  omega arith,
+  λ h. absurd (omega arith),
+  subst (λ (z : ℤ). pos (c .args .q) ⋖ z) (sym (cap-is (c .args .n))) (pos-lt (c .pre .2)),
+)
 
 add-loop : tie.Need-add-loop Inv-loop μ-loop
 add-loop c = omega arith
@@ -29,7 +33,7 @@ add-middle : tie.Need-add-middle Inv-loop μ-loop
 add-middle c = omega arith
 
 threshold-requires : tie.Need-threshold-requires Inv-loop μ-loop
-threshold-requires c κs = omega arith
+threshold-requires c κs = (c .before .before .pre .1, omega arith, omega arith)
 
 loop-less : tie.Need-loop-less Inv-loop μ-loop
 loop-less c = omega arith
@@ -59,9 +63,9 @@ returns : tie.Need-returns Inv-loop μ-loop
 returns c =
     let n = c .before in
     let e : n .loop .high ≡ suc (n .loop .low) = omega arith in
-    greatest-only 1 52
-    (record { reached = n .loop .inv .2; next = subst (λ (k : ℕ). pos (n .before .args .q) ⋖ threshold 1 52 k) e (n .loop .inv .3) })
-    (dsg-greatest 1 52 (lit< tt) (lit< tt) (pos (n .before .args .q)))
+    let a = n .before .args in
+    greatest-only 1 (a .n) (record { reached = n .loop .inv .2; next = subst (λ (k : ℕ). pos (a .q) ⋖ threshold 1 (a .n) k) e (n .loop .inv .3) })
+    (dsg-greatest 1 (a .n) (lit< tt) (n .before .pre .0) (pos (a .q)))
 
 pub dsg-spec : {M : Type 1} → statement M
 dsg-spec =

@@ -3,7 +3,7 @@
 use borrow.Author.Needs.{needs}
 use mathlib.Core.Path.{_≡_, refl, _∙_}
 use Prim.Native.Nat.{ℕ, _*_, _^_, _≤_, _-_}
-use native.Mathlib.Nat.{le-antisymm}
+use native.Mathlib.Nat.{le-antisymm, le-trans}
 use native.Mathlib.Numerals.{add-one}
 use lib.IntN.{_*ℤ_}
 use lib.ListN.{length}
@@ -11,23 +11,21 @@ use mir.Syntax.{w64}
 use mir.Val.{toZ, ofZ}
 use Rattle.whole.specs.Sum.{sum}
 use Rattle.whole.specs.Sums.{sum-suc}
-use Rattle.whole.specs.Words.{Word, known, equal, partial, back-of, fits, bound, plain-is, bounds}
+use Rattle.whole.specs.Words.{Word, known, equal, back-of, fits, bound, plain-is, bounds}
 use Rattle.exact.specs.Corrected.{at}
 use Rattle.exact.specs.Weights.{place}
 use Rattle.series.specs.Fit.{total, moment}
 use Rattle.limits.proofs.Lists.{within-limit}
-use Rattle.series.proofs.Fitting.{place-bound, product-bound}
+use Rattle.series.proofs.Fitting.{place-bound, total-part, moment-part}
 use Rattle.series.proofs.sums.sums.Statement.{statement}
 use Rattle.series.proofs.sums.sums.Tie as tie
 
 abbrev Inv-loop : tie.InvT-loop
-Inv-loop values total₀ moment₀ j₀ total moment j =
-    (j ≤ 52) × (length values ≡ 52)
-    × (toZ w64 total ≡ sum j (at values))
-    × (toZ w64 moment ≡ sum j (λ k. place 52 k *ℤ at values k))
+Inv-loop values n total₀ moment₀ j₀ total moment j =
+    (j ≤ n) × (toZ w64 total ≡ sum j (at values)) × (toZ w64 moment ≡ sum j (λ k. place n k *ℤ at values k))
 
 abbrev μ-loop : tie.MeasureT-loop
-μ-loop values total₀ moment₀ j₀ total moment j = 52 - j
+μ-loop values n total₀ moment₀ j₀ total moment j = n - j
 
 -- what is known of a value, of the two sums so far and of the place
 abbrev value-word : (c : tie.Start Inv-loop μ-loop) (j : ℕ) → Word (at (c .args .values .now) j)
@@ -36,22 +34,22 @@ value-word c j = known (within-limit (2 * 10 ^ 12) (c .args .values .now) (c .pr
 abbrev total-word : (c : tie.At-loop Inv-loop μ-loop) → Word (toZ w64 (c .loop .total))
 total-word c =
     let l = c .before .args .values .now in
-    equal (c .loop .inv .2)
-    (known (partial 52 (c .loop .j) (at l) (2 * 10 ^ 12) (c .loop .inv .0) (λ j h. within-limit (2 * 10 ^ 12) l (c .before .pre .1) j)))
+    equal (c .loop .inv .1) (known (total-part l (c .before .pre .1) (length l) (c .before .pre .0) (c .loop .j) (c .loop .inv .0)))
 
 abbrev moment-word : (c : tie.At-loop Inv-loop μ-loop) → Word (toZ w64 (c .loop .moment))
 moment-word c =
-    equal (c .loop .inv .3)
-    (known (partial 52 (c .loop .j) _ (52 * (2 * 10 ^ 12)) (c .loop .inv .0) (product-bound (2 * 10 ^ 12) (c .before .args .values .now) (c .before .pre .1) 52)))
+    let l = c .before .args .values .now in
+    equal (c .loop .inv .2) (known (moment-part l (c .before .pre .1) (length l) (c .before .pre .0) (c .loop .j) (c .loop .inv .0)))
 
 abbrev place-word : (c : tie.After-place Inv-loop μ-loop) → Word (toZ w64 (ofZ w64 (c .place .result)))
 place-word c =
+    let n = c .before .before .before in
     equal (back-of (c .place .ok) ∙ c .place .ensures)
-    (known (place-bound 52 (c .before .before .before .loop .j) (c .before .before .loop-test .taken)))
+    (known (le-trans (place-bound (length (n .before .args .values .now)) (n .loop .j) (c .before .before .loop-test .taken)) (n .before .pre .0)))
 
 loop-holds : tie.Need-loop-holds Inv-loop μ-loop
 unfolding sum
-loop-holds c = (search needs, c .pre .0, refl, refl)
+loop-holds c = (search needs, refl, refl)
 
 mul-value : tie.Need-mul-value Inv-loop μ-loop
 mul-value c = search needs
@@ -66,7 +64,7 @@ add-total c =
     fits (search bounds depth 9) tt
 
 place-requires : tie.Need-place-requires Inv-loop μ-loop
-place-requires c κs = search needs
+place-requires c κs = (c .before .before .before .pre .0, c .before .loop-test .taken)
 
 mul-moment : tie.Need-mul-moment Inv-loop μ-loop
 mul-moment c =
@@ -95,7 +93,6 @@ loop-again c =
     let p = place-word c in
     let t = moment-word n in (
       search needs,
-      n .loop .inv .1,
       plain-is (search bounds depth 9) tt ∙ rw (add-one, sum-suc),
       plain-is (search bounds depth 9) tt ∙ rw (add-one, sum-suc),
     )
@@ -106,8 +103,8 @@ returns c =
     let n = c .before in
     let s = total-word n in
     let t = moment-word n in
-    let e : n .loop .j ≡ 52 = le-antisymm (n .loop .inv .0) (c .loop-test .left) in
-    ((rw e at (n .loop .inv .2), rw e at (n .loop .inv .3)), (bound (search bounds depth 9) tt, bound (search bounds depth 9) tt))
+    let e : n .loop .j ≡ length (n .before .args .values .now) = le-antisymm (n .loop .inv .0) (c .loop-test .left) in
+    ((rw e at (n .loop .inv .1), rw e at (n .loop .inv .2)), (bound (search bounds depth 9) tt, bound (search bounds depth 9) tt))
 
 pub sums-spec : {M : Type 1} → statement M
 sums-spec =

@@ -1,9 +1,9 @@
--- `series::sums::threshold` meets its contract: up to 10000 the square stays below 10^12.
+-- `series::sums::threshold` meets its contract: up to 10000 the square stays below 10^12, and there are at most 52.
 -- Assumes nothing.
 use borrow.Author.Needs.{needs}
 use mathlib.Core.Path.{sym, ap, _∙_}
 use Prim.Native.Nat.{ℕ, _*_, _-_, _≤_}
-use native.Mathlib.Nat.{mul-le-mul}
+use native.Mathlib.Nat.{mul-le-mul, one-mul}
 use native.Mathlib.Omega.{arith}
 use lib.IntN.{pos}
 use Rattle.series.proofs.Thresholds.{threshold-natural}
@@ -21,16 +21,19 @@ sub-e c = search needs
 
 mul-result : tie.Need-mul-result
 mul-result c =
-    let b = root-bound (c .args .d) (c .pre .1) in
+    let b = root-bound (c .args .d) (c .pre .2) in
     omega (arith, mul-le-mul b b)
 
 mul-result-2 : tie.Need-mul-result-2
 mul-result-2 c =
-    let b = root-bound (c .args .d) (c .pre .1) in
-    omega (arith, mul-le-mul b b)
+    let b = root-bound (c .args .d) (c .pre .2) in
+    omega (arith, mul-le-mul b b, mul-le-mul (c .pre .0) (mul-le-mul b b))
 
 returns : tie.Need-returns
-returns c = sym (threshold-natural 1 52 (c .args .d) (c .pre .0) ∙ ap (λ (k : ℕ). pos (52 * (k * k))) {x = 1 * (100 * c .args .d - 50)} (omega arith))
+returns c =
+    sym
+    (threshold-natural 1 (c .args .n) (c .args .d) (c .pre .1)
+    ∙ ap (λ (k : ℕ). pos (c .args .n * (k * k))) (one-mul (100 * c .args .d - 50)))
 
 pub threshold-spec : {M : Type 1} → statement M
 threshold-spec = tie.close (tie.spec mul-e sub-e mul-result mul-result-2 returns)
