@@ -18,7 +18,7 @@ use inputs::columns_beyond;
 use inputs::delays_beyond;
 use inputs::sizes_wrong;
 pub use limits::Numbers;
-use limits::any_outside;
+use limits::scan;
 use results::Corrected;
 use results::judged;
 use results::refused;
@@ -132,7 +132,8 @@ pub fn track(
     ) {
         return refused(1);
     }
-    let beyond = any_outside(measurements, -1_000_000_000_000, 1_000_000_000_000)
+    let measured = scan(measurements, -1_000_000_000_000, 1_000_000_000_000);
+    let beyond = measured.outside
         | columns_beyond(geometry, relativity, ionosphere, troposphere, clock)
         | delays_beyond(int, cab, refdly, gd);
     if beyond {

@@ -1,4 +1,5 @@
 pub mod Laws
 pub mod Lists
+pub mod Scans
 pub mod Replies
 pub mod Blocks

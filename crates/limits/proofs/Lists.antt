@@ -15,22 +15,6 @@ use borrow.Author.Tests.{eqb-true, eq-eqb, not-false}
 use lib.Dec.{eqb}
 use Rattle.limits.specs.Lists.{miscounted, anyOutside, anyBeyond, rangeRule}
 
--- a loop that has found no number outside before place i has what is left to test
-module _ (low high : ℤ) (l : List ℤ) (i : ℕ) (so-far : anyOutside low high l ≡ anyOutside low high (drop i l)) where
-  step : i < length l → anyOutside low high l ≡ outside low high (getD l i (pos 0)) || anyOutside low high (drop (i + 1) l)
-  unfolding anyOutside
-  step h = so-far ∙ rw (add-one, drop-cons l i (pos 0) h)
-
-  pub found : i < length l → outside low high (getD l i (pos 0)) ≡ true → anyOutside low high l ≡ true
-  found h t = step h ∙ ap (λ (b : Bool). b || anyOutside low high (drop (i + 1) l)) t
-
-  pub passed : i < length l → outside low high (getD l i (pos 0)) ≡ false → anyOutside low high l ≡ anyOutside low high (drop (i + 1) l)
-  passed h t = step h ∙ ap (λ (b : Bool). b || anyOutside low high (drop (i + 1) l)) t
-
-  pub none-left : length l ≤ i → anyOutside low high l ≡ false
-  unfolding anyOutside
-  none-left h = so-far ∙ rw (drop-of-length-le l h)
-
 -- a list that passed has no number beyond the limit
 pub within-limit : (limit : ℕ) (l : List ℤ) → anyBeyond limit l ≡ false → (i : ℕ) → natAbs (getD l i (pos 0)) ≤ limit
 unfolding anyOutside

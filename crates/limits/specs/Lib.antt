@@ -3,3 +3,4 @@ pub mod Reply
 pub mod Limits
 pub mod Blocks
 pub mod Lists
+pub mod Scan

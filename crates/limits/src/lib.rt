@@ -6,6 +6,7 @@ ghost use Rattle.limits.specs.Refusal.{_when_, _then_};
 ghost use Rattle.limits.specs.Limits.{outside, limitsRule, dsgRule};
 ghost use Rattle.limits.specs.Blocks.{blocksFit};
 ghost use Rattle.limits.specs.Lists.{anyOutside};
+ghost use Rattle.limits.specs.Scan.{scanRule};
 
 // The ten numbers of a track, in their fixed order.
 pub struct Numbers {
@@ -49,18 +50,39 @@ pub fn blocks_fit(n: usize) -> bool
     (4 <= n) & (n <= 52)
 }
 
+// What the limit test on a list answers: whether some value is outside, and how many values it has read.
+pub struct Scanned {
+    pub outside: bool,
+    pub read: usize,
+}
+
+// Whether some value is outside low to high: it reads up to and with the first one outside, or all, and counts what it reads.
+pub fn scan(values: &[i64], low: i64, high: i64) -> Scanned
+    ensures { λ r. ⌜ r ≡ scanRule low high (now (values .entry)) ⌝ }
+{
+    let mut read = 0;
+    while read < values.len() {
+        let at = read;
+        read += 1;
+        if outside(low, high, values[at]) {
+            return Scanned {
+                outside: true,
+                read,
+            };
+        }
+    }
+    Scanned {
+        outside: false,
+        read,
+    }
+}
+
 // Whether some value is outside low to high.
 pub fn any_outside(values: &[i64], low: i64, high: i64) -> bool
     ensures { λ r. ⌜ r ≡ anyOutside low high (now (values .entry)) ⌝ }
 {
-    let mut i = 0;
-    while i < values.len() {
-        if outside(low, high, values[i]) {
-            return true;
-        }
-        i += 1;
-    }
-    false
+    let answer = scan(values, low, high);
+    answer.outside
 }
 
 // 3, 4 or 5 where one of the eight fitted numbers is outside its limits.

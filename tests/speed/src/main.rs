@@ -14,10 +14,12 @@ mod case;
 #[allow(dead_code)]
 #[path = "../../boundary/src/library.rs"]
 mod library;
+mod measurements;
 mod read_stages;
 mod stages;
 mod timing;
 
+use measurements::MEASUREMENTS;
 use read_stages::READ_STAGES;
 use reference::good::{good_comment, good_labels, good_numbers};
 use reference::seeded::Seeded;
@@ -101,6 +103,7 @@ fn main() {
         pair.agree(&blocks, Some(0));
         pair.whole(count, &blocks);
         pair.split(4 * count, &blocks, &STAGES);
+        pair.refused(4 * count, &blocks, &MEASUREMENTS);
     }
     let lines: Vec<Vec<u8>> = (0..10 * number).map(|_| a_line(&mut seeded)).collect();
     READ.agree(&lines, Some(0));

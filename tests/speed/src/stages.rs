@@ -23,12 +23,12 @@ pub const STAGES: [Stage; 6] = [
     stage("labels and start, text", 0, |_| {}),
 ];
 
-fn put(block: &mut [u8], at: usize, value: i64) {
+pub fn put(block: &mut [u8], at: usize, value: i64) {
     block[at..at + 8].copy_from_slice(&value.to_le_bytes());
 }
 
 /// The number of blocks of 15 seconds.
-fn blocks(block: &[u8]) -> usize {
+pub fn blocks(block: &[u8]) -> usize {
     block[2].into()
 }
 

@@ -98,9 +98,8 @@ impl<T: Clone + Default + PartialEq + Debug> Pair<T> {
         println!("  {:22} {:8.3} {:8.3} {:8.3}", "proved / plain Rust", ratio.least, ratio.median, ratio.most);
     }
 
-    /// What each stage costs more than the stage before it, by the least pass of each.
-    pub fn split(&self, count: usize, inputs: &[Vec<u8>], stages: &[Stage]) {
-        let inputs = &inputs[..inputs.len().min(STAGE_INPUTS)];
+    /// The least pass of each over inputs that are refused at each stage.
+    fn least_of(&self, count: usize, inputs: &[Vec<u8>], stages: &[Stage]) -> Vec<(f64, f64)> {
         let spoil = |stage: &Stage| {
             let mut spoilt = inputs.to_vec();
             spoilt.iter_mut().for_each(stage.spoil);
@@ -115,6 +114,23 @@ impl<T: Clone + Default + PartialEq + Debug> Pair<T> {
                 least.1 = self.pass(self.plain, spoilt).min(least.1);
             }
         }
+        least
+    }
+
+    /// What it costs to refuse at each stage.
+    pub fn refused(&self, count: usize, inputs: &[Vec<u8>], stages: &[Stage]) {
+        let inputs = &inputs[..inputs.len().min(STAGE_INPUTS)];
+        println!("{} that are refused: ns a {}", inputs.len(), self.input);
+        println!("  {:42} {:>8} {:>10}", "", "proved", "plain Rust");
+        for (stage, least) in stages.iter().zip(self.least_of(count, inputs, stages)) {
+            println!("  {:42} {:8.0} {:10.0}", stage.part, least.0, least.1);
+        }
+    }
+
+    /// What each stage costs more than the stage before it.
+    pub fn split(&self, count: usize, inputs: &[Vec<u8>], stages: &[Stage]) {
+        let inputs = &inputs[..inputs.len().min(STAGE_INPUTS)];
+        let least = self.least_of(count, inputs, stages);
         println!("the cost of each part, by {} that are refused behind it: ns a {}", inputs.len(), self.input);
         println!("  {:42} {:>8} {:>10}", "", "proved", "plain Rust");
         let mut before = (0.0, 0.0);

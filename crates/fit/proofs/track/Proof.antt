@@ -1,10 +1,12 @@
 -- `fit::track` meets its contract: its answer is the rule's, and so accurate where it is accepted.
 -- Assumes nothing.
 use mathlib.Core.Bool.{false, _||_}
-use mathlib.Core.Path.{_≡_, sym, ap₂, _∙_}
+use mathlib.Core.Path.{_≡_, sym, ap, ap₂, _∙_}
 use Prim.Native.Nat.{_^_}
 use mir.Facts.{toZ-ofZ}
 use Rattle.limits.specs.Limits.{beyond}
+use Rattle.limits.specs.Scan.{scanRule}
+use Rattle.limits.specs.declared.Scanned.{Scanned}
 use Rattle.exact.specs.Corrected.{Given}
 use Rattle.exact.specs.Accurate.{AccurateTrack}
 use Rattle.fit.specs.declared.Tracked.{Tracked}
@@ -33,23 +35,23 @@ sizes-fit c = sym (sizes-are (c .before)) ∙ c .if1 .left
 
 -- the delays are those that were passed
 delays-are : (c : tie.After-delays-beyond)
-    → let a = c .before .before .before .before .before .args in
+    → let a = c .before .before .before .before .before .before .args in
     c .delays-beyond .result
     ≡ beyond (10 ^ 10) (a .int) || beyond (10 ^ 10) (a .cab) || beyond (10 ^ 10) (a .refdly) || beyond (10 ^ 10) (a .gd)
 delays-are c =
-    let f = c .before .before .before .before .before .fits in
+    let f = c .before .before .before .before .before .before .fits in
     simp (toZ-ofZ (f .int), toZ-ofZ (f .cab), toZ-ofZ (f .refdly), toZ-ofZ (f .gd)) at (c .delays-beyond .ensures)
 
 -- and so are the numbers' limits
 limits-are : (c : tie.After-delays-beyond)
-    → let k = c .before in
+    → let k = c .before .before in
     let o = k .before in
-    o .any-outside .result || k .columns-beyond .result || c .delays-beyond .result ≡ outOfLimits (g (o .before .before .before))
-unfolding outOfLimits
+    o .scan .result .outside || k .columns-beyond .result || c .delays-beyond .result ≡ outOfLimits (g (o .before .before .before))
+unfolding outOfLimits scanRule
 limits-are c =
-    let k = c .before in
+    let k = c .before .before in
     let o = k .before in
-    ap₂ _||_ (ap₂ _||_ (o .any-outside .ensures) (k .columns-beyond .ensures)) (delays-are c)
+    ap₂ _||_ (ap₂ _||_ (ap (λ (s : Scanned). s .outside) (o .scan .ensures)) (k .columns-beyond .ensures)) (delays-are c)
 
 -- both clauses, from the answer
 both : (s : tie.Start) (t : Tracked) → t ≡ trackRule (g s)
@@ -68,8 +70,8 @@ returns c =
     both (n .before) (c .refused .result)
     (c .refused .ensures ∙ sym (sizes-refused (g (n .before)) (sym (sizes-are n) ∙ c .before .if1 .taken)))
 
-any-outside-requires : tie.Need-any-outside-requires
-any-outside-requires c κs = search needs
+scan-requires : tie.Need-scan-requires
+scan-requires c κs = search needs
 
 columns-beyond-requires : tie.Need-columns-beyond-requires
 columns-beyond-requires c κs = search needs
@@ -83,20 +85,20 @@ refused-requires-2 c κs = search needs
 returns-2 : tie.Need-returns-2
 returns-2 c =
     let n = c .before .before in
-    let e = n .before .before .before in
+    let e = n .before .before .before .before in
     let s = e .before .before in
     both s (c .refused2 .result)
     (c .refused2 .ensures ∙ sym (limits-refused (g s) (sizes-fit e) (sym (limits-are n) ∙ c .before .if2 .taken)))
 
 corrected-track-requires : tie.Need-corrected-track-requires
 corrected-track-requires c κs =
-    let e = c .before .before .before .before in
+    let e = c .before .before .before .before .before in
     let f = e .before .before .fits in
     simp (toZ-ofZ (f .int), toZ-ofZ (f .cab), toZ-ofZ (f .refdly), toZ-ofZ (f .gd)) (sizes-fit e, sym (limits-are (c .before)) ∙ c .if2 .left)
 
 returns-3 : tie.Need-returns-3
 returns-3 c =
-    let s = c .before .before .before .before .before .before .before in
+    let s = c .before .before .before .before .before .before .before .before in
     let f = s .fits in
     both s (c .corrected-track .result)
     (simp (toZ-ofZ (f .int), toZ-ofZ (f .cab), toZ-ofZ (f .refdly), toZ-ofZ (f .gd)) at (c .corrected-track .ensures))
@@ -108,7 +110,7 @@ track-spec =
     sizes-wrong-requires
     refused-requires
     returns
-    any-outside-requires
+    scan-requires
     columns-beyond-requires
     delays-beyond-requires
     refused-requires-2
