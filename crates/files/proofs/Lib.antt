@@ -1,0 +1,5 @@
+pub mod Keys
+pub mod Ascending
+pub mod Steps
+pub mod Lines
+pub mod Ranks
