@@ -2,7 +2,7 @@
 -- Assumes nothing.
 use mathlib.Core.Path.{_≡_, refl, sym, ap, ap₂, _∙_}
 use mathlib.Core.List.{List, [], _∷_, _++_}
-use Prim.Native.Nat.{ℕ, zero, suc, _+_, _*_, _/_, _%_, _≤_, _<_}
+use Prim.Native.Nat.{ℕ, zero, suc, _+_, _-_, _*_, _/_, _%_, _≤_, _<_}
 use native.Mathlib.Nat.{not-suc-le-zero, le-of-suc-le-suc, mul-div-cancel-left}
 use native.Mathlib.Omega.{arith}
 use lib.Dec.{eqb, lit<}
@@ -44,6 +44,14 @@ line-in (suc n) bytes (suc i) h =
 pub line-at : (file : List ℕ) (i : ℕ) → i < length file / endedLength → getD (lines file) i [] ≡ take endedLength (drop (endedLength * i) file)
 unfolding lines
 line-at file i h = line-in (length file / endedLength) file i h
+
+-- the same as the part of the file that is lent
+pub line-part : (file : List ℕ) (i : ℕ) → i < length file / endedLength
+    → take (endedLength * i + endedLength - endedLength * i) (drop (endedLength * i) file) ≡ getD (lines file) i []
+line-part file i h = ap (λ (n : ℕ). take n (drop (endedLength * i) file)) (width i) ∙ sym (line-at file i h)
+  where
+    width : (i : ℕ) → endedLength * i + endedLength - endedLength * i ≡ endedLength
+    width i = omega arith
 
 long-in : (n : ℕ) (bytes : List ℕ) → endedLength * n ≤ length bytes → All Long (linesIn n bytes)
 unfolding linesIn

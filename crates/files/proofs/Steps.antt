@@ -12,7 +12,6 @@ use lib.Seq.{drop-cons, drop-drop}
 use borrow.Author.Tests.{ltb-true, ltb-false, le-leb, lt-leb, eq-eqb, ne-eqb}
 use Rattle.files.specs.Files.{same, keys, before}
 use Rattle.files.specs.Merge.{partnersOf, partners, anyDiffer, inserted, merged}
-use Rattle.files.specs.Walk.{rank}
 use Rattle.files.proofs.Keys.{Order, below, level, above, order, before-asym, before-apart, before-trans}
 use Rattle.files.proofs.Ascending.{Ascending, All, Behind, all-map, ascending-from, all-behind}
 
@@ -133,29 +132,28 @@ module _ (x y : List ℕ) (xs ys : List (List ℕ)) (ax : Ascending (keys x) xs)
       (partners-none x ys (all-behind (keys x) ys (subst (λ (k : List ℕ). Ascending k ys) (sym e) ay)))
       (partners-under y xs ys (apart-behind y xs (subst (λ (k : List ℕ). Ascending k xs) e ax))))
 
-  -- the same by the ranks of the two lines, where these are in the order of their keys
-  module _ (r : before (keys x) (keys y) ≡ ltb (rank x) (rank y)) (s : before (keys y) (keys x) ≡ ltb (rank y) (rank x)) where
-    pub record Step (u v w : Bool) : Type 0 where
+  -- the same by two numbers that are in the order of the keys
+  module _ (p q : ℕ) (r : before (keys x) (keys y) ≡ ltb p q) (s : before (keys y) (keys x) ≡ ltb q p) where
+    pub record Passed (u v w : Bool) : Type 0 where
       pub lines : merged (x ∷ xs) (y ∷ ys) ≡ cond u x y ∷ merged (drop (cond u 1 0) (x ∷ xs)) (drop (cond v 1 0) (y ∷ ys))
       pub pairs : partners (x ∷ xs) (y ∷ ys) ≡ cond w ((x, y) ∷ []) [] ++ partners (drop (cond u 1 0) (x ∷ xs)) (drop (cond v 1 0) (y ∷ ys))
 
-    pub step : Step (leb (rank x) (rank y)) (leb (rank y) (rank x)) (eqb (rank x) (rank y))
-    step = by-order (order (keys x) (keys y))
+    pub passed : Passed (leb p q) (leb q p) (eqb p q)
+    passed = by-order (order (keys x) (keys y))
       where
-        at : {u v w : Bool} → leb (rank x) (rank y) ≡ u → leb (rank y) (rank x) ≡ v → eqb (rank x) (rank y) ≡ w → Step u v w
-            → Step (leb (rank x) (rank y)) (leb (rank y) (rank x)) (eqb (rank x) (rank y))
+        at : {u v w : Bool} → leb p q ≡ u → leb q p ≡ v → eqb p q ≡ w → Passed u v w → Passed (leb p q) (leb q p) (eqb p q)
         at e f g t = rw (e, f, g) t
 
-        less : {m n : ℕ} → m < n → m ≡ n → ⊥
-        less h e = omega arith
+        apart : {m n : ℕ} → m < n → m ≡ n → ⊥
+        apart h e = omega arith
 
-        by-order : Order (keys x) (keys y) → Step (leb (rank x) (rank y)) (leb (rank y) (rank x)) (eqb (rank x) (rank y))
-        by-order (below p q t) =
-            let h = ltb-true (rank x) (rank y) (sym r ∙ p) in
-            at (le-leb _ _ (le-of-lt h)) (lt-leb _ _ h) (ne-eqb _ _ (less h)) (record { lines = below-merged p; pairs = below-partners p })
-        by-order (level e p q t) =
-            let h = le-antisymm (ltb-false (rank y) (rank x) (sym s ∙ q)) (ltb-false (rank x) (rank y) (sym r ∙ p)) in
-            at (le-leb _ _ (le-of-eq h)) (le-leb _ _ (le-of-eq (sym h))) (eq-eqb _ _ h) (record { lines = level-merged e p q; pairs = level-partners e t })
-        by-order (above p q t) =
-            let h = ltb-true (rank y) (rank x) (sym s ∙ p) in
-            at (lt-leb _ _ h) (le-leb _ _ (le-of-lt h)) (ne-eqb _ _ (λ e. less h (sym e))) (record { lines = above-merged p; pairs = above-partners p })
+        by-order : Order (keys x) (keys y) → Passed (leb p q) (leb q p) (eqb p q)
+        by-order (below b c d) =
+            let h = ltb-true p q (sym r ∙ b) in
+            at (le-leb p q (le-of-lt h)) (lt-leb q p h) (ne-eqb p q (apart h)) (record { lines = below-merged b; pairs = below-partners b })
+        by-order (level e b c d) =
+            let h = le-antisymm (ltb-false q p (sym s ∙ c)) (ltb-false p q (sym r ∙ b)) in
+            at (le-leb p q (le-of-eq h)) (le-leb q p (le-of-eq (sym h))) (eq-eqb p q h) (record { lines = level-merged e b c; pairs = level-partners e d })
+        by-order (above b c d) =
+            let h = ltb-true q p (sym s ∙ b) in
+            at (lt-leb p q h) (le-leb q p (le-of-lt h)) (ne-eqb p q (λ e. apart h (sym e))) (record { lines = above-merged b; pairs = above-partners b })

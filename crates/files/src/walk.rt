@@ -8,7 +8,7 @@ ghost use lib.ListN.{length, drop};
 ghost use Rattle.columns.specs.Placed.{placed};
 ghost use Rattle.files.specs.Files.{endedLength, lines, same, fileNumber};
 ghost use Rattle.files.specs.Merge.{partners, anyDiffer, mergedFile};
-ghost use Rattle.files.specs.Walk.{lineAt};
+ghost use Rattle.files.specs.Walk.{lineAt, Stepped};
 use super::rank::rank_at;
 
 const LINE: usize = 115;
@@ -19,10 +19,36 @@ pub struct Measured {
     pub bytes: usize,
 }
 
+// Where a walk goes on: behind the earlier of two lines, or behind both where they have the same keys.
+pub struct Next {
+    pub earlier: bool,
+    pub level: bool,
+    pub m: usize,
+    pub n: usize,
+}
+
 fn unit(b: bool) -> usize
     ensures { λ r. ⌜ r ≡ cond b 1 0 ⌝ }
 {
     if b { 1 } else { 0 }
+}
+
+// The step from line m of the first file and line n of the second.
+fn step(first: &[u8], m: usize, second: &[u8], n: usize) -> Next
+    requires { ⌜ fileNumber (now first) ≡ 0 ⌝ }
+    requires { ⌜ fileNumber (now second) ≡ 0 ⌝ }
+    requires { ⌜ m < length (now first) / endedLength ⌝ }
+    requires { ⌜ n < length (now second) / endedLength ⌝ }
+    ensures { λ r. ⌜ Stepped (lines (now (first .entry))) (lines (now (second .entry))) m n r ⌝ }
+{
+    let p = rank_at(first, m);
+    let q = rank_at(second, n);
+    Next {
+        earlier: p <= q,
+        level: p == q,
+        m: m + unit(p <= q),
+        n: n + unit(q <= p),
+    }
 }
 
 // Whether two lines differ.
@@ -44,12 +70,12 @@ fn partners_differ(first: &[u8], m: usize, second: &[u8], n: usize, level: bool)
     requires { ⌜ n < length (now second) / endedLength ⌝ }
     ensures { λ r. ⌜ r ≡ level && not (same (lineAt (now (first .entry)) m) (lineAt (now (second .entry)) n)) ⌝ }
 {
-    if !level {
-        return false;
+    if level {
+        let at = LINE * m;
+        let to = LINE * n;
+        return differ(&first[at..at + LINE], &second[to..to + LINE]);
     }
-    let at = LINE * m;
-    let to = LINE * n;
-    differ(&first[at..at + LINE], &second[to..to + LINE])
+    false
 }
 
 pub fn measure(first: &[u8], second: &[u8]) -> Measured
@@ -65,11 +91,10 @@ pub fn measure(first: &[u8], second: &[u8]) -> Measured
     let mut m = 0;
     let mut n = 0;
     while (m < a) & (n < b) {
-        let p = rank_at(first, m);
-        let q = rank_at(second, n);
-        found = found | partners_differ(first, m, second, n, p == q);
-        m += unit(p <= q);
-        n += unit(q <= p);
+        let next = step(first, m, second, n);
+        found = found | partners_differ(first, m, second, n, next.level);
+        m = next.m;
+        n = next.n;
         count += 1;
     }
     Measured {
@@ -123,11 +148,10 @@ pub fn write(first: &[u8], second: &[u8], file: &mut [u8])
     let mut m = 0;
     let mut n = 0;
     while (m < a) & (n < b) {
-        let p = rank_at(first, m);
-        let q = rank_at(second, n);
-        put_line(first, m, second, n, p <= q, file, k);
-        m += unit(p <= q);
-        n += unit(q <= p);
+        let next = step(first, m, second, n);
+        put_line(first, m, second, n, next.earlier, file, k);
+        m = next.m;
+        n = next.n;
         k += 1;
     }
     put(&first[LINE * m..], file, LINE * k);
