@@ -6,3 +6,4 @@ pub mod Ranks
 pub mod Judging
 pub mod Written
 pub mod Walking
+pub mod Replies

@@ -1,9 +1,9 @@
 -- A walk over the lines of two files: its steps, and its end.
 -- Assumes nothing.
 use mathlib.Core.Path.{_≡_, refl, sym, ap, ap₂, subst, _∙_}
-use mathlib.Core.Bool.{Bool, true, false, cond, not, _&&_, _||_, true≢false}
+use mathlib.Core.Bool.{Bool, true, false, cond, not, _&&_, _||_, true≢false, or-false}
 use mathlib.Core.List.{List, [], _∷_, _++_, append-assoc, append-nil}
-use Prim.Native.Nat.{ℕ, zero, suc, _+_, _-_, _*_, _≤_, _<_}
+use Prim.Native.Nat.{ℕ, zero, suc, _+_, _-_, _*_, _/_, _≤_, _<_}
 use native.Mathlib.Omega.{arith}
 use lib.Dec.{ltb, leb, eqb}
 use lib.ListN.{length, drop, getD, length-append, length-drop, drop-of-length-le}
@@ -11,12 +11,12 @@ use lib.Seq.{drop-cons, drop-drop}
 use borrow.Author.Tests.{ltb-true, ltb-false, leb-true, leb-false}
 use Rattle.columns.specs.Placed.{placed}
 use Rattle.files.specs.declared.walk.Next.{Next}
-use Rattle.files.specs.Files.{endedLength, same, keys, before}
-use Rattle.files.specs.Merge.{partners, anyDiffer, merged, joined}
+use Rattle.files.specs.Files.{endedLength, lines, same, keys, before}
+use Rattle.files.specs.Merge.{partners, anyDiffer, merged, joined, mergedFile}
 use Rattle.files.specs.Walk.{rank, Stepped}
 use Rattle.files.proofs.Ascending.{Ascending, All, Accepted, all-drop, ascending-drop}
 use Rattle.files.proofs.Steps.{Passed, passed, all-merged, merged-nothing, partners-nothing}
-use Rattle.files.proofs.Lines.{Long, length-joined}
+use Rattle.files.proofs.Lines.{Long, LineFile, length-lines, lines-long, length-joined, rest-lines}
 use Rattle.files.proofs.Ranks.{rank-before}
 use Rattle.files.proofs.Written.{Written, room, more-written}
 
@@ -78,10 +78,6 @@ module _ (xs ys : List (List ℕ)) (ax : Ascending [] xs) (px : All Accepted xs)
       back-y v {c} e = ap₂ drop (sym e) (sym dy) ∙ drop-drop v n ys
 
 -- ---- its end
-
-pub inside : (a b : Bool) → a && b ≡ true → (a ≡ true) × (b ≡ true)
-inside true b e = (refl, e)
-inside false b e = absurd (true≢false (sym e))
 
 module _ (xs ys : List (List ℕ)) (m n : ℕ) (e : ltb m (length xs) && ltb n (length ys) ≡ false) where
   pub end-lines : Ascending [] xs → merged (drop m xs) (drop n ys) ≡ drop m xs ++ drop n ys
@@ -166,7 +162,42 @@ module _ (xs ys : List (List ℕ)) (m n : ℕ) (next : Next) (s : Stepped xs ys 
           further : (k : ℕ) {n : ℕ} → n ≡ endedLength → endedLength * k + n ≡ endedLength * (k + 1)
           further k e = omega arith
 
-pub joined-append : (xs ys : List (List ℕ)) → joined (xs ++ ys) ≡ joined xs ++ joined ys
+joined-append : (xs ys : List (List ℕ)) → joined (xs ++ ys) ≡ joined xs ++ joined ys
 unfolding joined
 joined-append [] ys = refl
 joined-append (x ∷ xs) ys = ap (λ (t : List ℕ). x ++ t) (joined-append xs ys) ∙ sym (append-assoc x (joined xs) (joined ys))
+
+-- ---- two files
+
+pub merged-long : (first second : List ℕ) → All Long (merged (lines first) (lines second))
+merged-long first second = all-merged Long (lines first) (lines second) (lines-long first) (lines-long second)
+
+pub length-merged : (first second : List ℕ) → length (mergedFile first second) ≡ endedLength * length (merged (lines first) (lines second))
+unfolding mergedFile
+length-merged first second = length-joined (merged (lines first) (lines second)) (merged-long first second)
+
+module _ (first second : List ℕ) (f : LineFile first) (g : LineFile second) (m n : ℕ)
+    (e : ltb m (length first / endedLength) && ltb n (length second / endedLength) ≡ false) where
+  ended-test : ltb m (length (lines first)) && ltb n (length (lines second)) ≡ false
+  ended-test = rw (length-lines first, length-lines second) e
+
+  pub end-length : length (merged (drop m (lines first)) (drop n (lines second))) ≡ length first / endedLength - m + (length second / endedLength - n)
+  end-length =
+      ap length (end-lines (lines first) (lines second) m n ended-test (f .ascends))
+      ∙ length-append (drop m (lines first)) (drop n (lines second))
+      ∙ ap₂ _+_ (rest first m) (rest second n)
+    where
+      rest : (file : List ℕ) (i : ℕ) → length (drop i (lines file)) ≡ length file / endedLength - i
+      rest file i = length-drop i (lines file) ∙ ap (λ (k : ℕ). k - i) (length-lines file)
+
+  pub end-differ : {found all : Bool} → all ≡ found || anyDiffer (partners (drop m (lines first)) (drop n (lines second))) → found ≡ all
+  unfolding anyDiffer
+  end-differ {found} t =
+      sym (t ∙ ap (λ (p : List (List ℕ × List ℕ)). found || anyDiffer p) (end-pairs (lines first) (lines second) m n ended-test) ∙ or-false found)
+
+  -- what is left to write are the rests of the two files
+  pub end-text : joined (merged (drop m (lines first)) (drop n (lines second))) ≡ drop (endedLength * m) first ++ drop (endedLength * n) second
+  end-text =
+      ap joined (end-lines (lines first) (lines second) m n ended-test (f .ascends))
+      ∙ joined-append (drop m (lines first)) (drop n (lines second))
+      ∙ ap₂ _++_ (rest-lines first f m) (rest-lines second g n)

@@ -1,6 +1,6 @@
 -- Text written into a lent file, one piece behind the other.
 -- Assumes nothing.
-use mathlib.Core.Path.{_≡_, refl, sym, ap, ap₂, _∙_}
+use mathlib.Core.Path.{_≡_, refl, sym, ap, ap₂, subst, _∙_}
 use mathlib.Core.List.{List, [], _∷_, _++_, append-assoc, append-nil}
 use Prim.Native.Nat.{ℕ, _+_, _-_, _≤_}
 use native.Mathlib.Nat.{zero-add, le-of-eq}
@@ -57,3 +57,11 @@ module _ {whole lent file : List ℕ} {at : ℕ} (fits : length whole ≤ length
   all-written w =
       let t : w .text ≡ whole = sym (append-nil (w .text)) ∙ w .all in
       w .is ∙ ap₂ (λ (x : List ℕ) (n : ℕ). x ++ drop n lent) t (zero-add (length (w .text)) ∙ ap length t)
+
+-- what is left is written in two pieces
+pub rests-written : {whole lent file after last : List ℕ} {at : ℕ} (rest behind : List ℕ) → length whole ≤ length lent
+    → Written whole lent file at (rest ++ behind) → after ≡ placed file at rest → last ≡ placed after (at + length rest) behind
+    → last ≡ whole ++ drop (length whole) lent
+rests-written {whole} {lent} {file} {after} {last} {at} rest behind fits w e f =
+    all-written fits
+    (more-written fits behind (subst (Written whole lent after (at + length rest)) (sym (append-nil behind)) (more-written fits rest w e)) f)

@@ -28,7 +28,7 @@ pub struct Next {
 }
 
 fn unit(b: bool) -> usize
-    ensures { λ r. ⌜ r ≡ cond b 1 0 ⌝ }
+    ensures { λ r. ⌜ (r ≡ cond b 1 0) × (r ≤ 1) ⌝ }
 {
     if b { 1 } else { 0 }
 }
@@ -136,6 +136,16 @@ fn put_line(
     }
 }
 
+// Puts all lines of a file from line i on into the lent file, from place k on.
+fn put_rest(source: &[u8], i: usize, file: &mut [u8], k: usize)
+    requires { ⌜ endedLength * i ≤ length (now source) ⌝ }
+    requires { ⌜ endedLength * k + length (drop (endedLength * i) (now source)) ≤ length (now file) ⌝ }
+    ensures { λ _. ⌜ now (file .exit) ≡ placed (now (file .entry)) (endedLength * k) (drop (endedLength * i) (now (source .entry))) ⌝ }
+{
+    let at = LINE * i;
+    put(&source[at..], file, LINE * k);
+}
+
 pub fn write(first: &[u8], second: &[u8], file: &mut [u8])
     requires { ⌜ fileNumber (now first) ≡ 0 ⌝ }
     requires { ⌜ fileNumber (now second) ≡ 0 ⌝ }
@@ -154,6 +164,6 @@ pub fn write(first: &[u8], second: &[u8], file: &mut [u8])
         n = next.n;
         k += 1;
     }
-    put(&first[LINE * m..], file, LINE * k);
-    put(&second[LINE * n..], file, LINE * (k + (a - m)));
+    put_rest(first, m, file, k);
+    put_rest(second, n, file, k + (a - m));
 }

@@ -1,0 +1,63 @@
+-- What merge answers, and what stands in the lent file afterwards (specs/Merge.antt), where it is refused and where it is not.
+-- Assumes nothing.
+use mathlib.Core.Path.{_≡_, sym, ap, _∙_}
+use mathlib.Core.List.{List, _++_}
+use Prim.Native.Nat.{ℕ, _≤_, _<_}
+use native.Mathlib.Omega.{arith}
+use lib.Dec.{ltb}
+use lib.ListN.{length, drop}
+use borrow.Author.Tests.{eq-eqb, ne-eqb, ltb-false}
+use Rattle.limits.specs.Refusal.{_when_, _then_}
+use Rattle.limits.specs.Reply.{reply}
+use Rattle.limits.proofs.Laws.{then-zero, then-refused, then-passed, then-assoc, when-zero}
+use Rattle.limits.proofs.Replies.{reply-accepted, reply-refused}
+use Rattle.files.specs.Files.{lines, fileNumber}
+use Rattle.files.specs.Merge.{partners, anyDiffer, mergedFile, mergeNumber, mergeRule, mergeAfter}
+
+module _ (first second lent : List ℕ) where
+  -- 15 and 17, which are tried where both files are accepted
+  abbrev pub resultNumber : ℕ
+  resultNumber =
+      15 when anyDiffer (partners (lines first) (lines second)) then 17 when ltb (length lent) (length (mergedFile first second))
+
+  -- the answer and the lent file of a refusal
+  refused : {number : ℕ} → number ≡ mergeNumber first second (length lent) → 0 < number
+      → (record { number = number; values = 0 } ≡ mergeRule first second (length lent)) × ((0 < number) × (lent ≡ mergeAfter first second lent))
+  unfolding mergeRule mergeAfter
+  refused {number} e h = (
+    sym (ap (λ (n : ℕ). reply 0 n (length (mergedFile first second))) (sym e) ∙ reply-refused 0 (length (mergedFile first second)) h),
+    (h, sym (simp (ne-eqb (mergeNumber first second (length lent)) 0 (other e h)))),
+  )
+    where
+      other : {m n : ℕ} → m ≡ n → 0 < m → n ≡ 0 → ⊥
+      other e h z = omega arith
+
+  pub files-refused : {number : ℕ} → number ≡ fileNumber first then fileNumber second → 0 < number
+      → (record { number = number; values = 0 } ≡ mergeRule first second (length lent)) × ((0 < number) × (lent ≡ mergeAfter first second lent))
+  unfolding mergeNumber
+  files-refused {number} e h =
+      refused
+      (sym (sym (then-assoc (fileNumber first) (fileNumber second) resultNumber) ∙ ap (λ (n : ℕ). n then resultNumber) (sym e) ∙ then-refused number resultNumber h))
+      h
+
+  module _ (z : fileNumber first then fileNumber second ≡ 0) where
+    number-is : mergeNumber first second (length lent) ≡ resultNumber
+    unfolding mergeNumber
+    number-is =
+        sym (then-assoc (fileNumber first) (fileNumber second) resultNumber) ∙ then-passed _ resultNumber z
+
+    pub result-refused : {number : ℕ} → number ≡ resultNumber → 0 < number
+        → (record { number = number; values = 0 } ≡ mergeRule first second (length lent)) × ((0 < number) × (lent ≡ mergeAfter first second lent))
+    result-refused e h = refused (e ∙ sym number-is) h
+
+    pub result-fits : resultNumber ≡ 0 → length (mergedFile first second) ≤ length lent
+    result-fits e = ltb-false (length lent) (length (mergedFile first second)) (when-zero 16 _ (then-zero _ _ e .1))
+
+    pub result-written : {bytes : ℕ} {after : List ℕ} → resultNumber ≡ 0 → bytes ≡ length (mergedFile first second)
+        → after ≡ mergedFile first second ++ drop (length (mergedFile first second)) lent
+        → (record { number = 0; values = bytes } ≡ mergeRule first second (length lent)) × (Unit {0} × (after ≡ mergeAfter first second lent))
+    unfolding mergeRule mergeAfter
+    result-written e b w = (
+      ap (λ (n : ℕ). record { number = 0; values = n }) b ∙ sym (reply-accepted 0 (length (mergedFile first second)) (number-is ∙ e)),
+      (tt, w ∙ sym (simp (eq-eqb (mergeNumber first second (length lent)) 0 (number-is ∙ e)))),
+    )
