@@ -7,3 +7,5 @@ pub mod Judging
 pub mod Written
 pub mod Walking
 pub mod Replies
+pub mod Merging
+pub mod MergedFiles

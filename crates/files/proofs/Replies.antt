@@ -14,12 +14,18 @@ use Rattle.limits.proofs.Replies.{reply-accepted, reply-refused}
 use Rattle.files.specs.Files.{lines, fileNumber}
 use Rattle.files.specs.Merge.{partners, anyDiffer, mergedFile, mergeNumber, mergeRule, mergeAfter}
 
-module _ (first second lent : List ℕ) where
-  -- 15 and 17, which are tried where both files are accepted
-  abbrev pub resultNumber : ℕ
-  resultNumber =
-      15 when anyDiffer (partners (lines first) (lines second)) then 17 when ltb (length lent) (length (mergedFile first second))
+-- 15 and 17, which are tried where both files are accepted
+abbrev pub resultNumber : (first second : List ℕ) (room : ℕ) → ℕ
+resultNumber first second room =
+    15 when anyDiffer (partners (lines first) (lines second)) then 17 when ltb room (length (mergedFile first second))
 
+pub number-is : (first second : List ℕ) (room : ℕ) → fileNumber first then fileNumber second ≡ 0
+    → mergeNumber first second room ≡ resultNumber first second room
+unfolding mergeNumber
+number-is first second room z =
+    sym (then-assoc (fileNumber first) (fileNumber second) (resultNumber first second room)) ∙ then-passed _ (resultNumber first second room) z
+
+module _ (first second lent : List ℕ) where
   -- the answer and the lent file of a refusal
   refused : {number : ℕ} → number ≡ mergeNumber first second (length lent) → 0 < number
       → (record { number = number; values = 0 } ≡ mergeRule first second (length lent)) × ((0 < number) × (lent ≡ mergeAfter first second lent))
@@ -37,27 +43,22 @@ module _ (first second lent : List ℕ) where
   unfolding mergeNumber
   files-refused {number} e h =
       refused
-      (sym (sym (then-assoc (fileNumber first) (fileNumber second) resultNumber) ∙ ap (λ (n : ℕ). n then resultNumber) (sym e) ∙ then-refused number resultNumber h))
+      (sym (sym (then-assoc (fileNumber first) (fileNumber second) (resultNumber first second (length lent))) ∙ ap (λ (n : ℕ). n then resultNumber first second (length lent)) (sym e) ∙ then-refused number (resultNumber first second (length lent)) h))
       h
 
   module _ (z : fileNumber first then fileNumber second ≡ 0) where
-    number-is : mergeNumber first second (length lent) ≡ resultNumber
-    unfolding mergeNumber
-    number-is =
-        sym (then-assoc (fileNumber first) (fileNumber second) resultNumber) ∙ then-passed _ resultNumber z
-
-    pub result-refused : {number : ℕ} → number ≡ resultNumber → 0 < number
+    pub result-refused : {number : ℕ} → number ≡ resultNumber first second (length lent) → 0 < number
         → (record { number = number; values = 0 } ≡ mergeRule first second (length lent)) × ((0 < number) × (lent ≡ mergeAfter first second lent))
-    result-refused e h = refused (e ∙ sym number-is) h
+    result-refused e h = refused (e ∙ sym (number-is first second (length lent) z)) h
 
-    pub result-fits : resultNumber ≡ 0 → length (mergedFile first second) ≤ length lent
+    pub result-fits : resultNumber first second (length lent) ≡ 0 → length (mergedFile first second) ≤ length lent
     result-fits e = ltb-false (length lent) (length (mergedFile first second)) (when-zero 16 _ (then-zero _ _ e .1))
 
-    pub result-written : {bytes : ℕ} {after : List ℕ} → resultNumber ≡ 0 → bytes ≡ length (mergedFile first second)
+    pub result-written : {bytes : ℕ} {after : List ℕ} → resultNumber first second (length lent) ≡ 0 → bytes ≡ length (mergedFile first second)
         → after ≡ mergedFile first second ++ drop (length (mergedFile first second)) lent
         → (record { number = 0; values = bytes } ≡ mergeRule first second (length lent)) × (Unit {0} × (after ≡ mergeAfter first second lent))
     unfolding mergeRule mergeAfter
     result-written e b w = (
-      ap (λ (n : ℕ). record { number = 0; values = n }) b ∙ sym (reply-accepted 0 (length (mergedFile first second)) (number-is ∙ e)),
-      (tt, w ∙ sym (simp (eq-eqb (mergeNumber first second (length lent)) 0 (number-is ∙ e)))),
+      ap (λ (n : ℕ). record { number = 0; values = n }) b ∙ sym (reply-accepted 0 (length (mergedFile first second)) (number-is first second (length lent) z ∙ e)),
+      (tt, w ∙ sym (simp (eq-eqb (mergeNumber first second (length lent)) 0 (number-is first second (length lent) z ∙ e)))),
     )

@@ -110,7 +110,7 @@ module _ (x y : List ℕ) (xs ys : List (List ℕ)) (ax : Ascending (keys x) xs)
   above-merged : before (keys y) (keys x) ≡ true → merged (x ∷ xs) (y ∷ ys) ≡ y ∷ merged (x ∷ xs) ys
   above-merged h = merged-under y (x ∷ xs) ys (h, ax)
 
-  level-merged : keys x ≡ keys y → before (keys x) (keys y) ≡ false → before (keys y) (keys x) ≡ false
+  pub level-merged : keys x ≡ keys y → before (keys x) (keys y) ≡ false → before (keys y) (keys x) ≡ false
       → merged (x ∷ xs) (y ∷ ys) ≡ x ∷ merged xs ys
   unfolding merged inserted
   level-merged e p q =
@@ -124,7 +124,7 @@ module _ (x y : List ℕ) (xs ys : List (List ℕ)) (ax : Ascending (keys x) xs)
   above-partners : before (keys y) (keys x) ≡ true → partners (x ∷ xs) (y ∷ ys) ≡ partners (x ∷ xs) ys
   above-partners h = partners-under y (x ∷ xs) ys (apart-behind y (x ∷ xs) (h, ax))
 
-  level-partners : keys x ≡ keys y → same (keys x) (keys y) ≡ true → partners (x ∷ xs) (y ∷ ys) ≡ (x, y) ∷ partners xs ys
+  pub level-partners : keys x ≡ keys y → same (keys x) (keys y) ≡ true → partners (x ∷ xs) (y ∷ ys) ≡ (x, y) ∷ partners xs ys
   unfolding partners partnersOf
   level-partners e s =
       rw s

@@ -1,7 +1,7 @@
 -- A walk over the lines of two files: its steps, and its end.
 -- Assumes nothing.
 use mathlib.Core.Path.{_≡_, refl, sym, ap, ap₂, subst, _∙_}
-use mathlib.Core.Bool.{Bool, true, false, cond, not, _&&_, _||_, true≢false, or-false}
+use mathlib.Core.Bool.{Bool, true, false, cond, not, _&&_, _||_, or-false, or-assoc}
 use mathlib.Core.List.{List, [], _∷_, _++_, append-assoc, append-nil}
 use Prim.Native.Nat.{ℕ, zero, suc, _+_, _-_, _*_, _/_, _≤_, _<_}
 use native.Mathlib.Omega.{arith}
@@ -107,10 +107,6 @@ unfolding anyDiffer
 differ-more true x y pairs = refl
 differ-more false x y pairs = refl
 
-or-assoc : (a b c : Bool) → a || (b || c) ≡ (a || b) || c
-or-assoc true b c = refl
-or-assoc false b c = refl
-
 module _ (xs ys : List (List ℕ)) (m n : ℕ) (next : Next) (s : Stepped xs ys m n next) where
   pub found-more : (found : Bool) {differ all : Bool} → all ≡ found || anyDiffer (partners (drop m xs) (drop n ys))
       → differ ≡ next .level && not (same (getD xs m []) (getD ys n []))
@@ -119,7 +115,7 @@ module _ (xs ys : List (List ℕ)) (m n : ℕ) (next : Next) (s : Stepped xs ys 
       let left = anyDiffer (partners (drop (next .m) xs) (drop (next .n) ys)) in
       e
       ∙ ap (λ (b : Bool). found || b) (ap anyDiffer (s .pairs) ∙ differ-more (next .level) _ _ _ ∙ ap (λ (b : Bool). b || left) (sym d))
-      ∙ or-assoc found differ left
+      ∙ sym (or-assoc found differ left)
 
   pub count-more : (count : ℕ) {all : ℕ} → all ≡ count + length (merged (drop m xs) (drop n ys))
       → all ≡ count + 1 + length (merged (drop (next .m) xs) (drop (next .n) ys))

@@ -31,7 +31,7 @@ files-accepted c = sym (files-number (c .before)) ∙ c .if1 .left
 
 result-number : (c : tie.After-then2)
     → let a = c .before .before .before .before .before .before .before .before .before .before .before .args in
-    c .then2 .result ≡ resultNumber (a .first .now) (a .second .now) (a .file .now)
+    c .then2 .result ≡ resultNumber (a .first .now) (a .second .now) (length (a .file .now))
 result-number c =
     let m = c .before .before .before .measure .ensures in
     let a = c .before .before .before .before .before .before .before .before .before .before .before .args in
