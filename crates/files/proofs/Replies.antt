@@ -1,6 +1,6 @@
 -- What merge answers, and what stands in the lent file afterwards (specs/Merge.antt), where it is refused and where it is not.
 -- Assumes nothing.
-use mathlib.Core.Path.{_≡_, sym, ap, _∙_}
+use mathlib.Core.Path.{_≡_, sym, ap, subst, _∙_}
 use mathlib.Core.List.{List, _++_}
 use Prim.Native.Nat.{ℕ, _≤_, _<_}
 use native.Mathlib.Omega.{arith}
@@ -8,11 +8,13 @@ use lib.Dec.{ltb}
 use lib.ListN.{length, drop}
 use borrow.Author.Tests.{eq-eqb, ne-eqb, ltb-false}
 use Rattle.limits.specs.Refusal.{_when_, _then_}
-use Rattle.limits.specs.Reply.{reply}
+use Rattle.limits.specs.Reply.{Reply, reply}
 use Rattle.limits.proofs.Laws.{then-zero, then-refused, then-passed, then-assoc, when-zero}
-use Rattle.limits.proofs.Replies.{reply-accepted, reply-refused}
+use Rattle.limits.proofs.Replies.{reply-accepted, reply-refused, reply-number, reply-values}
 use Rattle.files.specs.Files.{lines, fileNumber}
 use Rattle.files.specs.Merge.{partners, anyDiffer, mergedFile, mergeNumber, mergeRule, mergeAfter}
+use Rattle.files.specs.declared.Merged.{Merged}
+use Rattle.files.specs.Answers.{mergeReply, mergeNumbered}
 
 -- 15 and 17, which are tried where both files are accepted
 abbrev pub resultNumber : (first second : List ℕ) (room : ℕ) → ℕ
@@ -62,3 +64,20 @@ module _ (first second lent : List ℕ) where
       ap (λ (n : ℕ). record { number = 0; values = n }) b ∙ sym (reply-accepted 0 (length (mergedFile first second)) (number-is first second (length lent) z ∙ e)),
       (tt, w ∙ sym (simp (eq-eqb (mergeNumber first second (length lent)) 0 (number-is first second (length lent) z ∙ e)))),
     )
+
+-- ---- what the case of an answer tells
+
+module _ (first second : List ℕ) (room : ℕ) where
+  pub refused-case : {r : Merged} {number : ℕ} → r ≡ Merged.Refused number → mergeReply r ≡ mergeRule first second room → mergeNumbered r
+      → (number ≡ mergeNumber first second room) × (0 < number)
+  unfolding mergeRule
+  refused-case e a h = (
+    ap (λ (t : Reply ℕ). t .number) (sym (ap mergeReply e) ∙ a) ∙ reply-number 0 (length (mergedFile first second)) (mergeNumber first second room),
+    subst mergeNumbered e h,
+  )
+
+  pub accepted-case : {r : Merged} {bytes : ℕ} → r ≡ Merged.Bytes bytes → mergeReply r ≡ mergeRule first second room
+      → (mergeNumber first second room ≡ 0) × (bytes ≡ length (mergedFile first second))
+  unfolding mergeRule
+  accepted-case e a =
+      reply-values 0 (length (mergedFile first second)) (mergeNumber first second room) (sym (ap mergeReply e) ∙ a)

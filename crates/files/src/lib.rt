@@ -38,3 +38,13 @@ pub fn merge(first: &[u8], second: &[u8], file: &mut [u8]) -> Merged
     walk::write(first, second, file);
     Merged::Bytes(bytes)
 }
+
+// The number of an answer: that of the refusal, 0 where there is none.
+pub fn merged_number(merged: Merged) -> u32
+    ensures { λ r. ⌜ r ≡ mergeReply merged .number ⌝ }
+{
+    match merged {
+        Merged::Bytes(_) => 0,
+        Merged::Refused(number) => number,
+    }
+}
