@@ -34,9 +34,11 @@ MEANINGS = {1: "the block's two sizes are not 780 and 52",
             7: 'a label is out of its range, or the track length is not 780',
             8: 'no track of that day starts at that second',
             11: 'the block is not 8378 bytes long',
-            12: 'the line is not 113 to 140 bytes long',
-            13: 'a character is not allowed in its column, or TRKL is not 0780',
-            14: 'CK is not the two capital digits of the sum of the columns before it'}
+            12: "the line is not 113 to 140 bytes long, or a file's last line is cut",
+            13: 'a character is not allowed in its column or line end, or TRKL not 0780',
+            14: 'CK is not the two capital digits of the sum of the columns before it',
+            15: 'two lines have the same MJD, start, letter and satellite, and differ',
+            16: 'the lines do not ascend by MJD, start, letter and satellite'}
 OWN = ' (worked out by cggtts, not by the library)'
 ONE_TOO_MANY = "starts: '50723' is one word too many"
 
