@@ -8,6 +8,7 @@ out by hand.
 """
 import os
 import random
+import re
 import stat
 import subprocess
 import time
@@ -49,11 +50,14 @@ class Merged(Scratch):
         self.assertEqual(run('merge', SECOND, FIRST), (0, files[2], ''))
         self.assertEqual(run('merge', WEEK, SECOND), (0, files[2], ''))
 
-    def test_the_week_by_sort(self):
-        columns = ['-k1.8,1.12', '-k1.14,1.19', '-k1.1,1.3']
-        made = subprocess.run(['sort', '-u', '-t', '\n', *columns, FIRST, SECOND], stdout=subprocess.PIPE, cwd=ROOT, check=True,
-                              env=dict(os.environ, LC_ALL='C'))
-        self.assertEqual(made.stdout, (ROOT / WEEK).read_bytes())
+    def test_the_card_s_way_to_sort(self):
+        """The command that docs/REFUSALS.md gives for a file that does not ascend."""
+        command = re.search(r'(?m)^    (LC_ALL=C sort .* > SORTED)$', (ROOT / 'docs' / 'REFUSALS.md').read_text()).group(1)
+        lines = [line for name in (FIRST, SECOND) for line in (ROOT / name).read_bytes().splitlines(keepends=True)]
+        random.Random(6).shuffle(lines)
+        self.kept('FILE', b''.join(lines))
+        subprocess.run(['/bin/sh', '-c', command], cwd=self.folder, check=True)
+        self.assertEqual((self.folder / 'SORTED').read_bytes(), (ROOT / WEEK).read_bytes())
 
     def test_files(self):
         for first, second in ((b'', b''), (A, b''), (b'', A), (A, A), (A + C, B + D), (A + F, B + E), (D + E, A + B),
