@@ -9,6 +9,7 @@ out by hand.
 import os
 import random
 import re
+import signal
 import stat
 import subprocess
 import time
@@ -129,12 +130,13 @@ class ToFile(Scratch):
         self.assertEqual(sorted(os.listdir(self.folder)), ['one', 'other', 'out'])
 
     def test_a_signal_leaves_the_file_whole(self):
-        shim, one = self.folder / 'shim.so', self.kept('one', A + C)
+        shim, one, other = self.folder / 'shim.so', self.kept('one', A + C), self.kept('other', B)
         subprocess.run([os.environ.get('CC', 'cc'), '-shared', '-fPIC', '-xc', '-', '-o', shim], input=SIGNAL_IN_WRITE,
                        text=True, check=True)
-        run('merge', one, '-', '-o', one, data=B, env=dict(os.environ, LD_PRELOAD=str(shim)))
+        status = run('merge', one, other, '-o', one, env=dict(os.environ, LD_PRELOAD=str(shim)))[0]
+        self.assertEqual(status, -signal.SIGTERM)
         self.assertEqual(one.read_bytes(), A + B + C)
-        self.assertEqual(sorted(os.listdir(self.folder)), ['one', 'shim.so'])
+        self.assertEqual(sorted(os.listdir(self.folder)), ['one', 'other', 'shim.so'])
 
 
 class Use(Scratch):
