@@ -7,6 +7,7 @@
 #include <errno.h>
 #include <stdio.h>
 #include <stdlib.h>
+#include <string.h>
 
 /* A line file and its name. */
 struct file {
@@ -86,6 +87,12 @@ static void explain_end(const uint8_t *end)
             end[1] == ' ' ? "a blank" : shown(end[1], second));
 }
 
+/* The form's name, with which the header of a published file begins. */
+static int begins_with_header(const struct bytes *file)
+{
+    return file->length >= 6 && (memcmp(file->at, "CGGTTS", 6) == 0 || memcmp(file->at, "GGTTS", 5) == 0);
+}
+
 /* What a line of one file is refused for. */
 static void explain_file(const struct bytes *file, size_t number, uint32_t answer)
 {
@@ -99,6 +106,8 @@ static void explain_file(const struct bytes *file, size_t number, uint32_t answe
     } else if (answer == TRACKLINE_ORDER) {
         explain("it has %s, and the line before it %s", keys_of(line, keys, sizeof keys),
                 keys_of(line_at(file, number - 1), keys_before, sizeof keys_before));
+    } else if (begins_with_header(file)) {
+        explain("the file begins with a header, and a line file has data lines alone");
     } else if (trackline_read(line, TRACKLINE_LINE_BYTES, values, TRACKLINE_VALUES) == TRACKLINE_ACCEPTED) {
         explain_end(line + TRACKLINE_LINE_BYTES);
     } else {

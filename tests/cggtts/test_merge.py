@@ -223,6 +223,10 @@ class Refused(Scratch):
                      told % (2, '50722', '001800', 'E01', 45, 'REFSV'))
         self.refused(15, 'first:5', A + B + C + D + E + F, A + D + two, told % (3, '50723', '001400', 'C01', 110, 'FRC'))
 
+    def test_a_header(self):
+        for head in (b'CGGTTS     GENERIC DATA FORMAT VERSION = 2E\r\nREV DATE = 2014-02-20\r\n', b'GGTTS GPS DATA FORMAT VERSION = 01\r\n'):
+            self.refused(14, 'first:1', head + A + B, b'', 'the file begins with a header, and a line file has data lines alone')
+
     def test_line_feeds_alone(self):
         self.refused(13, 'first:1', (A + B).replace(b'\r', b''), b'',
                      r'its line end is \x0A and G, not carriage return and line feed')
