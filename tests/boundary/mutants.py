@@ -77,13 +77,20 @@ pub unsafe extern "C" fn trackline_merge(
     }
 }
 '''
-RESIDUAL = 'let residual = nearest(46852 * v - 901 * s - place(j) * t, 46852);'
+LEFT = 'n * (n * n - 1) * v - (n * n - 1) * s - 3 * place(n, j) * t'
+RESIDUAL = 'let residual = nearest(%s, n * (n * n - 1));' % LEFT
+MIDPOINT = 'nearest(s, 100 * n)'
+SLOPE = 'nearest(4 * t, n * (n * n - 1))'
 SQUARE = 'q += i128::from(residual) * i128::from(residual);'
 SMOOTHED = 'Ok(nearest(sum, 1105))'
 COPY = 'lent[..LINE_BYTES].copy_from_slice(&line_text(labels, numbers));'
 JUDGED = 'if let Err(refusal) = judge(labels, numbers, lent.len()) {'
-LABELS = 'if !labels.in_range() || numbers.trkl != 780 {'
-SIZES = 'u16_at(block, 0) != SECONDS as u16 || u16_at(block, 2) != BLOCKS as u16'
+LABELS = 'if !labels.in_range() || !numbers.length_fits() {'
+HEAD = 'if block.len() < 4 {\n        return Err(11);'
+SIZES = 'if !blocks_fit(n) || seconds != BLOCK_SECONDS * n {'
+LENGTH = 'block.len() != block_bytes(n)'
+PLACE = '2 * j as i64 - (n - 1)'
+TRKL = 'usize::try_from(self.trkl / BLOCK_SECONDS as i64).unwrap_or(0)'
 CHECK = 'if !checked(columns) {'
 CHARACTERS = 'if !characters_fit(columns, comment) {'
 CLOCK = 'hour <= 23 && minute <= 59 && second <= 59 && start(labels.mjd, labels.start) == 0'
@@ -100,8 +107,8 @@ MUTANTS = [
     # what the paper calls plausible and wrong
     ('ties away from zero', 'lib.rs', '(2 * n + d).div_euclid(2 * d)',
      '(2 * n.abs() + d).div_euclid(2 * d) * n.signum()'),
-    ('residuals divided by 50', 'fit.rs', '52 * root * root', '50 * root * root'),
-    ('midpoint at second 390', 'fit.rs', 'nearest(s, 5200)', 'nearest(13515 * s + t, 70278000)'),
+    ('residuals divided by 50', 'fit.rs', 'n as i128 * root * root', '50 * root * root'),
+    ('midpoint at second 390', 'fit.rs', MIDPOINT, 'nearest(5 * (n * n - 1) * s + t, 500 * n * (n * n - 1))'),
     ('REFSYS from rounded terms', 'track.rs', 'refsys: line_b.midpoint',
      'refsys: line_a.midpoint + fit(columns.clock)?.midpoint'),
     ('REF subtracted with CAB', 'track.rs', 'delays.cab - delays.refdly', 'delays.cab + delays.refdly'),
@@ -114,25 +121,24 @@ MUTANTS = [
     ('smoothed value up a little late', 'fit.rs', SMOOTHED, 'Ok((sum + 551).div_euclid(1105))'),
     ('smoothed value the plain mean', 'fit.rs', SMOOTHED,
      '{ let _ = sum; Ok(nearest(measurements.iter().sum(), 15)) }'),
-    ('midpoint ties away', 'fit.rs', 'nearest(s, 5200)', 'nearest(s.abs(), 5200) * s.signum()'),
-    ('midpoint ties down', 'fit.rs', 'nearest(s, 5200)', '-nearest(-s, 5200)'),
-    ('midpoint cut', 'fit.rs', 'nearest(s, 5200)', '(2 * s + 5200) / 10400'),
-    ('slope cut', 'fit.rs', 'nearest(t, 35139)', '(2 * t + 35139) / 70278'),
-    ('slope up a little early', 'fit.rs', 'nearest(t, 35139)', '(2 * t + 35140).div_euclid(70278)'),
-    ('slope over 35140', 'fit.rs', 'nearest(t, 35139)', 'nearest(t, 35140)'),
-    ('residual ties away', 'fit.rs', RESIDUAL, 'let x = 46852 * v - 901 * s - place(j) * t; '
-     'let residual = nearest(x.abs(), 46852) * x.signum();'),
-    ('residual ties down', 'fit.rs', RESIDUAL,
-     'let residual = -nearest(901 * s + place(j) * t - 46852 * v, 46852);'),
-    ('residual floored', 'fit.rs', RESIDUAL,
-     'let residual = (46852 * v - 901 * s - place(j) * t).div_euclid(46852);'),
-    ('residual without the slope', 'fit.rs', ' - place(j) * t, 46852', ', 46852'),
+    ('midpoint ties away', 'fit.rs', MIDPOINT, 'nearest(s.abs(), 100 * n) * s.signum()'),
+    ('midpoint ties down', 'fit.rs', MIDPOINT, '-nearest(-s, 100 * n)'),
+    ('midpoint cut', 'fit.rs', MIDPOINT, '(s + 50 * n) / (100 * n)'),
+    ('slope cut', 'fit.rs', SLOPE, '(8 * t + n * (n * n - 1)) / (2 * n * (n * n - 1))'),
+    ('slope ties down', 'fit.rs', SLOPE, '-nearest(-4 * t, n * (n * n - 1))'),
+    ('slope up a little early', 'fit.rs', SLOPE, 'nearest(4 * t + 4, n * (n * n - 1))'),
+    ('slope over 35140', 'fit.rs', SLOPE, 'nearest(4 * t, n * (n * n - 1) + 4)'),
+    ('residual ties away', 'fit.rs', RESIDUAL, 'let x = %s; '
+     'let residual = nearest(x.abs(), n * (n * n - 1)) * x.signum();' % LEFT),
+    ('residual ties down', 'fit.rs', RESIDUAL, 'let residual = -nearest(-(%s), n * (n * n - 1));' % LEFT),
+    ('residual floored', 'fit.rs', RESIDUAL, 'let residual = (%s).div_euclid(n * (n * n - 1));' % LEFT),
+    ('residual without the slope', 'fit.rs', ' - 3 * place(n, j) * t, n', ', n'),
     ('squares summed in 64 bits', 'fit.rs', SQUARE,
      'q = i128::from((q as u64).wrapping_add((residual as u64).wrapping_mul(residual as u64)));'),
     ('squares in 64 bits', 'fit.rs', SQUARE, 'q += i128::from(residual.wrapping_mul(residual));'),
-    ('DSG below its threshold', 'fit.rs', 'if threshold(d) <= q', 'if threshold(d) < q'),
-    ('DSG one too many', 'fit.rs', 'q >= threshold(MOST_DSG + 1)', 'q > threshold(MOST_DSG + 1)'),
-    ('DSG one too few', 'fit.rs', 'q >= threshold(MOST_DSG + 1)', 'q >= threshold(MOST_DSG)'),
+    ('DSG below its threshold', 'fit.rs', 'if threshold(n, d) <= q', 'if threshold(n, d) < q'),
+    ('DSG one too many', 'fit.rs', 'q >= threshold(n, MOST_DSG + 1)', 'q > threshold(n, MOST_DSG + 1)'),
+    ('DSG one too few', 'fit.rs', 'q >= threshold(n, MOST_DSG + 1)', 'q >= threshold(n, MOST_DSG)'),
     ('DSG floored', 'fit.rs', '100 * d - 50', '100 * d'),
     ('a weight moved', 'fit.rs', '147, 162, 167, 162', '147, 161, 168, 162'),
     ('weights askew', 'fit.rs', '42, -13, -78]', '42, -14, -77]'),
@@ -148,7 +154,7 @@ MUTANTS = [
     ('C and D exchanged', 'track.rs', 'c[j] = columns.troposphere[j]', 'c[j] = columns.ionosphere[j]',
      'track.rs', 'd[j] = columns.ionosphere[j]', 'd[j] = columns.troposphere[j]'),
     ('a picosecond lost in A', 'track.rs', '- delays.gd;', '- delays.gd - i64::from(j == 17);'),
-    ('a picosecond lost in B', 'track.rs', '+ columns.clock[j];', '+ columns.clock[j] - i64::from(j == 51);'),
+    ('a picosecond lost in B', 'track.rs', '+ columns.clock[j];', '+ columns.clock[j] - i64::from(j + 1 == n);'),
     # limits
     ('measurement limit up', 'fit.rs', 'i64 = 1_000_000_000_000', 'i64 = 1_000_000_000_001'),
     ('measurement limit down', 'fit.rs', 'i64 = 1_000_000_000_000', 'i64 = 999_999_999_999'),
@@ -159,7 +165,7 @@ MUTANTS = [
     ('clock without limit', 'track.rs', 'lists[1..].iter()', 'lists[1..4].iter()'),
     ('relativity without limit', 'track.rs', 'lists[1..].iter()', 'lists[2..].iter()'),
     ('GD without limit', 'track.rs', 'delays.refdly, delays.gd]', 'delays.refdly, 0]'),
-    ('last measurement without limit', 'track.rs', 'all_within(measurements,', 'all_within(&measurements[..779],',
+    ('last measurement without limit', 'track.rs', 'all_within(measurements,', 'all_within(&measurements[..15 * n - 1],',
      'fit.rs', 'measurements.iter().any', 'measurements[..14].iter().any',
      'fit.rs', 'map(|(w, m)| w * m).sum()', 'fold(0i64, |s, (w, m)| s.wrapping_add(w.wrapping_mul(*m)))'),
     ('limit by magnitude', 'lib.rs', '-limit <= v && v <= limit', 'v.wrapping_abs() <= limit'),
@@ -178,25 +184,27 @@ MUTANTS = [
     ('4 before 3', 'track.rs', 'if !within(self.refsv',
      'if !within(self.srsv, 99_999) { return Err(4); }\nif !within(self.refsv'),
     ('5 before 4', 'track.rs', 'let slopes =', 'if self.mdio < 0 { return Err(5); }\nlet slopes ='),
-    ('6 before 3 in Track', 'track.rs', 'numbers.check_fits()?;\n    numbers.dsg = scatter(&b)?;',
-     'numbers.dsg = scatter(&b)?;\n    numbers.check_fits()?;'),
+    ('6 before 3 in Track', 'track.rs', 'numbers.check_fits()?;\n    numbers.dsg = scatter(&b[..n])?;',
+     'numbers.dsg = scatter(&b[..n])?;\n    numbers.check_fits()?;'),
     ('6 before 3 in Line', 'line.rs', 'numbers.check_fits()?;\n',
      'numbers.check_dsg()?;\n    numbers.check_fits()?;\n'),
     ('3 before 8 in Line', 'line.rs', 'if start(labels.mjd', 'numbers.check_fits()?;\n    if start(labels.mjd'),
     ('track length after the start', 'line.rs', LABELS, 'if !labels.in_range() {', 'line.rs', 'numbers.check_fits()?;',
-     'if numbers.trkl != 780 { return Err(7); }\n    numbers.check_fits()?;'),
+     'if !numbers.length_fits() { return Err(7); }\n    numbers.check_fits()?;'),
     ('9 first in Line', 'line.rs', LABELS, 'if lent < LINE_BYTES { return Err(9); }\n    ' + LABELS),
     ('9 before Track', 'block.rs', 'match track(', 'if lent.len() < 113 { return 9; }\n    match track('),
     ('9 never', 'line.rs', 'return Err(9);', 'return Ok(());', 'line.rs', COPY,
      'let n = lent.len().min(113); lent[..n].copy_from_slice(&line_text(labels, numbers)[..n]);'),
     ('9 at 113', 'line.rs', 'lent < LINE_BYTES', 'lent <= LINE_BYTES'),
-    ('labels before Track', 'block.rs', 'match track(', 'let n = crate::Numbers { trkl: 780, ..Default::default() };\n'
-     'let r = line(&labels(block), &n, &mut [0; 113]); if r != 0 { return r; }\n    match track('),
-    ('1 before 11', 'block.rs', 'if block.len() != BLOCK_BYTES',
-     'if block.len() >= 4 && (%s) { return 1; }\n    if block.len() != BLOCK_BYTES' % SIZES),
-    ('longer blocks taken', 'block.rs', 'block.len() != BLOCK_BYTES', 'block.len() < BLOCK_BYTES'),
-    ('second size not tested', 'block.rs', ' || u16_at(block, 2) != BLOCKS as u16', ''),
-    ('sizes added', 'block.rs', SIZES, 'u16_at(block, 0).wrapping_add(u16_at(block, 2)) != 832'),
+    ('labels before Track', 'block.rs', 'match track(', 'let zero = crate::Numbers { trkl: 780, ..Default::default() };\n'
+     'let r = line(&labels(block), &zero, &mut [0; 113]); if r != 0 { return r; }\n    match track('),
+    ('11 before 1', 'block.rs', HEAD, 'if block.len() < 698 || (block.len() - 58) % 160 != 0 {\n        return Err(11);'),
+    ('1 for a block without sizes', 'block.rs', HEAD, 'if block.len() < 4 {\n        return Err(1);'),
+    ('11 under 58 bytes', 'block.rs', HEAD, 'if block.len() < 58 {\n        return Err(11);'),
+    ('longer blocks taken', 'block.rs', LENGTH, 'block.len() < block_bytes(n)'),
+    ('first size not tested', 'block.rs', ' || seconds != BLOCK_SECONDS * n', ''),
+    ('sizes added', 'block.rs', SIZES,
+     'let (n, rest) = ((seconds + n) / 16, (seconds + n) % 16);\n    if !blocks_fit(n) || rest != 0 {'),
     # labels
     ('satellite 100', 'line.rs', '(1..=99).contains(&self.sat', '(1..=100).contains(&self.sat'),
     ('satellite 0', 'line.rs', '(1..=99).contains(&self.sat', '(0..=99).contains(&self.sat'),
@@ -256,12 +264,13 @@ MUTANTS = [
     # the block's bytes
     ('start of 16 bits', 'block.rs', 'start: u32_at(block, 16)', 'start: u16_at(block, 16).into()'),
     ('MJD of 17 bits', 'block.rs', 'mjd: u32_at(block, 12)', 'mjd: u32_at(block, 12) & 0x1ffff'),
-    ('sizes with the high byte first', 'block.rs', 'u16_at(block, 0) !=', 'u16_at(block, 0).swap_bytes() !='),
+    ('sizes with the high byte first', 'block.rs', 'u16_at(block, 0))', 'u16_at(block, 0).swap_bytes())'),
     ('REF and GD exchanged', 'block.rs', 'refdly: i64_at(block, 42), gd: i64_at(block, 50)',
      'refdly: i64_at(block, 50), gd: i64_at(block, 42)'),
-    ('clock and troposphere exchanged', 'block.rs', 'troposphere: &column(block, 3)', 'troposphere: &column(block, 4)',
-     'block.rs', 'clock: &column(block, 4)', 'clock: &column(block, 3)'),
-    ('columns for groups', 'block.rs', '40 * j + 8 * which', '8 * j + 416 * which'),
+    ('clock and troposphere exchanged', 'block.rs', 'troposphere: &column(block, n, 3)',
+     'troposphere: &column(block, n, 4)', 'block.rs', 'clock: &column(block, n, 4)', 'clock: &column(block, n, 3)'),
+    ('columns for groups', 'block.rs', 'chunks_exact(40)', 'chunks_exact(8).skip(n * which)',
+     'block.rs', 'i64_at(group, 8 * which)', 'i64_at(group, 0)'),
     ('ELV and AZTH exchanged', 'block.rs', 'elv: u16_at(block, 20)', 'elv: u16_at(block, 22)',
      'block.rs', 'azth: u16_at(block, 22)', 'azth: u16_at(block, 20)'),
     # a line read back: lengths and checksum
@@ -283,7 +292,6 @@ MUTANTS = [
     ('comment byte 7F', 'reader.rs', '0x20..=0x7E', '0x20..=0x7F'),
     ('comment byte 1F', 'reader.rs', '0x20..=0x7E', '0x1F..=0x7E'),
     ('last comment byte not looked at', 'reader.rs', 'comment.iter().all(', 'comment.iter().take(26).all('),
-    ('any track length read', 'reader.rs', 'dddddd 0780 ddd', 'dddddd dddd ddd'),
     ('small letters in FRC as a label', 'reader.rs', "b'c' => byte.is_ascii_digit() || byte.is_ascii_uppercase()",
      "b'c' => byte.is_ascii_alphanumeric()"),
     # labels and clock
@@ -291,15 +299,12 @@ MUTANTS = [
      'hour <= 24 && minute <= 59 && second <= 59 && start(labels.mjd, labels.start % 86400) == 0'),
     ('00:62:00 for 01:02:00', 'reader.rs', CLOCK, 'hour <= 23 && second <= 59 && start(labels.mjd, labels.start) == 0'),
     ('00:01:60 for 00:02:00', 'reader.rs', CLOCK, 'hour <= 23 && minute <= 59 && start(labels.mjd, labels.start) == 0'),
-    ('labels not looked at', 'reader.rs', 'if !labels.in_range() {', 'if labels.mjd < 50722 {'),
+    ('labels not looked at', 'reader.rs', '!labels.in_range()', 'labels.mjd < 50722'),
     # order
     ('13 before 14', 'reader.rs', CHECK, CHARACTERS + ' return Err(13); }\n    ' + CHECK),
     ('7 before 13', 'reader.rs', CHARACTERS,
      'if &columns[1..3] == b"00" { return Err(7); }\n    ' + CHARACTERS),
-    ('track length as a label', 'reader.rs', CHARACTERS,
-     'if &columns[20..24] == b"0765" { return Err(7); }\n    ' + CHARACTERS),
-    ('clock before the labels', 'reader.rs', 'if !labels.in_range() {',
-     'if labels.start >= 86400 { return Err(8); }\n    if !labels.in_range() {'),
+    ('clock before the labels', 'reader.rs', LABELS, 'if labels.start >= 86400 { return Err(8); }\n    ' + LABELS),
     # what is read
     ('REFSYS for REFSV', 'reader.rs', '(35, 45), (47, 52), (54, 64)', '(54, 64), (47, 52), (35, 45)'),
     ('sign lost', 'reader.rs', '        -size\n', '        size\n'),
@@ -318,6 +323,50 @@ MUTANTS = [
      'Err(refusal) => { lent.fill(0); return refusal; }'),
     ('a value past the lent ones', 'EXPORTS', '    reference::read_values(',
      '    if values_len == 23 { *values.add(23) = 7; }\n    reference::read_values('),
+    # short tracks: how many blocks
+    ('tracks of 3 blocks', 'fit.rs', 'LEAST_BLOCKS: usize = 4;', 'LEAST_BLOCKS: usize = 3;'),
+    ('tracks of 53 blocks', 'fit.rs', 'MOST_BLOCKS: usize = 52;', 'MOST_BLOCKS: usize = 53;'),
+    ('no tracks of 4 blocks', 'fit.rs', 'LEAST_BLOCKS: usize = 4;', 'LEAST_BLOCKS: usize = 5;'),
+    ('full tracks alone', 'fit.rs', 'LEAST_BLOCKS: usize = 4;', 'LEAST_BLOCKS: usize = 52;'),
+    ('sizes exchanged', 'block.rs', '(usize::from(u16_at(block, 0)), usize::from(u16_at(block, 2)))',
+     '(usize::from(u16_at(block, 2)), usize::from(u16_at(block, 0)))'),
+    ('length 8378 for every track', 'block.rs', LENGTH, 'block.len() != 8378'),
+    ('corrections from byte 6298 for every track', 'block.rs', '[corrections_at(n)..]',
+     '[6298.min(block.len() - 40 * n - 8)..]'),
+    ('all 52 places fitted', 'track.rs', '(fit(&a[..n])?, fit(&b[..n])?, fit(&c[..n])?, fit(&d[..n])?)',
+     '(fit(&a)?, fit(&b)?, fit(&c)?, fit(&d)?)'),
+    ('all 52 places scattered', 'track.rs', 'scatter(&b[..n])?', 'scatter(&b)?'),
+    ('last block of a short track left out', 'track.rs', 'for j in 0..n {', 'for j in 0..n - usize::from(n < 52) {'),
+    # the rules of 52 for every track
+    ('weights of 52', 'fit.rs', PLACE, '2 * j as i64 - 51'),
+    ('weights of an even number', 'fit.rs', PLACE, '2 * j as i64 - (n / 2 * 2 - 1)'),
+    ('midpoint over 5200', 'fit.rs', MIDPOINT, 'nearest(s, 5200)'),
+    ('slope over 35139', 'fit.rs', SLOPE, 'nearest(t, 35139)'),
+    ('slope over a whole quarter', 'fit.rs', SLOPE, 'nearest(t, n * (n * n - 1) / 4)'),
+    ('slope by n cubed', 'fit.rs', SLOPE, 'nearest(4 * t, n * n * n)'),
+    ('residual over 46852', 'fit.rs', RESIDUAL, 'let residual = nearest(46852 * v - 901 * s - place(n, j) * t, 46852);'),
+    ('residual over a whole third', 'fit.rs', RESIDUAL, 'let third = n * (n * n - 1) / 3; '
+     'let residual = nearest(third * v - (n * n - 1) / 3 * s - place(n, j) * t, third);'),
+    ('DSG of 52 values', 'fit.rs', 'n as i128 * root * root', '52 * root * root'),
+    ('DSG 0 under 130000', 'fit.rs', 'if q >= threshold(n, MOST_DSG + 1)',
+     'if q < 130_000 {\n        return Ok(0);\n    }\n    if q >= threshold(n, MOST_DSG + 1)'),
+    ('DSG too high from 52 values on', 'fit.rs', 'q >= threshold(n, MOST_DSG + 1)', 'q >= threshold(52, MOST_DSG + 1)'),
+    # the track length
+    ('track length of 780', 'track.rs', 'trkl: measurements.len() as i64', 'trkl: 780'),
+    ('0780 written', 'line.rs', 'text.decimal(4, numbers.trkl as u64)', 'text.decimal(4, 780)'),
+    ('0780 read', 'reader.rs', 'trkl: unsigned(21, 24)', 'trkl: 780'),
+    ('track length of 45', 'track.rs', 'blocks_fit(blocks) &&', '(3..=52).contains(&blocks) &&'),
+    ('track length of 795', 'track.rs', 'blocks_fit(blocks) &&', '(4..=53).contains(&blocks) &&'),
+    ('track length of no whole blocks', 'track.rs', ' && self.trkl % BLOCK_SECONDS as i64 == 0', ''),
+    ('track length below 0', 'track.rs', TRKL, TRKL.replace('self.trkl', 'self.trkl.wrapping_abs()')),
+    ('track length of 32 bits', 'track.rs', TRKL, TRKL.replace('self.trkl', 'i64::from(self.trkl as u32)')),
+    ('any track length in Line', 'line.rs', ' || !numbers.length_fits()', ''),
+    ('any track length read', 'reader.rs', ' || !numbers.length_fits()', ''),
+    ('13 for a track length', 'reader.rs', LABELS, 'if !numbers.length_fits() { return Err(13); }\n    ' + LABELS),
+    ('track length after the clock', 'reader.rs', LABELS, 'if !labels.in_range() {', 'reader.rs',
+     'Ok((labels, numbers))', 'if numbers.length_fits() { Ok((labels, numbers)) } else { Err(7) }'),
+    ('7 for a letter in the track length', 'reader.rs', CHARACTERS,
+     'if !columns[20..24].iter().all(u8::is_ascii_digit) { return Err(7); }\n    ' + CHARACTERS),
     # two line files: which lines, and in which order
     ('equal lines written twice', 'files.rs', 'n += usize::from(second_keys <= first_keys)',
      'n += usize::from(second_keys < first_keys)'),

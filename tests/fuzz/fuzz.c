@@ -16,9 +16,9 @@
 
 #include "trackline.h"
 
-enum { SECONDS = 780, BLOCKS = 52, LONGEST_BLOCK = 16384, LONGEST_LINE = 4096, EDITS = 64 };
+enum { LEAST_BLOCKS = 4, MOST_BLOCKS = 52, LONGEST_BLOCK = 16384, LONGEST_LINE = 4096, EDITS = 64 };
 enum { COLUMNS = 113, LONGEST_READ = 200, VALUES = 23, MOST_VALUES = 512 };
-enum { INT_AT = 26, MEASUREMENTS_AT = 58, COLUMNS_AT = 6298 };
+enum { INT_AT = 26, MEASUREMENTS_AT = 58 };
 
 /* What trackline_line is given; the numbers in their fixed order. */
 struct given {
@@ -62,7 +62,7 @@ static size_t below(struct bytes *b, size_t count)
 /* A number: small, any, or near a limit of the paper. */
 static int64_t number(struct bytes *b)
 {
-    static const int64_t edges[] = {0, 15, 50, 345, 780, 999, 9999, 99999, 999949, 9999999999, 10000000000,
+    static const int64_t edges[] = {0, 15, 50, 60, 345, 765, 780, 999, 9999, 99999, 999949, 9999999999, 10000000000,
                                     200000000000, 999900000000, 1000000000000, INT64_MAX};
     size_t kind = take(b, 1);
     switch (kind & 3) {
@@ -201,14 +201,26 @@ static uint64_t get(const uint8_t *from, int count)
     return value;
 }
 
-static uint8_t *measurement(uint8_t *block, size_t i)
+/* A block of n blocks of 15 seconds, whatever its sizes say after an edit. */
+struct hire {
+    uint8_t bytes[LONGEST_BLOCK];
+    size_t n, length;
+};
+
+static uint8_t *measurement(struct hire *h, size_t i)
 {
-    return block + MEASUREMENTS_AT + 8 * i;
+    return h->bytes + MEASUREMENTS_AT + 8 * i;
 }
 
-static uint8_t *correction(uint8_t *block, size_t column, size_t j)
+static uint8_t *correction(struct hire *h, size_t column, size_t j)
 {
-    return block + COLUMNS_AT + 40 * j + 8 * column;
+    return measurement(h, 15 * h->n) + 40 * j + 8 * column;
+}
+
+static void put_sizes(struct hire *h, size_t seconds, size_t blocks)
+{
+    put(h->bytes, seconds, 2);
+    put(h->bytes + 2, blocks, 2);
 }
 
 static uint32_t a_start(uint32_t mjd, size_t track)
@@ -217,37 +229,68 @@ static uint32_t a_start(uint32_t mjd, size_t track)
     return (uint32_t)(60 * (((minute % 1436) + 1436) % 1436));
 }
 
-/* The paper's sample, which is accepted. */
-static void sample(uint8_t *block)
+/* The paper's sample with n blocks, which is accepted. */
+static void sample(struct hire *h, size_t n)
 {
-    static const uint8_t labels[26] = {0x0C, 0x03, 52, 0, 'G', 5, 255, 0, 0, 'L', '1', 'C', 0x22, 0xC6, 0, 0,
+    static const uint8_t labels[22] = {'G', 5, 255, 0, 0, 'L', '1', 'C', 0x22, 0xC6, 0, 0,
                                        120, 0, 0, 0, 0xC2, 0x01, 0x08, 0x07, 7, 0};
-    memset(block, 0, LONGEST_BLOCK);
-    memcpy(block, labels, sizeof labels);
-    for (size_t i = 0; i < SECONDS; i++) {
-        put(measurement(block, i), 1000, 8);
+    memset(h->bytes, 0, sizeof h->bytes);
+    h->n = n;
+    h->length = (size_t)(correction(h, 0, n) - h->bytes);
+    put_sizes(h, 15 * n, n);
+    memcpy(h->bytes + 4, labels, sizeof labels);
+    for (size_t i = 0; i < 15 * n; i++) {
+        put(measurement(h, i), 1000, 8);
+    }
+}
+
+/* Sizes of other blocks, near their own, or any. */
+static void resize(struct hire *h, struct bytes *b)
+{
+    size_t other = 2 + below(b, 53);
+    switch (take(b, 1) % 6) {
+    case 0: put_sizes(h, 15 * other, other); break;
+    case 1: put_sizes(h, 15 * h->n, other); break;
+    case 2: put_sizes(h, 15 * other, h->n); break;
+    case 3: put_sizes(h, h->n, 15 * h->n); break;
+    case 4: put_sizes(h, 15 * h->n + below(b, 3) - 1, h->n + below(b, 3) - 1); break;
+    default: put_sizes(h, take(b, 2), take(b, 2));
+    }
+}
+
+/* Another length: a little more or less, that of another number of blocks, or next to nothing. */
+static void cut(struct hire *h, struct bytes *b)
+{
+    size_t kind = take(b, 1) % 4;
+    if (kind < 2) {
+        h->length = (size_t)((int64_t)h->length + (int8_t)take(b, 1)) % (LONGEST_BLOCK + 1);
+    } else {
+        h->length = kind == 2 ? 58 + 160 * below(b, 60) : below(b, 60);
     }
 }
 
 /* A line through the measurements, with noise of its own. */
-static void measure(uint8_t *block, struct bytes *b)
+static void measure(struct hire *h, struct bytes *b)
 {
     uint64_t level = (uint64_t)number(b), slope = (uint64_t)number(b), noise = take(b, 4);
-    for (size_t i = 0; i < SECONDS; i++) {
+    for (size_t i = 0; i < 15 * h->n; i++) {
         uint64_t mixed = (i + 1) * UINT64_C(0x9E3779B97F4A7C15) >> 33;
-        put(measurement(block, i), level + slope * i + (noise ? mixed % noise : 0), 8);
+        put(measurement(h, i), level + slope * i + (noise ? mixed % noise : 0), 8);
     }
 }
 
-/* A line through a column, or a wave a, -a, -a, a added to it, which changes neither its sum nor its slope. */
-static void correct(uint8_t *block, struct bytes *b, int wave)
+/*
+ * A line through a column, or a wave a, -a, -a, a added to it, which where 4 divides n changes neither its sum nor its
+ * slope.
+ */
+static void correct(struct hire *h, struct bytes *b, int wave)
 {
     size_t column = below(b, 5);
     uint64_t level = (uint64_t)number(b), step = wave ? 0 : (uint64_t)number(b);
-    for (size_t j = 0; j < BLOCKS; j++) {
-        uint8_t *at = correction(block, column, j);
+    for (size_t j = 0; j < h->n; j++) {
+        uint8_t *at = correction(h, column, j);
         uint64_t wave_value = (j % 4 == 0 || j % 4 == 3) ? level : 0 - level;
-        put(at, wave ? get(at, 8) + wave_value : level + step * (2 * j - 51), 8);
+        put(at, wave ? get(at, 8) + wave_value : level + step * (2 * j + 1 - h->n), 8);
     }
 }
 
@@ -271,30 +314,32 @@ static void label(uint8_t *block, struct bytes *b)
     put(block + 24, 1 + below(b, 23), 2);
 }
 
-/* One change to a block; gives its length. */
-static size_t edit(uint8_t *block, size_t length, struct bytes *b)
+/* One change to a block. */
+static void edit(struct hire *h, struct bytes *b)
 {
+    uint8_t *block = h->bytes;
     size_t at;
-    switch (take(b, 1) % 12) {
+    switch (take(b, 1) % 14) {
     case 0: at = below(b, 64); block[at < 26 ? at : 4 + at % 22] = (uint8_t)take(b, 1); break;
     case 1: put(block + 16, a_start((uint32_t)get(block + 12, 4), below(b, 89)), 4); break;
     case 2: put(block + 12, (uint32_t)number(b), 4); break;
     case 3: put(block + 16, (uint32_t)number(b), 4); break;
     case 4: at = 20 + 2 * below(b, 3); put(block + at, take(b, 2), 2); break;
     case 5: at = below(b, 4); put(block + INT_AT + 8 * at, (uint64_t)number(b), 8); break;
-    case 6: at = below(b, SECONDS); put(measurement(block, at), (uint64_t)number(b), 8); break;
-    case 7: measure(block, b); break;
-    case 8: at = below(b, 5 * BLOCKS); put(block + COLUMNS_AT + 8 * at, (uint64_t)number(b), 8); break;
-    case 9: correct(block, b, 0); break;
-    case 10: correct(block, b, 1); break;
+    case 6: at = below(b, 15 * h->n); put(measurement(h, at), (uint64_t)number(b), 8); break;
+    case 7: measure(h, b); break;
+    case 8: at = below(b, 5 * h->n); put(correction(h, 0, 0) + 8 * at, (uint64_t)number(b), 8); break;
+    case 9: correct(h, b, 0); break;
+    case 10: correct(h, b, 1); break;
+    case 11:
+    case 12: label(block, b); break;
     default:
-        if (take(b, 1) % 8 > 0) {
-            label(block, b);
+        if (take(b, 1) % 2 > 0) {
+            resize(h, b);
         } else {
-            length = (size_t)((int64_t)length + (int8_t)take(b, 1)) % (LONGEST_BLOCK + 1);
+            cut(h, b);
         }
     }
-    return length;
 }
 
 /* What is given, where the archive sees it. */
@@ -317,16 +362,15 @@ static void call_block(const uint8_t *bytes, size_t length, struct bytes *b)
 
 static void edited_block(struct bytes *b)
 {
-    static uint8_t block[LONGEST_BLOCK];
+    static struct hire h;
     /* what is lent comes first, so that edits at the end do not move it */
     struct bytes lent = {b->at, b->left < 4 ? b->left : 4};
     take(b, 4);
-    size_t length = TRACKLINE_BLOCK_BYTES;
-    sample(block);
+    sample(&h, LEAST_BLOCKS + take(b, 1) % (MOST_BLOCKS - LEAST_BLOCKS + 1));
     for (int i = 0; i < EDITS && b->left > 0; i++) {
-        length = edit(block, length, b);
+        edit(&h, b);
     }
-    call_block(block, length, &lent);
+    call_block(h.bytes, h.length, &lent);
 }
 
 static void raw_block(struct bytes *b)
@@ -346,13 +390,14 @@ static uint32_t call_line(const struct given *g, uint8_t *line, size_t length)
                           n[0], n[1], n[2], n[3], n[4], n[5], n[6], n[7], n[8], n[9], line, length);
 }
 
-/* What trackline_line is given for the labels of a block. */
-static struct given given_by(const uint8_t *labels)
+/* What trackline_line is given for the labels of a block and some track length. */
+static struct given given_by(const uint8_t *labels, struct bytes *b)
 {
+    int64_t trkl = 15 * (int64_t)(LEAST_BLOCKS + below(b, MOST_BLOCKS - LEAST_BLOCKS + 1));
     struct given g = {.constellation = labels[4], .satellite = labels[5], .cl = labels[6], .fr = labels[7],
                       .hc = labels[8], .mjd = (uint32_t)get(labels + 12, 4), .start = (uint32_t)get(labels + 16, 4),
                       .elv = (uint16_t)get(labels + 20, 2), .azth = (uint16_t)get(labels + 22, 2),
-                      .ioe = (uint16_t)get(labels + 24, 2), .numbers = {[9] = 780}};
+                      .ioe = (uint16_t)get(labels + 24, 2), .numbers = {[9] = trkl}};
     memcpy(g.frc, labels + 9, 3);
     return g;
 }
@@ -362,7 +407,7 @@ static void line(struct bytes *b)
     struct lines l = lend(b);
     uint8_t labels[26] = {0};
     label(labels, b);
-    struct given g = given_by(labels);
+    struct given g = given_by(labels, b);
     for (int i = 0; i < EDITS && b->left > 0; i++) {
         switch (take(b, 1) % 16) {
         case 0: g.constellation = (uint8_t)take(b, 1); break;
@@ -431,7 +476,7 @@ static void written(uint8_t *line, struct bytes *b)
     static const int64_t limits[10] = {9999999999, 99999, 9999999999, 99999, 9999, 999, 9999, 999, 9999, 0};
     uint8_t labels[26] = {0};
     label(labels, b);
-    struct given g = given_by(labels);
+    struct given g = given_by(labels, b);
     for (size_t i = 0; i < 9; i++) {
         int64_t n = number(b) % (limits[i] + 1);
         g.numbers[i] = n < 0 && (i == 4 || i == 6 || i == 8) ? -n : n;
@@ -467,7 +512,8 @@ static void set_clock(uint8_t *line, struct bytes *b)
 /* One change to a line; gives its length. */
 static size_t edit_line(uint8_t *line, size_t length, struct bytes *b)
 {
-    static const char texts[][8] = {"00", "240000", "006200", "000160", "0765", "-000", "-00000", " 0", "a", "+", "-"};
+    static const char texts[][8] = {"00", "240000", "006200", "000160", "0045", "0060", "0790", "0795", "-000",
+                                    "-00000", " 0", "a", "+", "-"};
     const char *text = texts[below(b, sizeof texts / sizeof *texts)];
     size_t at = below(b, LONGEST_READ);
     switch (take(b, 1) % 8) {

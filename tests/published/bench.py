@@ -5,8 +5,8 @@ FILL = b'.'
 SAMPLE = ('G05 FF 50722 000200 0780 450 1800 +0000000010 +00000 +0000000010 +00000 0000 007 0000 +000 0000 +000 '
           '00 00 L1C 26')
 # Document 01, "What the technician tries", without what is marked P, and some refusals of "Each operation and its refusals,
-# in order"; the starts are those of document 02, Job 2. The paper leaves out the value of fifteen equal measurements, the
-# slope of 52 equal values, and the midpoint of 344 in the last place (344 / 5200).
+# in order"; the starts are those of document 02, Job 2, the counts of Fit and Scatter those of Job 3. Document 01 leaves out
+# the value of fifteen equal measurements, the slope of 52 equal values, and the midpoint of 344 in the last place (344 / 5200).
 TECHNICIAN = [
     ('smooth', '10^12 everywhere', 'value 1000000000000'),
     ('smooth', 'last 10^12 + 1', 'refused 2'),
@@ -15,12 +15,12 @@ TECHNICIAN = [
     ('fit', 'all -51', 'midpoint -1 slope 0'),
     ('fit', 'last value 344', 'midpoint 0 slope 0'),
     ('fit', 'last 2 x 10^12 + 1', 'refused 2'),
-    ('fit', '51 values', 'refused 1'),
+    ('fit', '3 values', 'refused 1'),
     ('fit', '53 values', 'refused 1'),
     ('scatter', 'a = 150', 'DSG 2'),
     ('scatter', 'a = 999950', 'refused 6'),
     ('scatter', 'a = 2^32', 'refused 6'),
-    ('scatter', '51 values', 'refused 1'),
+    ('scatter', '3 values', 'refused 1'),
     ('scatter', '53 values', 'refused 1'),
     ('start', 'MJD 50722, 120', 'accepted'),
     ('start', 'MJD 50722, 84600', 'accepted'),

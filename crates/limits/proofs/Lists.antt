@@ -45,18 +45,24 @@ limit-within limit [] h = refl
 limit-within limit (z ∷ l) h = rw (within-magnitude limit z (h 0), limit-within limit l (λ i. h (suc i)))
 
 -- what it tells that a list is not refused
-pub list-accepted : (n : ℕ) (low high : ℤ) (l : List ℤ) → rangeRule n low high l ≡ 0
-    → (length l ≡ n) × (anyOutside low high l ≡ false)
+pub list-accepted : (wrong : Bool) (low high : ℤ) (l : List ℤ) → rangeRule wrong low high l ≡ 0
+    → (wrong ≡ false) × (anyOutside low high l ≡ false)
 unfolding rangeRule
-list-accepted n low high l e =
-    let z = then-zero (1 when miscounted n l) (2 when anyOutside low high l) e in (
-      eqb-true (length l) n (not-false (eqb (length l) n) (when-zero 0 (miscounted n l) (z .0))),
-      when-zero 1 (anyOutside low high l) (z .1),
-    )
+list-accepted wrong low high l e =
+    let z = then-zero (1 when wrong) (2 when anyOutside low high l) e in
+    (when-zero 0 wrong (z .0), when-zero 1 (anyOutside low high l) (z .1))
 
-pub list-passes : (n : ℕ) (low high : ℤ) (l : List ℤ) → length l ≡ n → anyOutside low high l ≡ false → rangeRule n low high l ≡ 0
+pub list-passes : (wrong : Bool) (low high : ℤ) (l : List ℤ) → wrong ≡ false → anyOutside low high l ≡ false
+    → rangeRule wrong low high l ≡ 0
 unfolding rangeRule _when_ _then_
-list-passes n low high l e p = rw (eq-eqb (length l) n e, p)
+list-passes wrong low high l e p = rw (e, p)
+
+-- a list that is not miscounted has its length, and the other way round
+pub counted : (n : ℕ) (l : List ℤ) → miscounted n l ≡ false → length l ≡ n
+counted n l e = eqb-true (length l) n (not-false (eqb (length l) n) e)
+
+pub counts : (n : ℕ) (l : List ℤ) → length l ≡ n → miscounted n l ≡ false
+counts n l e = rw (eq-eqb (length l) n e)
 
 -- a part of a list that passed has passed
 pub any-drop : (low high : ℤ) (m : ℕ) (l : List ℤ) → anyOutside low high l ≡ false → anyOutside low high (drop m l) ≡ false

@@ -1,4 +1,5 @@
 pub mod Refusal
 pub mod Reply
 pub mod Limits
+pub mod Blocks
 pub mod Lists

@@ -22,10 +22,10 @@ anyOutside low high (z ∷ l) = outside low high z || anyOutside low high l
 abbrev pub anyBeyond : ℕ → List ℤ → Bool
 anyBeyond limit l = anyOutside (negℤ (pos limit)) (pos limit) l
 
--- 1: the count is not n. 2: a number is outside low to high.
-unfoldable pub rangeRule : ℕ → ℤ → ℤ → List ℤ → ℕ
-rangeRule n low high l = 1 when miscounted n l then 2 when anyOutside low high l
+-- 1: the count is wrong. 2: a number is outside low to high.
+unfoldable pub rangeRule : (wrong : Bool) → ℤ → ℤ → List ℤ → ℕ
+rangeRule wrong low high l = 1 when wrong then 2 when anyOutside low high l
 
 -- 2: a number is outside plus or minus limit.
-abbrev pub listRule : ℕ → ℕ → List ℤ → ℕ
-listRule n limit l = rangeRule n (negℤ (pos limit)) (pos limit) l
+abbrev pub listRule : (wrong : Bool) → ℕ → List ℤ → ℕ
+listRule wrong limit l = rangeRule wrong (negℤ (pos limit)) (pos limit) l

@@ -4,6 +4,7 @@
 ghost use mathlib.Core.Path.{_≡_};
 ghost use Rattle.limits.specs.Refusal.{_when_, _then_};
 ghost use Rattle.limits.specs.Limits.{outside, limitsRule, dsgRule};
+ghost use Rattle.limits.specs.Blocks.{blocksFit};
 ghost use Rattle.limits.specs.Lists.{anyOutside};
 
 // The ten numbers of a track, in their fixed order.
@@ -39,6 +40,13 @@ pub fn outside(low: i64, high: i64, z: i64) -> bool
     ensures { λ r. ⌜ r ≡ outside low high z ⌝ }
 {
     (z < low) | (high < z)
+}
+
+// Whether a track may have n blocks.
+pub fn blocks_fit(n: usize) -> bool
+    ensures { λ r. ⌜ r ≡ blocksFit n ⌝ }
+{
+    (4 <= n) & (n <= 52)
 }
 
 // Whether some value is outside low to high.

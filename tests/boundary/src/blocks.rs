@@ -5,6 +5,7 @@ use crate::compare::{Compare, Lent};
 use crate::edges;
 use crate::faults::*;
 use reference::seeded::Seeded;
+use reference::{block_bytes, LEAST_BLOCKS, MOST_BLOCKS};
 
 pub fn run(compare: &mut Compare, seeded: &mut Seeded, scale: usize) {
     faulty(compare, seeded, 80 * scale);
@@ -14,8 +15,18 @@ pub fn run(compare: &mut Compare, seeded: &mut Seeded, scale: usize) {
         wild(compare, seeded);
         flipped(compare, seeded);
     }
-    limits(compare, seeded);
-    sizes_and_lengths(compare, seeded);
+    for n in LEAST_BLOCKS..=MOST_BLOCKS {
+        limits(compare, n, seeded);
+        lengths(compare, n, seeded);
+    }
+    for n in LEAST_BLOCKS - 1..=MOST_BLOCKS + 1 {
+        sizes_near(compare, n, seeded);
+    }
+    for n in [LEAST_BLOCKS, 13, MOST_BLOCKS] {
+        sizes(compare, n, seeded);
+    }
+    zeros_and_long_blocks(compare, seeded);
+    edges::largest(compare, seeded);
     edges::far_slopes(compare, seeded);
 }
 
@@ -48,8 +59,8 @@ fn faulty(compare: &mut Compare, seeded: &mut Seeded, rounds: usize) {
 fn one_faulty(compare: &mut Compare, seeded: &mut Seeded, faults: &[Fault]) {
     let (bytes, lent) = faulty_block(faults, seeded);
     let answer = compare.block("faulty blocks", bytes.as_deref(), lent);
-    let numbers: Vec<u32> = faults.iter().map(|fault| fault.number()).collect();
-    compare.faults("block", &BLOCK_ORDER, &numbers, answer);
+    let places: Vec<usize> = faults.iter().map(|fault| fault.place()).collect();
+    compare.placed_faults("block", &BLOCK_ORDER, &places, answer);
 }
 
 fn accepted(compare: &mut Compare, seeded: &mut Seeded) {
@@ -99,17 +110,21 @@ fn flipped(compare: &mut Compare, seeded: &mut Seeded) {
     compare.block("damaged blocks", Some(&bytes), lent);
 }
 
-/// Every ps number of a block at its limits and beyond them.
-fn limits(compare: &mut Compare, seeded: &mut Seeded) {
-    for number in 0..1044 {
-        let at = if number < 4 { 26 + 8 * number } else { 58 + 8 * (number - 4) };
+/// Every ps number of a block at its limits and beyond them; of a block that is neither the shortest nor the longest, at two of
+/// these values.
+fn limits(compare: &mut Compare, n: usize, seeded: &mut Seeded) {
+    let corrections = 58 + 120 * n;
+    for at in (26..block_bytes(n)).step_by(8) {
         let limit: i64 = match at {
-            58..=6297 => 1_000_000_000_000,
-            6298.. if (at - 6298) % 40 == 0 => 200_000_000_000,
+            58.. if at < corrections => 1_000_000_000_000,
+            58.. if (at - corrections) % 40 == 0 => 200_000_000_000,
             _ => 10_000_000_000,
         };
-        for value in [limit, limit + 1, -limit, -limit - 1, i64::MIN, i64::MAX, 1, -1] {
-            let mut bytes = good(seeded).bytes();
+        let all = [limit, limit + 1, -limit, -limit - 1, i64::MIN, i64::MAX, 1, -1];
+        let some = [seeded.pick(&all[..4]), seeded.pick(&all)];
+        let values = if n == LEAST_BLOCKS || n == MOST_BLOCKS { &all[..] } else { &some };
+        for value in values {
+            let mut bytes = good_of(n, seeded).bytes();
             bytes[at..at + 8].copy_from_slice(&value.to_le_bytes());
             let lent = any_lent(seeded);
             compare.block("blocks at a limit", Some(&bytes), lent);
@@ -117,23 +132,72 @@ fn limits(compare: &mut Compare, seeded: &mut Seeded) {
     }
 }
 
-/// Every size beside the right other one, and every length up to some bytes beyond a block.
-fn sizes_and_lengths(compare: &mut Compare, seeded: &mut Seeded) {
-    let mut bytes = good(seeded).bytes();
+/// Every length up to some bytes beyond a block.
+fn lengths(compare: &mut Compare, n: usize, seeded: &mut Seeded) {
+    let mut bytes = good_of(n, seeded).bytes();
+    bytes.resize(block_bytes(n + 2) + 1, 0);
+    for length in 0..=bytes.len() {
+        let lent = any_lent(seeded);
+        let answer = compare.block("blocks by their length", Some(&bytes[..length]), lent);
+        let whole = length == block_bytes(n);
+        compare.known("block", if whole { answer } else { 11 }, answer);
+    }
+    for other in LEAST_BLOCKS..=MOST_BLOCKS {
+        bytes.resize(block_bytes(other), 0);
+        let lent = any_lent(seeded);
+        compare.block("blocks of another length", Some(&bytes), lent);
+    }
+}
+
+fn put_sizes(bytes: &mut [u8], seconds: u16, blocks: u16) {
+    bytes[..2].copy_from_slice(&seconds.to_le_bytes());
+    bytes[2..4].copy_from_slice(&blocks.to_le_bytes());
+}
+
+/// Sizes near 15n and n, with the bytes that these make and with fewer and more.
+fn sizes_near(compare: &mut Compare, n: usize, seeded: &mut Seeded) {
+    let bytes = good_of(n, seeded).bytes();
+    let (seconds, blocks) = (15 * n as u16, n as u16);
+    let near = (0..=34).flat_map(|a| (0..=4).map(move |b| (seconds + a - 17, blocks + b - 2)));
+    let others = (LEAST_BLOCKS as u16..=MOST_BLOCKS as u16).flat_map(|other| [(15 * other, blocks), (seconds, other)]);
+    let turned = [(blocks, seconds), (blocks.swap_bytes(), seconds.swap_bytes()), (0, 0), (0, blocks), (seconds, 0)];
+    for (first, second) in near.chain(others).chain(turned) {
+        let mut sized = bytes.clone();
+        put_sizes(&mut sized, first, second);
+        sized.resize(bytes.len() + 160, 0);
+        for length in [bytes.len(), bytes.len() - 1, bytes.len() - 160, bytes.len() + 160, 4, 3] {
+            let lent = any_lent(seeded);
+            let answer = compare.block("blocks by their sizes", Some(&sized[..length]), lent);
+            let fit = (4..=52).contains(&second) && first == 15 * second;
+            if length >= 4 && !fit {
+                compare.known("block", 1, answer);
+            }
+        }
+    }
+}
+
+/// Every size beside the right other one.
+fn sizes(compare: &mut Compare, n: usize, seeded: &mut Seeded) {
+    let mut bytes = good_of(n, seeded).bytes();
     for size in 0..=u16::MAX {
-        bytes[..4].copy_from_slice(&[780u16.to_le_bytes(), size.to_le_bytes()].concat());
+        put_sizes(&mut bytes, 15 * n as u16, size);
         let lent = any_lent(seeded);
         compare.block("blocks by their second size", Some(&bytes), lent);
-        bytes[..4].copy_from_slice(&[size.to_le_bytes(), 52u16.to_le_bytes()].concat());
+        put_sizes(&mut bytes, size, n as u16);
         let lent = any_lent(seeded);
         compare.block("blocks by their first size", Some(&bytes), lent);
     }
-    bytes[..2].copy_from_slice(&780u16.to_le_bytes());
-    bytes.resize(8378 + 400, 0);
-    for length in 0..=bytes.len() {
+}
+
+/// Nothing but zeros of every length, which have the sizes 0 and 0 from 4 bytes on; a long block, and none.
+fn zeros_and_long_blocks(compare: &mut Compare, seeded: &mut Seeded) {
+    let zeros = vec![0; block_bytes(MOST_BLOCKS) + 200];
+    for length in 0..=zeros.len() {
         let lent = any_lent(seeded);
-        compare.block("blocks by their length", Some(&bytes[..length]), lent);
+        let answer = compare.block("zero bytes", Some(&zeros[..length]), lent);
+        compare.known("block", if length < 4 { 11 } else { 1 }, answer);
     }
+    let mut bytes = good_of(MOST_BLOCKS, seeded).bytes();
     bytes.resize(1 << 20, 0);
     for lent in [Lent::Null, Lent::Of(0), Lent::Of(113)] {
         compare.block("a long block", Some(&bytes), lent);

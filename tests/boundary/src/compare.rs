@@ -39,8 +39,8 @@ pub struct Compare {
     differences: usize,
     /// function and answer: cases
     pub answers: BTreeMap<(&'static str, u32), u64>,
-    /// function and the two faults' numbers, the one that decides first: cases
-    pub pairs: BTreeMap<(&'static str, u32, u32), u64>,
+    /// function and the places of the two faults in its order, the one that decides first: cases
+    pub pairs: BTreeMap<(&'static str, usize, usize), u64>,
     /// function, answer and what was lent: cases
     pub lents: BTreeMap<(&'static str, u32, Lent), u64>,
 }
@@ -197,14 +197,28 @@ impl Compare {
         }
     }
 
+    /// A case whose answer is known; the plain Rust implementation must give it.
+    pub fn known(&mut self, of: &'static str, expected: u32, answer: u32) {
+        if answer != expected {
+            eprintln!("{of}: the answer is {expected}, and the plain Rust implementation answers {answer}");
+            self.differences += 1;
+        }
+    }
+
     /// Notes a case with known faults; the plain Rust implementation's answer must be the first one's number.
     pub fn faults(&mut self, of: &'static str, order: &[u32], numbers: &[u32], answer: u32) {
-        let rank = |n: &u32| order.iter().position(|o| o == n).expect("a number of this operation");
-        let mut sorted = numbers.to_vec();
-        sorted.sort_by_key(rank);
-        let expected = sorted.first().copied().unwrap_or(0);
+        let place = |n: &u32| order.iter().position(|o| o == n).expect("a number of this operation");
+        self.placed_faults(of, order, &numbers.iter().map(place).collect::<Vec<usize>>(), answer);
+    }
+
+    /// The same with faults by their places in the order, in which a number may stand twice.
+    pub fn placed_faults(&mut self, of: &'static str, order: &[u32], places: &[usize], answer: u32) {
+        let mut sorted = places.to_vec();
+        sorted.sort_unstable();
+        let expected = sorted.first().map_or(0, |place| order[*place]);
         if answer != expected {
-            eprintln!("{of}: faults {sorted:?} were put in and the plain Rust implementation answers {answer}");
+            let numbers: Vec<u32> = sorted.iter().map(|place| order[*place]).collect();
+            eprintln!("{of}: faults {numbers:?} were put in and the plain Rust implementation answers {answer}");
             self.differences += 1;
         }
         for (i, first) in sorted.iter().enumerate() {

@@ -4,10 +4,12 @@ use crate::case::*;
 use crate::compare::Lent;
 use reference::good::{good_labels, good_numbers, track_start};
 use reference::seeded::Seeded;
-use reference::{Labels, Numbers, BLOCK_BYTES};
+use reference::waves::wave;
+use reference::{block_bytes, Labels, Numbers, BLOCK_SECONDS, LEAST_BLOCKS, MOST_BLOCKS};
 
-/// The order in which each operation tries its refusals; 10 can't be reached.
-pub const BLOCK_ORDER: [u32; 10] = [11, 1, 2, 3, 4, 5, 6, 7, 8, 9];
+/// The order in which each operation tries its refusals; 10 can't be reached. Block has 11 twice: for what is too short to
+/// have sizes, and behind 1 for any other wrong length.
+pub const BLOCK_ORDER: [u32; 11] = [11, 1, 11, 2, 3, 4, 5, 6, 7, 8, 9];
 pub const LINE_ORDER: [u32; 7] = [7, 8, 3, 4, 5, 6, 9];
 
 /// Labels that can break a range: FRC counts three times and MJD twice.
@@ -15,6 +17,8 @@ const LABELS: usize = 12;
 
 #[derive(Clone, Copy, Debug, PartialEq, Eq)]
 pub enum Fault {
+    /// under 4 bytes
+    Cut,
     Length,
     Sizes,
     Measurement,
@@ -42,7 +46,7 @@ use Fault::*;
 impl Fault {
     pub fn number(self) -> u32 {
         match self {
-            Length => 11,
+            Cut | Length => 11,
             Sizes => 1,
             Measurement | Column(_) | Single(_) => 2,
             Refsv | Refsys => 3,
@@ -53,6 +57,12 @@ impl Fault {
             Start => 8,
             Short => 9,
         }
+    }
+
+    /// Its place in Block's order.
+    pub fn place(self) -> usize {
+        let from = if self == Length { 2 } else { 0 };
+        from + BLOCK_ORDER[from..].iter().position(|number| *number == self.number()).expect("a number of Block")
     }
 }
 
@@ -65,7 +75,7 @@ fn common() -> Vec<Fault> {
 }
 
 pub fn of_blocks() -> Vec<Fault> {
-    let mut all = vec![Length, Sizes, Measurement];
+    let mut all = vec![Cut, Sizes, Length, Measurement];
     all.extend((0..5).map(Column));
     all.extend((0..4).map(Single));
     all.extend(common());
@@ -163,6 +173,20 @@ pub fn spoil_start(labels: &mut Labels, seeded: &mut Seeded) {
     };
 }
 
+/// A track length that is not 15n with n from 4 to 52: next to one, of too few blocks or too many, or any.
+fn no_length(seeded: &mut Seeded) -> i64 {
+    let seconds = BLOCK_SECONDS as i64;
+    let legal = seconds * seeded.range(LEAST_BLOCKS as i64, MOST_BLOCKS as i64);
+    match seeded.below(7) {
+        0 => legal - seeded.range(1, 14),
+        1 => -legal,
+        2 => seconds * seeded.range(MOST_BLOCKS as i64 + 1, 1000),
+        3 => seconds * seeded.range(0, LEAST_BLOCKS as i64 - 1),
+        4 => legal + (1 << seeded.range(16, 62)),
+        _ => outside(seeded, seconds * LEAST_BLOCKS as i64, seconds * MOST_BLOCKS as i64),
+    }
+}
+
 fn spoil_number(numbers: &mut Numbers, fault: Fault, seeded: &mut Seeded) {
     let column = |seeded: &mut Seeded, high: bool| match (high, seeded.below(3)) {
         (true, 0) => 10_000,
@@ -184,7 +208,7 @@ fn spoil_number(numbers: &mut Numbers, fault: Fault, seeded: &mut Seeded) {
         Low(_) => numbers.mdio = column(seeded, false),
         High(_) => numbers.mdio = column(seeded, true),
         Dsg => numbers.dsg = outside(seeded, 0, 9999),
-        TrackLength => numbers.trkl = outside(seeded, 780, 780),
+        TrackLength => numbers.trkl = no_length(seeded),
         _ => {}
     }
 }
@@ -252,14 +276,15 @@ fn spoil_level(case: &mut Case, fault: Fault, seeded: &mut Seeded) {
     match fault {
         Low(k) => case.shift(k, -100 - far - case.mean(k)),
         High(k) => case.shift(k, 1_000_000 + far - case.mean(k)),
-        Dsg => add_wave(case, CLOCK, seeded.range(2_000_000, 2_000_000_000)),
+        Dsg => add_waves(case, CLOCK, seeded.range(1_000_000, 1_000_000_000)),
         _ => {}
     }
 }
 
-/// Adds a, -a, -a, a along a column: neither its sum nor its slope changes.
-fn add_wave(case: &mut Case, column: usize, a: i64) {
-    case.columns[column].iter_mut().enumerate().for_each(|(j, v)| *v += if matches!(j % 4, 0 | 3) { a } else { -a });
+/// Adds a wave so many times along a column: neither its sum nor its slope changes.
+fn add_waves(case: &mut Case, column: usize, times: i64) {
+    let wave = wave(case.blocks());
+    case.columns[column].iter_mut().zip(wave).for_each(|(v, w)| *v += times * w);
 }
 
 /// Brings A's mean near a target that measurements and geometry can reach together.
@@ -291,7 +316,8 @@ fn spoil_limit(case: &mut Case, fault: Fault, seeded: &mut Seeded) {
         _ => 10_000_000_000,
     };
     let bad = outside(seeded, -limit, limit);
-    let (second, j) = (seeded.below(780) as usize, seeded.below(52) as usize);
+    let n = case.blocks() as u64;
+    let (second, j) = (seeded.below(15 * n) as usize, seeded.below(n) as usize);
     match fault {
         Measurement => case.measurements[second] = bad,
         Column(k) => case.columns[k][j] = bad,
@@ -303,22 +329,47 @@ fn spoil_limit(case: &mut Case, fault: Fault, seeded: &mut Seeded) {
     }
 }
 
+/// Sizes that are not 15n and n with n from 4 to 52.
 fn spoil_sizes(case: &mut Case, seeded: &mut Seeded) {
-    let any = (seeded.bits() as u16 | 1, 52);
-    case.sizes =
-        seeded.pick(&[(779, 52), (781, 52), (780, 51), (780, 53), (52, 780), (0, 0), (765, 51), (0x0C03, 0x3400), any]);
+    let n = case.blocks() as u16;
+    let (bits, few, many) = (seeded.bits() as u16, seeded.range(0, 3) as u16, seeded.range(53, 4369) as u16);
+    let any = if bits == 15 * n { (bits + 1, n) } else { (bits, n) };
+    case.sizes = seeded.pick(&[
+        (15 * n - 1, n),
+        (15 * n + 1, n),
+        (15 * n, n - 1),
+        (15 * n, n + 1),
+        (15 * n - 15, n),
+        (n, 15 * n),
+        ((15 * n).swap_bytes(), n.swap_bytes()),
+        (15 * few, few),
+        (45, 3),
+        (15 * many, many),
+        (795, 53),
+        any,
+    ]);
 }
 
-/// A length that is no block's; the bytes that are left keep their faults. None is NULL.
-fn spoil_length(mut bytes: Vec<u8>, seeded: &mut Seeded) -> Option<Vec<u8>> {
-    let any = seeded.below(BLOCK_BYTES as u64) as usize;
+/// A length of 4 bytes or more that is not that of the sizes; the bytes that are left keep their faults.
+fn spoil_length(mut bytes: Vec<u8>, n: usize, seeded: &mut Seeded) -> Vec<u8> {
+    let whole = bytes.len();
+    let any = seeded.range(4, whole as i64 - 1) as usize;
+    let other = block_bytes(if n == MOST_BLOCKS { LEAST_BLOCKS } else { MOST_BLOCKS });
     match seeded.below(10) {
-        0 => return None,
-        1..=2 => bytes.push(seeded.bits() as u8),
+        0..=2 => bytes.push(seeded.bits() as u8),
         3 => bytes.extend_from_within(..),
-        _ => bytes.truncate(seeded.pick(&[BLOCK_BYTES - 1, BLOCK_BYTES - 8, 0, 1, 4, 58, 6298, any])),
+        4 => bytes.resize(other, 0),
+        5 => bytes.resize(seeded.pick(&[whole - 160, whole + 160, whole + 8]), 0),
+        _ => bytes.truncate(seeded.pick(&[whole - 1, whole - 8, whole - 40, 4, 58, 58 + 120 * n, any])),
     }
-    Some(bytes)
+    bytes
+}
+
+/// Under 4 bytes. None is NULL.
+fn cut(mut bytes: Vec<u8>, seeded: &mut Seeded) -> Option<Vec<u8>> {
+    let length = seeded.below(5) as usize;
+    bytes.truncate(length);
+    (length < 4).then_some(bytes)
 }
 
 /// A good block with these faults in it. None is NULL.
@@ -333,8 +384,12 @@ pub fn faulty_block(faults: &[Fault], seeded: &mut Seeded) -> (Option<Vec<u8>>, 
         spoil_sizes(&mut case, seeded);
     }
     let lent = lent_for(faults, seeded);
+    let mut bytes = case.bytes();
     if faults.contains(&Length) {
-        return (spoil_length(case.bytes(), seeded), lent);
+        bytes = spoil_length(bytes, case.blocks(), seeded);
     }
-    (Some(case.bytes()), lent)
+    if faults.contains(&Cut) {
+        return (cut(bytes, seeded), lent);
+    }
+    (Some(bytes), lent)
 }

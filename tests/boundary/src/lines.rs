@@ -18,6 +18,7 @@ pub fn run(compare: &mut Compare, seeded: &mut Seeded, scale: usize) {
     sweep_bytes(compare, seeded);
     sweep_words(compare, seeded);
     number_edges(compare, seeded);
+    track_lengths(compare, seeded);
 }
 
 /// Every fault, every pair of faults, and nearly as many triples as pairs.
@@ -144,7 +145,7 @@ fn sweep_words(compare: &mut Compare, seeded: &mut Seeded) {
 
 /// Each number at the powers of ten, at its ends and at those of its type.
 fn number_edges(compare: &mut Compare, seeded: &mut Seeded) {
-    let tens = (0..19).map(|p| 10i64.pow(p)).chain([780, i64::MAX]);
+    let tens = (0..19).map(|p| 10i64.pow(p)).chain([60, 765, 780, i64::MAX]);
     for edge in tens {
         for value in [edge - 1, edge, edge.wrapping_add(1), 1 - edge, -edge, (-edge).wrapping_sub(1)] {
             for which in 0..10 {
@@ -155,5 +156,17 @@ fn number_edges(compare: &mut Compare, seeded: &mut Seeded) {
                 }
             }
         }
+    }
+}
+
+/// Every track length that four columns hold, the same below 0, and those that only differ in bits from the 17th on.
+fn track_lengths(compare: &mut Compare, seeded: &mut Seeded) {
+    let far = (16..63).flat_map(|bit| [1 << bit, -1 << bit]).flat_map(|far: i64| (0..60).map(move |n| far + 15 * n));
+    for trkl in (-9999..=20_000).chain(far).chain(i64::MIN..i64::MIN + 800).chain(i64::MAX - 800..=i64::MAX) {
+        let (labels, mut numbers, lent) = faulty_line(&[], seeded);
+        numbers.trkl = trkl;
+        let answer = compare.line("lines by their track length", &labels, &numbers, lent);
+        let fits = (4..=52).any(|n| trkl == 15 * n);
+        compare.faults("line", &LINE_ORDER, if fits { &[] } else { &[7] }, answer);
     }
 }

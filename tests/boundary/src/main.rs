@@ -32,8 +32,8 @@ fn main() -> ExitCode {
     let scale = arguments.get(1).copied().unwrap_or(1) as usize;
     let mut compare = Compare::new(seed);
     lines::run(&mut compare, &mut Seeded::new(seed + 1), scale);
-    readings::run(&mut compare, &mut Seeded::new(seed + 4), scale);
     blocks::run(&mut compare, &mut Seeded::new(seed + 2), scale);
+    readings::run(&mut compare, &mut Seeded::new(seed + 4), scale);
     starts::run(&mut compare, &mut Seeded::new(seed + 3), scale);
     readings::dates(&mut compare, &mut Seeded::new(seed + 5));
     let merged = merges::run(&mut compare, &mut Seeded::new(seed + 6), scale);
@@ -71,12 +71,23 @@ fn report(compare: &Compare) -> Vec<String> {
     missing
 }
 
+/// 0 and the numbers of an order, each once.
+fn numbers(order: &[u32]) -> Vec<u32> {
+    let mut numbers = vec![0];
+    for number in order {
+        if !numbers.contains(number) {
+            numbers.push(*number);
+        }
+    }
+    numbers
+}
+
 /// How often each answer came; for the comment, the answer to the line that it was asked of.
 fn answers(compare: &Compare, of: &'static str, order: &[u32], missing: &mut Vec<String>) {
     let seen = |answer: u32| compare.answers.get(&(of, answer)).copied().unwrap_or(0);
     let total: u64 = compare.answers.iter().filter(|(key, _)| key.0 == of).map(|(_, count)| count).sum();
     println!("trackline_{of}: {total} cases");
-    for answer in std::iter::once(0).chain(order.iter().copied()) {
+    for answer in numbers(order) {
         println!("  answer {answer:2}: {:9}", seen(answer));
         if seen(answer) == 0 {
             missing.push(format!("trackline_{of} never answered {answer}"));
@@ -89,8 +100,8 @@ fn pairs(compare: &Compare, of: &'static str, order: &[u32], missing: &mut Vec<S
     println!("  cases with two faults, the row's decides:");
     for (i, first) in order.iter().enumerate() {
         let mut row = format!("    {first:2}:");
-        for second in &order[i + 1..] {
-            let count = compare.pairs.get(&(of, *first, *second)).copied().unwrap_or(0);
+        for (k, second) in order.iter().enumerate().skip(i + 1) {
+            let count = compare.pairs.get(&(of, i, k)).copied().unwrap_or(0);
             row += &format!(" {second}:{count}");
             if count == 0 {
                 missing.push(format!("trackline_{of} never met faults {first} and {second} together"));
@@ -105,10 +116,10 @@ fn lents(compare: &Compare, of: &'static str, order: &[u32], lengths: &[Lent], m
     println!("  lent, all answers:");
     for lent in lengths {
         let seen = |answer: u32| compare.lents.get(&(of, answer, *lent)).copied().unwrap_or(0);
-        let answers = std::iter::once(0).chain(order.iter().copied());
-        println!("    {lent:?}: {}", answers.clone().map(seen).sum::<u64>());
+        let answers = numbers(order);
+        println!("    {lent:?}: {}", answers.iter().map(|answer| seen(*answer)).sum::<u64>());
         let enough = lent.len() >= if of == "read" { reference::VALUES } else { reference::LINE_BYTES };
-        for answer in answers.filter(|answer| !(*answer == 0 && !enough || *answer == 9 && enough)) {
+        for answer in answers.into_iter().filter(|answer| !(*answer == 0 && !enough || *answer == 9 && enough)) {
             if seen(answer) == 0 {
                 missing.push(format!("trackline_{of} never answered {answer} to {lent:?} lent"));
             }

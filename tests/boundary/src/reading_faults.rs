@@ -56,8 +56,8 @@ impl Fault {
             TooShort | TooLong => 12,
             SmallCheck | OtherCheck | NoCheck => 14,
             Letter | Space | Digit | Hexadecimal | Sign | Code => 13,
-            BlankFill | MinusZero(_) | TrackLength | Comment => 13,
-            Satellite | Date | Elevation | Azimuth | Issue | Channel => 7,
+            BlankFill | MinusZero(_) | Comment => 13,
+            Satellite | Date | TrackLength | Elevation | Azimuth | Issue | Channel => 7,
             OffStart | Ninetieth | Hour | Minute | Second => 8,
             Few => 9,
         }
@@ -120,12 +120,12 @@ fn other(seeded: &mut Seeded, allowed: impl Fn(u8) -> bool) -> u8 {
     }
 }
 
-/// A column that holds a decimal digit, the track length's left out.
+/// A column that holds a decimal digit.
 pub fn a_digit(seeded: &mut Seeded) -> usize {
     loop {
         let column = seeded.range(2, 106) as usize;
         let signed = SIGNED.iter().any(|(first, _)| *first == column);
-        if !signed && !SPACES.contains(&column) && !matches!(column, 5 | 6 | 21..=24) {
+        if !signed && !SPACES.contains(&column) && !matches!(column, 5 | 6) {
             return column;
         }
     }
@@ -157,10 +157,6 @@ fn spoil_field(line: &mut Vec<u8>, fault: Fault, seeded: &mut Seeded) {
             let (first, last) = SIGNED[which];
             put(line, first, &format!("-{:0>1$}", "", last - first));
         }
-        TrackLength => {
-            let any = format!("{:04}", seeded.below(780));
-            put(line, 21, seeded.pick(&["0765", "0781", "0779", "0000", "9999", "1780", "7800", &any]));
-        }
         Comment => {
             if line.len() == LINE_BYTES {
                 line.push(0);
@@ -182,6 +178,14 @@ fn spoil_label(line: &mut [u8], fault: Fault, seeded: &mut Seeded) {
     match fault {
         Satellite => put(line, 2, "00"),
         Date => put(line, 8, &format!("{:05}", 50721 - outside(0, 50721))),
+        TrackLength => {
+            let length = match outside(0, 2) {
+                0 => 15 * outside(0, 3),
+                1 => 15 * outside(53, 666),
+                _ => 15 * outside(4, 52) + outside(1, 14),
+            };
+            put(line, 21, &format!("{length:04}"));
+        }
         Elevation => put(line, 26, &outside(901, 999).to_string()),
         Azimuth => put(line, 30, &outside(3600, 9999).to_string()),
         Issue => {

@@ -151,10 +151,10 @@ fn printed(compare: &mut Compare) {
     }
 }
 
-fn try_text(compare: &mut Compare, family: &str, line: &mut [u8], column: usize, text: &str) {
+fn try_text(compare: &mut Compare, family: &str, line: &mut [u8], column: usize, text: &str) -> u32 {
     put(line, column, text);
     repair(line);
-    compare.read(family, Some(line), Lent::Of(VALUES));
+    compare.read(family, Some(line), Lent::Of(VALUES))
 }
 
 /// Every clock of six digits on one day, and every hour and minute with some seconds on others.
@@ -196,7 +196,11 @@ fn sweep_labels(compare: &mut Compare, seeded: &mut Seeded) {
             put(&mut line, 78, "001");
             put(&mut line, 102, if letter == "R" { "01" } else { "00" });
             for value in 0..10u32.pow(width as u32) {
-                try_text(compare, "lines by a label", &mut line, column, &format!("{value:0width$}"));
+                let answer = try_text(compare, "lines by a label", &mut line, column, &format!("{value:0width$}"));
+                if column == 21 {
+                    let fits = (4..=52).any(|n| value == 15 * n);
+                    compare.faults("read", &READ_ORDER, if fits { &[] } else { &[7] }, answer);
+                }
             }
         }
     }

@@ -1,10 +1,18 @@
 //! Block: a hire block's bytes to a line.
 
+use crate::fit::{blocks_fit, MOST_BLOCKS};
 use crate::line::{line, Labels};
-use crate::track::{track, Columns, Delays, BLOCKS, SECONDS};
+use crate::track::{track, Columns, Delays, BLOCK_SECONDS, MOST_SECONDS};
 
-/// Bytes of a hire block.
-pub const BLOCK_BYTES: usize = 8378;
+/// Bytes of a hire block of n blocks of 15 seconds: sizes, labels and delays, the measurements, the corrections.
+pub const fn block_bytes(n: usize) -> usize {
+    corrections_at(n) + 40 * n
+}
+
+/// Where the corrections begin.
+const fn corrections_at(n: usize) -> usize {
+    58 + 8 * BLOCK_SECONDS * n
+}
 
 /// A part of the block, little-endian, of the width that is asked for.
 fn part<const N: usize>(block: &[u8], at: usize) -> [u8; N] {
@@ -43,28 +51,51 @@ fn delays(block: &[u8]) -> Delays {
     Delays { int: i64_at(block, 26), cab: i64_at(block, 34), refdly: i64_at(block, 42), gd: i64_at(block, 50) }
 }
 
-/// One of the five corrections of every group.
-fn column(block: &[u8], which: usize) -> [i64; BLOCKS] {
-    std::array::from_fn(|j| i64_at(block, 6298 + 40 * j + 8 * which))
+/// The measurements of n blocks.
+fn measurements(block: &[u8], n: usize) -> [i64; MOST_SECONDS] {
+    let mut measurements = [0; MOST_SECONDS];
+    let numbers = block[58..corrections_at(n)].chunks_exact(8);
+    measurements.iter_mut().zip(numbers).for_each(|(m, number)| *m = i64_at(number, 0));
+    measurements
+}
+
+/// One of the five corrections of each of n groups.
+fn column(block: &[u8], n: usize, which: usize) -> [i64; MOST_BLOCKS] {
+    let mut column = [0; MOST_BLOCKS];
+    let groups = block[corrections_at(n)..].chunks_exact(40);
+    column.iter_mut().zip(groups).for_each(|(v, group)| *v = i64_at(group, 8 * which));
+    column
+}
+
+/// 11 under 4 bytes, 1 for sizes that are not 15n and n, 11 for a length that is not theirs; else n.
+fn admit(block: &[u8]) -> Result<usize, u32> {
+    if block.len() < 4 {
+        return Err(11);
+    }
+    let (seconds, n) = (usize::from(u16_at(block, 0)), usize::from(u16_at(block, 2)));
+    if !blocks_fit(n) || seconds != BLOCK_SECONDS * n {
+        return Err(1);
+    }
+    if block.len() != block_bytes(n) {
+        return Err(11);
+    }
+    Ok(n)
 }
 
 /// Block: the line of a hire block into the lent line and 0, or the refusal and nothing written.
 pub fn block(block: &[u8], lent: &mut [u8]) -> u32 {
-    if block.len() != BLOCK_BYTES {
-        return 11;
-    }
-    if u16_at(block, 0) != SECONDS as u16 || u16_at(block, 2) != BLOCKS as u16 {
-        return 1;
-    }
-    let measurements: [i64; SECONDS] = std::array::from_fn(|i| i64_at(block, 58 + 8 * i));
-    let columns = Columns {
-        geometry: &column(block, 0),
-        relativity: &column(block, 1),
-        ionosphere: &column(block, 2),
-        troposphere: &column(block, 3),
-        clock: &column(block, 4),
+    let n = match admit(block) {
+        Ok(n) => n,
+        Err(refusal) => return refusal,
     };
-    match track(&measurements, &delays(block), &columns) {
+    let columns = Columns {
+        geometry: &column(block, n, 0)[..n],
+        relativity: &column(block, n, 1)[..n],
+        ionosphere: &column(block, n, 2)[..n],
+        troposphere: &column(block, n, 3)[..n],
+        clock: &column(block, n, 4)[..n],
+    };
+    match track(&measurements(block, n)[..BLOCK_SECONDS * n], &delays(block), &columns) {
         Ok(record) => line(&labels(block), &record.numbers, lent),
         Err(refusal) => refusal,
     }

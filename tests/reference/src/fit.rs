@@ -9,10 +9,15 @@ pub(crate) const VALUE_LIMIT: i64 = 2_000_000_000_000;
 /// The greatest DSG that its four columns hold.
 pub(crate) const MOST_DSG: i64 = 9999;
 
+/// The fewest values that a line is fitted through.
+pub const LEAST_BLOCKS: usize = 4;
+/// The most: those of a track of 780 s.
+pub const MOST_BLOCKS: usize = 52;
+
 /// Weights over 1105 that give a parabola's value at the middle of fifteen seconds.
 pub const WEIGHTS: [i64; 15] = [-78, -13, 42, 87, 122, 147, 162, 167, 162, 147, 122, 87, 42, -13, -78];
 
-/// A line through 52 values: midpoint in 0.1 ns, slope in 0.1 ps/s.
+/// A line through n values: midpoint in 0.1 ns, slope in 0.1 ps/s.
 #[derive(Clone, Copy, Debug, PartialEq, Eq)]
 pub struct Fitted {
     pub midpoint: i64,
@@ -32,21 +37,26 @@ pub fn smooth(measurements: &[i64]) -> Result<i64, u32> {
     Ok(nearest(sum, 1105))
 }
 
-/// Twice the place of value j from the middle of the 52.
-fn place(j: usize) -> i64 {
-    2 * j as i64 - 51
+/// Whether a track may have n blocks.
+pub(crate) fn blocks_fit(n: usize) -> bool {
+    (LEAST_BLOCKS..=MOST_BLOCKS).contains(&n)
+}
+
+/// Twice the place of value j from the middle of n.
+fn place(n: i64, j: usize) -> i64 {
+    2 * j as i64 - (n - 1)
 }
 
 /// The sum of the values, and the sum of the values times their places: below 1.1e14 and 2.8e15.
-fn sums(values: &[i64]) -> (i64, i64) {
+fn sums(values: &[i64], n: i64) -> (i64, i64) {
     let s = values.iter().sum();
-    let t = values.iter().enumerate().map(|(j, v)| place(j) * v).sum();
+    let t = values.iter().enumerate().map(|(j, v)| place(n, j) * v).sum();
     (s, t)
 }
 
 /// What Fit and Scatter ask of their list.
 fn admit(values: &[i64]) -> Result<(), u32> {
-    if values.len() != 52 {
+    if !blocks_fit(values.len()) {
         return Err(1);
     }
     if values.iter().any(|&v| !within(v, VALUE_LIMIT)) {
@@ -55,37 +65,59 @@ fn admit(values: &[i64]) -> Result<(), u32> {
     Ok(())
 }
 
-/// Fit: midpoint and slope of the line through 52 values.
+/// Fit: midpoint and slope of the line through 4 to 52 values.
 pub fn fit(values: &[i64]) -> Result<Fitted, u32> {
     admit(values)?;
-    let (s, t) = sums(values);
-    Ok(Fitted { midpoint: nearest(s, 5200), slope: nearest(t, 35139) })
+    Ok(counted(values, line_through))
+}
+
+/// What an operation gives on the values and their number, which for a full track is a constant to the compiler.
+#[inline(always)]
+fn counted<T>(values: &[i64], operation: impl Fn(&[i64], i64) -> T) -> T {
+    match values.len() {
+        MOST_BLOCKS => operation(values, MOST_BLOCKS as i64),
+        n => operation(values, n as i64),
+    }
+}
+
+/// The line through n values.
+#[inline(always)]
+fn line_through(values: &[i64], n: i64) -> Fitted {
+    let (s, t) = sums(values, n);
+    Fitted { midpoint: nearest(s, 100 * n), slope: nearest(4 * t, n * (n * n - 1)) }
+}
+
+/// The sum of the squared whole residuals of n values.
+#[inline(always)]
+fn squares(values: &[i64], n: i64) -> i128 {
+    let (s, t) = sums(values, n);
+    let mut q: i128 = 0;
+    for (j, v) in values.iter().enumerate() {
+        // the value - s / n - 3 place t / (n (n n - 1)), over that divisor: below 1e18
+        let residual = nearest(n * (n * n - 1) * v - (n * n - 1) * s - 3 * place(n, j) * t, n * (n * n - 1));
+        q += i128::from(residual) * i128::from(residual);
+    }
+    q
 }
 
 /// The least sum of squares whose DSG is d, for d from 1 up.
-fn threshold(d: i64) -> i128 {
+fn threshold(n: usize, d: i64) -> i128 {
     let root = i128::from(100 * d - 50);
-    52 * root * root
+    n as i128 * root * root
 }
 
-/// Scatter: DSG in 0.1 ns, from the squared whole residuals of the line through 52 values.
+/// Scatter: DSG in 0.1 ns, from the squared whole residuals of the line through 4 to 52 values.
 pub fn scatter(values: &[i64]) -> Result<i64, u32> {
     admit(values)?;
-    let (s, t) = sums(values);
-    let mut q: i128 = 0;
-    for (j, v) in values.iter().enumerate() {
-        // below 4e17
-        let residual = nearest(46852 * v - 901 * s - place(j) * t, 46852);
-        q += i128::from(residual) * i128::from(residual);
-    }
-    if q >= threshold(MOST_DSG + 1) {
+    let (n, q) = (values.len(), counted(values, squares));
+    if q >= threshold(n, MOST_DSG + 1) {
         return Err(6);
     }
-    // the greatest d whose threshold is not above q; under threshold 1, which is 130000, it is 0
+    // the greatest d whose threshold is not above q; under threshold 1, which is 2500 n, it is 0
     let (mut low, mut above) = (0, MOST_DSG + 1);
     while above - low > 1 {
         let d = (low + above) / 2;
-        if threshold(d) <= q {
+        if threshold(n, d) <= q {
             low = d;
         } else {
             above = d;

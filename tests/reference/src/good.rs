@@ -1,7 +1,7 @@
 //! Labels, numbers and comments that a line can hold, by a seed: the ends of their ranges come more often.
 
 use crate::seeded::Seeded;
-use crate::{Labels, Numbers, FIRST_MJD, LAST_MJD};
+use crate::{Labels, Numbers, BLOCK_SECONDS, FIRST_MJD, LAST_MJD, LEAST_BLOCKS, MOST_BLOCKS};
 
 /// The second of that day at which track i starts. There are 89: the place of a ninetieth stays empty.
 pub fn track_start(mjd: u32, i: i64) -> u32 {
@@ -52,7 +52,13 @@ pub fn good_labels(seeded: &mut Seeded) -> Labels {
     }
 }
 
+/// A number of blocks that a track may have.
+pub fn good_blocks(seeded: &mut Seeded) -> usize {
+    in_range(seeded, LEAST_BLOCKS as i64, MOST_BLOCKS as i64) as usize
+}
+
 pub fn good_numbers(seeded: &mut Seeded) -> Numbers {
+    let trkl = (BLOCK_SECONDS * good_blocks(seeded)) as i64;
     let mut signed = |limit: i64| match seeded.below(8) {
         0 => limit,
         1 => -limit,
@@ -63,7 +69,7 @@ pub fn good_numbers(seeded: &mut Seeded) -> Numbers {
     let (srsv, srsys) = (signed(99_999), signed(99_999));
     let (smdt, smdi) = (signed(999), signed(999));
     let (mdtr, mdio, dsg) = (signed(9999).abs(), signed(9999).abs(), signed(9999).abs());
-    Numbers { refsv, srsv, refsys, srsys, mdtr, smdt, mdio, smdi, dsg, trkl: 780 }
+    Numbers { refsv, srsv, refsys, srsys, mdtr, smdt, mdio, smdi, dsg, trkl }
 }
 
 /// A comment of so many characters, the first and the last of those that are allowed more often.

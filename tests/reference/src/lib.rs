@@ -18,15 +18,16 @@ mod reader;
 mod schedule;
 pub mod seeded;
 mod track;
+pub mod waves;
 pub mod worst;
 
-pub use block::{block, BLOCK_BYTES};
+pub use block::{block, block_bytes};
 pub use files::{file_lines, keys, merge, FileLine, Keys, FILE_LINE_BYTES};
-pub use fit::{fit, scatter, smooth, Fitted, WEIGHTS};
+pub use fit::{fit, scatter, smooth, Fitted, LEAST_BLOCKS, MOST_BLOCKS, WEIGHTS};
 pub use line::{line, Labels, LINE_BYTES};
 pub use reader::{comment, read, read_values, values, LONGEST_LINE, VALUES};
 pub use schedule::{start, FIRST_MJD, LAST_MJD};
-pub use track::{track, Columns, Delays, Numbers, Record, BLOCKS, BLOCK_SECONDS, SECONDS};
+pub use track::{track, Columns, Delays, Numbers, Record, BLOCK_SECONDS, MOST_SECONDS};
 
 /// Whether v lies within plus or minus the limit.
 fn within(v: i64, limit: i64) -> bool {

@@ -92,8 +92,8 @@ impl Text {
     }
 }
 
-/// Columns 1 to 33: the satellite, the date and where it stood.
-fn write_labels(text: &mut Text, labels: &Labels) {
+/// Columns 1 to 33: the satellite, the date, the track length and where it stood.
+fn write_labels(text: &mut Text, labels: &Labels, numbers: &Numbers) {
     text.put(labels.constellation);
     text.decimal(2, labels.satellite.into());
     text.space();
@@ -106,7 +106,7 @@ fn write_labels(text: &mut Text, labels: &Labels) {
     text.decimal(2, minute.into());
     text.decimal(2, second.into());
     text.space();
-    text.decimal(4, 780);
+    text.decimal(4, numbers.trkl as u64);
     text.space();
     text.decimal(3, labels.elv.into());
     text.space();
@@ -140,7 +140,7 @@ fn write_numbers(text: &mut Text, labels: &Labels, numbers: &Numbers) {
 /// The whole line of labels and numbers that were accepted.
 fn line_text(labels: &Labels, numbers: &Numbers) -> [u8; LINE_BYTES] {
     let mut text = Text { bytes: [0; LINE_BYTES], len: 0 };
-    write_labels(&mut text, labels);
+    write_labels(&mut text, labels, numbers);
     write_numbers(&mut text, labels, numbers);
     text.space();
     text.decimal(2, labels.fr.into());
@@ -156,7 +156,7 @@ fn line_text(labels: &Labels, numbers: &Numbers) -> [u8; LINE_BYTES] {
 
 /// Line's refusals in their order: 7, 8, 3, 4, 5, 6, 9.
 fn judge(labels: &Labels, numbers: &Numbers, lent: usize) -> Result<(), u32> {
-    if !labels.in_range() || numbers.trkl != 780 {
+    if !labels.in_range() || !numbers.length_fits() {
         return Err(7);
     }
     if start(labels.mjd, labels.start) != 0 {

@@ -11,7 +11,7 @@ const NAMES: [&str; 21] = [
     "SMDT", "MDIO", "SMDI", "FR", "HC", "FRC", "CK",
 ];
 
-/// A published line as printed and, where another date, start or length is put in, with that.
+/// A published line as printed and, where another date and start are put in, with those.
 pub struct Published {
     pub name: &'static str,
     pub printed: Form,

@@ -13,7 +13,7 @@ type Columns = [u8; LINE_BYTES];
 
 /// What may stand in columns 1 to 111: L a constellation's letter, d a digit, x a capital hexadecimal digit, s a sign,
 /// c a capital letter or a digit. Any other character stands for itself.
-const PICTURE: &[u8; 111] = b"Ldd xx ddddd dddddd 0780 ddd dddd sdddddddddd sddddd sdddddddddd sddddd dddd ddd \
+const PICTURE: &[u8; 111] = b"Ldd xx ddddd dddddd dddd ddd dddd sdddddddddd sddddd sdddddddddd sddddd dddd ddd \
                               dddd sddd dddd sddd dd dd ccc ";
 
 /// The fields that carry a sign: REFSV, SRSV, REFSYS, SRSYS, SMDT, SMDI.
@@ -131,14 +131,14 @@ pub fn read(line: &[u8]) -> Result<(Labels, Numbers), u32> {
     if !characters_fit(columns, comment) {
         return Err(13);
     }
-    let labels = labels(columns);
-    if !labels.in_range() {
+    let (labels, numbers) = (labels(columns), numbers(columns));
+    if !labels.in_range() || !numbers.length_fits() {
         return Err(7);
     }
     if !starts(columns, &labels) {
         return Err(8);
     }
-    Ok((labels, numbers(columns)))
+    Ok((labels, numbers))
 }
 
 /// The comment: the part of the line from column 114 on, or the empty part at the end of a line that is refused.

@@ -1,14 +1,12 @@
-//! Track: from 780 measurements and their corrections to the ten numbers of a line.
+//! Track: from the measurements of n blocks and their corrections to the ten numbers of a line.
 
-use crate::fit::{fit, scatter, smooth, MEASUREMENT_LIMIT, MOST_DSG, VALUE_LIMIT};
+use crate::fit::{blocks_fit, fit, scatter, smooth, MEASUREMENT_LIMIT, MOST_BLOCKS, MOST_DSG, VALUE_LIMIT};
 use crate::within;
 
-/// Measurements of a track, one a second.
-pub const SECONDS: usize = 780;
-/// Smoothed values of a track.
-pub const BLOCKS: usize = 52;
 /// Measurements that make one smoothed value.
 pub const BLOCK_SECONDS: usize = 15;
+/// Measurements of the longest track, one a second.
+pub const MOST_SECONDS: usize = BLOCK_SECONDS * MOST_BLOCKS;
 
 const GEOMETRY_LIMIT: i64 = 200_000_000_000;
 const CORRECTION_LIMIT: i64 = 10_000_000_000;
@@ -22,7 +20,7 @@ pub struct Delays {
     pub gd: i64,
 }
 
-/// The five columns of corrections, 52 values each, in ps.
+/// The five columns of corrections, a value for each block, in ps.
 #[derive(Clone, Copy, Debug)]
 pub struct Columns<'a> {
     pub geometry: &'a [i64],
@@ -48,6 +46,12 @@ pub struct Numbers {
 }
 
 impl Numbers {
+    /// The track length is that of 4 to 52 blocks.
+    pub(crate) fn length_fits(&self) -> bool {
+        let blocks = usize::try_from(self.trkl / BLOCK_SECONDS as i64).unwrap_or(0);
+        blocks_fit(blocks) && self.trkl % BLOCK_SECONDS as i64 == 0
+    }
+
     /// 3, 4 and 5: the tests that Track and Line share.
     pub(crate) fn check_fits(&self) -> Result<(), u32> {
         if !within(self.refsv, 9_999_999_999) || !within(self.refsys, 9_999_999_999) {
@@ -72,13 +76,15 @@ impl Numbers {
     }
 }
 
-/// A track's corrected values of each kind, in ps, beside its ten numbers.
+/// A track's corrected values of each kind, in ps, beside its ten numbers: so many of the 52 places are in use, and the
+/// others hold 0.
 #[derive(Clone, Debug, PartialEq, Eq)]
 pub struct Record {
-    pub a: [i64; BLOCKS],
-    pub b: [i64; BLOCKS],
-    pub c: [i64; BLOCKS],
-    pub d: [i64; BLOCKS],
+    pub blocks: usize,
+    pub a: [i64; MOST_BLOCKS],
+    pub b: [i64; MOST_BLOCKS],
+    pub c: [i64; MOST_BLOCKS],
+    pub d: [i64; MOST_BLOCKS],
     pub numbers: Numbers,
 }
 
@@ -86,11 +92,12 @@ fn all_within(values: &[i64], limit: i64) -> bool {
     values.iter().all(|&v| within(v, limit))
 }
 
-/// 1 and 2.
-fn admit(measurements: &[i64], delays: &Delays, columns: &Columns) -> Result<(), u32> {
+/// 1 and 2; else the number of blocks.
+fn admit(measurements: &[i64], delays: &Delays, columns: &Columns) -> Result<usize, u32> {
     let Columns { geometry, relativity, ionosphere, troposphere, clock } = *columns;
     let lists = [geometry, relativity, ionosphere, troposphere, clock];
-    if measurements.len() != SECONDS || lists.iter().any(|list| list.len() != BLOCKS) {
+    let n = geometry.len();
+    if !blocks_fit(n) || measurements.len() != BLOCK_SECONDS * n || lists.iter().any(|list| list.len() != n) {
         return Err(1);
     }
     let singles = [delays.int, delays.cab, delays.refdly, delays.gd];
@@ -101,17 +108,17 @@ fn admit(measurements: &[i64], delays: &Delays, columns: &Columns) -> Result<(),
     if !good {
         return Err(2);
     }
-    Ok(())
+    Ok(n)
 }
 
 /// Track: a record, or the refusal.
 pub fn track(measurements: &[i64], delays: &Delays, columns: &Columns) -> Result<Record, u32> {
-    admit(measurements, delays, columns)?;
-    let mut a = [0; BLOCKS];
-    let mut b = [0; BLOCKS];
-    let mut c = [0; BLOCKS];
-    let mut d = [0; BLOCKS];
-    for j in 0..BLOCKS {
+    let n = admit(measurements, delays, columns)?;
+    let mut a = [0; MOST_BLOCKS];
+    let mut b = [0; MOST_BLOCKS];
+    let mut c = [0; MOST_BLOCKS];
+    let mut d = [0; MOST_BLOCKS];
+    for j in 0..n {
         let smoothed = smooth(&measurements[BLOCK_SECONDS * j..BLOCK_SECONDS * (j + 1)])?;
         a[j] = smoothed - (delays.int + delays.cab - delays.refdly) - columns.geometry[j] + columns.relativity[j]
             - columns.ionosphere[j]
@@ -124,7 +131,7 @@ pub fn track(measurements: &[i64], delays: &Delays, columns: &Columns) -> Result
     if [&a, &b, &c, &d].iter().any(|kind| !all_within(*kind, VALUE_LIMIT)) {
         return Err(10);
     }
-    let (line_a, line_b, line_c, line_d) = (fit(&a)?, fit(&b)?, fit(&c)?, fit(&d)?);
+    let (line_a, line_b, line_c, line_d) = (fit(&a[..n])?, fit(&b[..n])?, fit(&c[..n])?, fit(&d[..n])?);
     let mut numbers = Numbers {
         refsv: line_a.midpoint,
         srsv: line_a.slope,
@@ -135,9 +142,9 @@ pub fn track(measurements: &[i64], delays: &Delays, columns: &Columns) -> Result
         mdio: line_d.midpoint,
         smdi: line_d.slope,
         dsg: 0,
-        trkl: SECONDS as i64,
+        trkl: measurements.len() as i64,
     };
     numbers.check_fits()?;
-    numbers.dsg = scatter(&b)?;
-    Ok(Record { a, b, c, d, numbers })
+    numbers.dsg = scatter(&b[..n])?;
+    Ok(Record { blocks: n, a, b, c, d, numbers })
 }

@@ -3,10 +3,11 @@
 //!     speed [ROUNDS [BLOCKS [SEED]]]
 //!     speed once PART            one call of each on one input that is refused behind a part, for instructions.sh
 //!
-//! First full blocks that are accepted, 10,000 unless another number is given, then ten lines for each block, read back.
-//! Then the same blocks and lines, each spoilt so that it is refused at one stage: what one stage costs more than the
-//! stage before it is the cost of the work between them. Last, pairs of line files of as many lines as there were blocks,
-//! and of twice as many, are merged. No time fails this program; a different answer, line or value does.
+//! First full blocks that are accepted, 10,000 unless another number is given, and as many blocks of the shortest tracks, then ten
+//! lines for each block, read back. Each time the same blocks and lines follow, spoilt so that they are refused at one stage: what
+//! one stage costs more than the stage before it is the cost of the work between them. Last, pairs of line files of as
+//! many lines as there were blocks, and of twice as many, are merged. No time fails this program; a different answer, line or
+//! value does.
 
 #[allow(dead_code)]
 #[path = "../../boundary/src/case.rs"]
@@ -22,7 +23,7 @@ mod timing;
 use read_stages::READ_STAGES;
 use reference::good::{good_comment, good_labels, good_numbers};
 use reference::seeded::Seeded;
-use reference::{LINE_BYTES, VALUES};
+use reference::{LEAST_BLOCKS, LINE_BYTES, MOST_BLOCKS, VALUES};
 use stages::{Stage, STAGES};
 use timing::Pair;
 
@@ -60,7 +61,8 @@ fn plain_comment(line: &[u8], _: &mut [i64]) -> u32 {
     (line.len() - reference::comment(line).len()) as u32
 }
 
-const BLOCK: Pair<u8> = Pair { input: "block", proved: speed_proved, plain: speed_plain, lent: LINE_BYTES };
+const BLOCK: Pair<u8> = Pair { input: "full block", proved: speed_proved, plain: speed_plain, lent: LINE_BYTES };
+const SHORT: Pair<u8> = Pair { input: "block of 4", ..BLOCK };
 const READ: Pair<i64> = Pair { input: "line", proved: speed_proved_read, plain: speed_plain_read, lent: VALUES };
 const COMMENT: Pair<i64> = Pair { input: "comment", proved: proved_comment, plain: plain_comment, lent: 0 };
 
@@ -78,7 +80,7 @@ fn once(part: &str) {
     let find = |stages: &'static [Stage]| stages.iter().find(|stage| stage.part == part);
     let mut seeded = Seeded::new(1);
     match (find(&STAGES), find(&READ_STAGES)) {
-        (Some(stage), _) => BLOCK.once(case::good(&mut seeded).bytes(), stage),
+        (Some(stage), _) => BLOCK.once(case::good_of(MOST_BLOCKS, &mut seeded).bytes(), stage),
         (_, Some(stage)) => READ.once(a_line(&mut seeded), stage),
         _ => panic!("{part} is no part of docs/SPEED.md"),
     }
@@ -96,11 +98,12 @@ fn main() {
     let count = or(0, 15).max(1) as usize;
     let number = or(1, 10_000).max(1);
     let mut seeded = Seeded::new(or(2, 1));
-    let blocks: Vec<Vec<u8>> = (0..number).map(|_| case::good(&mut seeded).bytes()).collect();
-    BLOCK.agree(&blocks, Some(0));
-    BLOCK.whole(count, &blocks);
-    BLOCK.split(4 * count, &blocks, &STAGES);
-    drop(blocks);
+    for (pair, n) in [(&BLOCK, MOST_BLOCKS), (&SHORT, LEAST_BLOCKS)] {
+        let blocks: Vec<Vec<u8>> = (0..number).map(|_| case::good_of(n, &mut seeded).bytes()).collect();
+        pair.agree(&blocks, Some(0));
+        pair.whole(count, &blocks);
+        pair.split(4 * count, &blocks, &STAGES);
+    }
     let lines: Vec<Vec<u8>> = (0..10 * number).map(|_| a_line(&mut seeded)).collect();
     READ.agree(&lines, Some(0));
     READ.whole(count, &lines);

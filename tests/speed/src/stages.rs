@@ -1,7 +1,6 @@
 //! Where an accepted block is spoilt so that it is refused after a known part of the work.
 
 use crate::case::{CLOCK, TROPOSPHERE};
-use reference::BLOCKS;
 
 pub struct Stage {
     /// the work between the refusal before and this one
@@ -16,9 +15,9 @@ pub const fn stage(part: &'static str, answer: u32, spoil: fn(&mut Vec<u8>)) -> 
 
 /// In the order of the refusals, named as in the table of docs/SPEED.md.
 pub const STAGES: [Stage; 6] = [
-    stage("length and sizes", 1, |block| block[2] = 51),
+    stage("length and sizes", 1, |block| block[2] -= 1),
     stage("decoding", 2, |block| put(block, 58, i64::MAX)),
-    stage("limits", 2, |block| put(block, column(CLOCK, BLOCKS - 1), i64::MAX)),
+    stage("limits", 2, last_clock_beyond),
     stage("smoothing, correcting, four fits", 5, negative_troposphere),
     stage("scatter", 7, |block| block[5] = 0),
     stage("labels and start, text", 0, |_| {}),
@@ -28,11 +27,24 @@ fn put(block: &mut [u8], at: usize, value: i64) {
     block[at..at + 8].copy_from_slice(&value.to_le_bytes());
 }
 
-fn column(which: usize, j: usize) -> usize {
-    6298 + 40 * j + 8 * which
+/// The number of blocks of 15 seconds.
+fn blocks(block: &[u8]) -> usize {
+    block[2].into()
+}
+
+fn correction(block: &[u8], which: usize, j: usize) -> usize {
+    58 + 120 * blocks(block) + 40 * j + 8 * which
+}
+
+fn last_clock_beyond(block: &mut Vec<u8>) {
+    let last = correction(block, CLOCK, blocks(block) - 1);
+    put(block, last, i64::MAX);
 }
 
 /// MDTR below 0 by an even column, so that its slope stays.
 fn negative_troposphere(block: &mut Vec<u8>) {
-    (0..BLOCKS).for_each(|j| put(block, column(TROPOSPHERE, j), -1000));
+    for j in 0..blocks(block) {
+        let at = correction(block, TROPOSPHERE, j);
+        put(block, at, -1000);
+    }
 }

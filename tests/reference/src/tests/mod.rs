@@ -4,9 +4,10 @@ mod merging;
 mod numbers;
 mod published;
 mod reading;
+mod short;
 mod text;
 
-use crate::{Columns, Delays, Labels, Record, BLOCKS, BLOCK_BYTES, SECONDS};
+use crate::{block_bytes, Columns, Delays, Labels, Record, BLOCK_SECONDS, MOST_BLOCKS};
 
 /// The labels of the paper's sample.
 pub const SAMPLE_LABELS: Labels = Labels {
@@ -35,12 +36,17 @@ pub struct Given {
 }
 
 impl Given {
-    /// Every measurement the same, all else 0.
+    /// Every measurement the same, all else 0; a full track.
     pub fn constant(measurement: i64) -> Given {
+        Given::of(MOST_BLOCKS, measurement)
+    }
+
+    /// The same for n blocks.
+    pub fn of(n: usize, measurement: i64) -> Given {
         Given {
-            measurements: vec![measurement; SECONDS],
+            measurements: vec![measurement; BLOCK_SECONDS * n],
             delays: Delays::default(),
-            columns: std::array::from_fn(|_| vec![0; BLOCKS]),
+            columns: std::array::from_fn(|_| vec![0; n]),
         }
     }
 
@@ -55,9 +61,10 @@ impl Given {
 
     /// The hire block, by the paper's table of offsets.
     pub fn block(&self, labels: &Labels) -> Vec<u8> {
-        let mut block = Vec::with_capacity(BLOCK_BYTES);
-        block.extend(780u16.to_le_bytes());
-        block.extend(52u16.to_le_bytes());
+        let n = self.columns[0].len();
+        let mut block = Vec::with_capacity(block_bytes(n));
+        block.extend((15 * n as u16).to_le_bytes());
+        block.extend((n as u16).to_le_bytes());
         block.extend([labels.constellation, labels.satellite, labels.cl, labels.fr, labels.hc]);
         block.extend(labels.frc);
         block.extend(labels.mjd.to_le_bytes());
@@ -68,10 +75,10 @@ impl Given {
         let Delays { int, cab, refdly, gd } = self.delays;
         [int, cab, refdly, gd].iter().for_each(|v| block.extend(v.to_le_bytes()));
         self.measurements.iter().for_each(|v| block.extend(v.to_le_bytes()));
-        for j in 0..BLOCKS {
+        for j in 0..n {
             self.columns.iter().for_each(|column| block.extend(column[j].to_le_bytes()));
         }
-        assert_eq!(block.len(), BLOCK_BYTES);
+        assert_eq!(block.len(), 58 + 160 * n);
         block
     }
 }

@@ -66,20 +66,20 @@ fn blank_filled(text: &str) -> String {
 #[test]
 fn published_lines() {
     let all = published();
-    assert_eq!(all.len(), 45);
+    assert_eq!(all.len(), 44);
     for case in &all {
         // the dates of document 004 lie before the schedule's first
         let old = case.name.starts_with("004");
         case.forms().for_each(|form| check(case.name, form));
-        assert_eq!(case.printed.line_answer, if old { 7 } else { 0 });
-        // a track length other than 0780 is a wrong character to the reader
-        let short = case.name.starts_with("004.3");
-        assert_eq!(case.printed.read_answer, if short { 13 } else { case.printed.line_answer });
+        let answer = if old { 7 } else { 0 };
+        assert_eq!((case.printed.line_answer, case.printed.read_answer), (answer, answer));
         assert_eq!(case.put_in.is_some(), old);
         if let Some(put_in) = &case.put_in {
-            let short = case.name == "004.3";
-            assert_eq!((put_in.line_answer, put_in.read_answer), if short { (7, 13) } else { (0, 0) });
+            assert_eq!((put_in.line_answer, put_in.read_answer), (0, 0));
         }
+        // one track is short
+        let length = if case.name == "004.3" { 765 } else { 780 };
+        case.forms().for_each(|form| assert_eq!(form.numbers.trkl, length));
     }
 }
 

@@ -98,9 +98,6 @@ fn may_hold(column: usize) -> Vec<u8> {
             b" ".to_vec()
         }
         5 | 6 => b"0123456789ABCDEF".to_vec(),
-        21 | 24 => b"0".to_vec(),
-        22 => b"7".to_vec(),
-        23 => b"8".to_vec(),
         35 | 47 | 54 | 66 | 87 | 97 => b"+-".to_vec(),
         108..=110 => b"ABCDEFGHIJKLMNOPQRSTUVWXYZ0123456789".to_vec(),
         114.. => (b' '..=b'~').collect(),
@@ -170,11 +167,20 @@ fn wrong_comments_are_13() {
 }
 
 #[test]
-fn other_track_lengths_are_13() {
+fn other_track_lengths_are_7() {
+    let lengths: Vec<u32> = (4..=52).map(|n| 15 * n).collect();
     for length in 0..=9999 {
-        check(if length == 780 { 0 } else { 13 }, SAMPLE_LINE, 21, &format!("{length:04}"));
+        check(if lengths.contains(&length) { 0 } else { 7 }, SAMPLE_LINE, 21, &format!("{length:04}"));
     }
-    check(13, SAMPLE_LINE, 21, "0765");
+    let (_, numbers) = read(&with(SAMPLE_LINE, 21, "0765")).expect("accepted");
+    assert_eq!(numbers.trkl, 765);
+    // what is no digit is a wrong character, and comes before
+    for text in [" 780", "  60", "+780", "-060", "07.0", "7 80", "O780"] {
+        check(13, SAMPLE_LINE, 21, text);
+    }
+    // a wrong length comes before a wrong start, and no other number comes between
+    check(7, SAMPLE_LINE, 14, "240000 0045");
+    check(8, SAMPLE_LINE, 14, "240000 0060");
 }
 
 #[test]

@@ -117,8 +117,21 @@ fn other_ranges_are_7() {
     for mjd in [0, 50721, 100_000, u32::MAX] {
         check(7, Labels { mjd, ..s });
     }
-    for (trkl, expected) in [(780, 0), (779, 7), (781, 7), (0, 7), (-780, 7), (i64::MIN, 7), (765, 7)] {
-        assert_eq!(answer(&s, &Numbers { trkl, ..Numbers::default() }), expected);
+}
+
+#[test]
+fn track_lengths_not_of_4_to_52_blocks_are_7() {
+    let lengths: Vec<i64> = (4..=52).map(|n| 15 * n).collect();
+    assert_eq!((lengths[0], lengths[48]), (60, 780));
+    let far =
+        [i64::MIN, i64::MIN + 8, -(1 << 32) + 60, -780, -60, (1 << 32) + 60, (1 << 16) + 780, i64::MAX - 7, i64::MAX];
+    for trkl in (-1000..=11_000).chain(far) {
+        let expected = if lengths.contains(&trkl) { 0 } else { 7 };
+        assert_eq!(answer(&SAMPLE_LABELS, &Numbers { trkl, ..Numbers::default() }), expected, "{trkl}");
+    }
+    for trkl in lengths {
+        let text = written(&SAMPLE_LABELS, &Numbers { trkl, ..Numbers::default() });
+        assert_eq!(text[20..24], format!("{trkl:04}"));
     }
 }
 
