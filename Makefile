@@ -15,7 +15,7 @@
 # make install       the programs, the libraries, the header, the manual pages: make install PREFIX=/usr/local DESTDIR=
 # make uninstall     remove what install put there, with the same PREFIX and DESTDIR; folders stay
 # make clean         remove target/, which holds everything that was built
-VERSION := 1.1.0
+VERSION := 1.2.0
 BLOCK ?= examples/sample.blk
 PREFIX ?= /usr/local
 SECONDS ?= 120
@@ -44,7 +44,7 @@ PROGRAM_SOURCES := $(shell find crates -name must-fail -prune -o -path 'crates/t
 PROGRAMS := $(PROGRAM) $(CGGTTS) tools/hireblock
 PAGES := $(wildcard man/*.[1-8])
 DOCUMENTS := docs/REFUSALS.md docs/HIRE-BLOCK.md
-EXAMPLES := examples/receiver.c examples/sample.txt examples/sample.blk examples/first.cggtts examples/second.cggtts
+EXAMPLES := examples/receiver.c examples/sample.txt examples/sample.blk examples/short.txt examples/short.blk examples/first.cggtts examples/second.cggtts
 INSTALLS := $(addprefix bin/,$(notdir $(PROGRAMS))) include/trackline.h lib/libtrackline.a lib/$(SONAME) \
 	lib/libtrackline.so lib/pkgconfig/trackline.pc \
 	$(foreach page,$(PAGES),share/man/man$(subst .,,$(suffix $(page)))/$(notdir $(page))) \
@@ -95,6 +95,7 @@ beside: archive programs cggtts
 	target/files_test
 	$(CC) $(CFLAGS) $(STRICT) -Iinclude examples/receiver.c $(ARCHIVE) -o target/receiver
 	target/receiver | cmp - crates/trackline/stdout
+	python3 tests/c/receiver.py target/receiver
 	$(CC) $(CFLAGS) $(STRICT) -Iinclude tests/c/stack.c $(ARCHIVE) -pthread -o target/stack
 	python3 tests/c/stack.py target/stack
 	python3 tests/layout.py
@@ -104,11 +105,14 @@ beside: archive programs cggtts
 	tools/hireblock pack examples/sample.txt | cmp - examples/sample.blk
 	tools/worked | cmp - examples/worked.txt
 	tools/hireblock pack examples/worked.txt | cmp - examples/worked.blk
+	tools/worked --short | cmp - examples/short.txt
+	tools/hireblock pack examples/short.txt | cmp - examples/short.blk
 	tools/week first | cmp - examples/first.cggtts
 	tools/week second | cmp - examples/second.cggtts
 	tools/week both | cmp - examples/week.cggtts
 	tools/lastdigit --check docs/LAST-DIGIT.md
 	tools/lastdigit --program target/bin/trackline
+	tools/lastdigit examples/short.blk --program target/bin/trackline
 	tools/lastdigit --svg target/last-digit.svg && cmp target/last-digit.svg docs/last-digit.svg
 	tools/definitions --check docs/TRUST.md
 	tools/architecture --check docs/ARCHITECTURE.md

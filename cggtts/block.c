@@ -18,6 +18,22 @@ int64_t ps_at(const uint8_t *block, size_t at)
     return number <= INT64_MAX ? (int64_t)number : -1 - (int64_t)(UINT64_MAX - number);
 }
 
+size_t measurements_of(const uint8_t *block)
+{
+    return (size_t)unsigned_at(block, TRACKLINE_AT_MEASUREMENTS_SIZE, TRACKLINE_WIDTH_MEASUREMENTS_SIZE);
+}
+
+size_t groups_of(const uint8_t *block)
+{
+    return (size_t)unsigned_at(block, TRACKLINE_AT_GROUPS_SIZE, TRACKLINE_WIDTH_GROUPS_SIZE);
+}
+
+int sizes_fit(size_t measurements, size_t groups)
+{
+    return groups >= TRACKLINE_LEAST_GROUPS && groups <= TRACKLINE_GROUPS
+        && measurements == TRACKLINE_MEASUREMENTS_OF(groups);
+}
+
 int64_t measurement_at(const uint8_t *block, size_t i)
 {
     return ps_at(block, TRACKLINE_AT_MEASUREMENTS + TRACKLINE_WIDTH_PS * i);
@@ -25,5 +41,5 @@ int64_t measurement_at(const uint8_t *block, size_t i)
 
 int64_t correction_at(const uint8_t *block, size_t j, size_t in_group)
 {
-    return ps_at(block, TRACKLINE_AT_GROUPS + TRACKLINE_WIDTH_GROUP * j + in_group);
+    return ps_at(block, TRACKLINE_AT_GROUPS_OF(groups_of(block)) + TRACKLINE_WIDTH_GROUP * j + in_group);
 }

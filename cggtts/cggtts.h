@@ -57,17 +57,20 @@ struct arguments {
 };
 int read_arguments(int argc, char **argv, int allowed, struct arguments *found);
 
-/* block.c: the numbers in a hire block. */
+/* block.c: the numbers in a hire block. The sizes are asked for first: 15n and n where they are those of n blocks. */
 uint64_t unsigned_at(const uint8_t *block, size_t at, size_t width);
+size_t measurements_of(const uint8_t *block);
+size_t groups_of(const uint8_t *block);
+int sizes_fit(size_t measurements, size_t groups);
 int64_t ps_at(const uint8_t *block, size_t at);
 int64_t measurement_at(const uint8_t *block, size_t i);
 int64_t correction_at(const uint8_t *block, size_t j, size_t in_group);
 
 /*
- * check.c: the hint for a text that was not packed, if it is one. labels.c, limits.c, figures.c, starts.c: each explains
+ * check.c: the hint for a text that was not packed, and whether it is one. labels.c, limits.c, figures.c, starts.c: each explains
  * what a block is refused for.
  */
-void explain_text(const struct bytes *block);
+int explain_text(const struct bytes *block);
 void explain_labels(const uint8_t *block);
 void explain_limits(const uint8_t *block);
 void explain_figures(const uint8_t *block, uint32_t number);

@@ -1,32 +1,53 @@
 /* cggtts check: whether each hire block is accepted, and what is to blame if not. */
 #include "cggtts.h"
 
-#include <inttypes.h>
-
+/* Refusal 1: the sizes that were found, and what would go with them. */
 static void explain_sizes(const uint8_t *block)
 {
-    explain("the sizes are %" PRIu64 " and %" PRIu64,
-            unsigned_at(block, TRACKLINE_AT_MEASUREMENTS_SIZE, TRACKLINE_WIDTH_MEASUREMENTS_SIZE),
-            unsigned_at(block, TRACKLINE_AT_GROUPS_SIZE, TRACKLINE_WIDTH_GROUPS_SIZE));
-}
-
-void explain_text(const struct bytes *block)
-{
-    if (block->length != TRACKLINE_BLOCK_BYTES && looks_like_text(block)) {
-        explain("this may be a text, which 'hireblock pack' packs");
+    size_t measurements = measurements_of(block), groups = groups_of(block);
+    if (sizes_fit(groups, measurements)) {
+        explain("the sizes are %zu and %zu: they are exchanged", measurements, groups);
+    } else if (groups >= TRACKLINE_LEAST_GROUPS && groups <= TRACKLINE_GROUPS) {
+        explain("the sizes are %zu and %zu: with %zu groups go %zu measurements", measurements, groups, groups,
+                TRACKLINE_MEASUREMENTS_OF(groups));
+    } else {
+        explain("the sizes are %zu and %zu: a track has %d to %d groups", measurements, groups, TRACKLINE_LEAST_GROUPS,
+                TRACKLINE_GROUPS);
     }
 }
 
-/* What a refused block is refused for. Only a block of the right length is looked into. */
+/* Refusal 11: how many bytes there are, and how many its sizes make. */
+static void explain_length(const struct bytes *block)
+{
+    explain("it has %zu byte%s", block->length, block->length == 1 ? "" : "s");
+    if (block->length >= TRACKLINE_AT_CONSTELLATION) {
+        size_t measurements = measurements_of(block->at), groups = groups_of(block->at);
+        explain("its sizes, %zu and %zu, make %zu", measurements, groups, TRACKLINE_BLOCK_BYTES_OF(groups));
+    }
+}
+
+/* A block has bytes of 0, as its sizes are small numbers, and so is no text. */
+int explain_text(const struct bytes *block)
+{
+    if (!looks_like_text(block)) {
+        return 0;
+    }
+    explain("this may be a text, which 'hireblock pack' packs");
+    return 1;
+}
+
+/* What a refused block is refused for. Only a block whose sizes and length are right is looked into. */
 static void explain_refusal(const struct bytes *block, uint32_t number)
 {
     switch (number) {
     case TRACKLINE_LENGTH:
-        explain("it has %zu byte%s", block->length, block->length == 1 ? "" : "s");
+        explain_length(block);
         explain_text(block);
         break;
     case TRACKLINE_COUNT:
-        explain_sizes(block->at);
+        if (!explain_text(block)) {
+            explain_sizes(block->at);
+        }
         break;
     case TRACKLINE_LIMIT:
         explain_limits(block->at);

@@ -106,7 +106,6 @@ static void explain_character(const uint8_t *line, size_t length)
             return;
         }
     }
-    explain("columns 21 to 24 (TRKL) are %.4s, not 0780", (const char *)line + 20);
 }
 
 /* A byte as it is shown between quotes, where a blank is seen. */
@@ -161,6 +160,15 @@ static void put_labels(const uint8_t *line, uint8_t *block)
                  3600 * decimal(line, 14, 15) + 60 * decimal(line, 16, 17) + decimal(line, 18, 19));
 }
 
+/* The track length, which a block has no label for. */
+static void explain_track_length(const uint8_t *line)
+{
+    unsigned seconds = decimal(line, 21, 24);
+    if (!sizes_fit(seconds, seconds / TRACKLINE_MEASUREMENTS_OF(1))) {
+        explain("TRKL is %u, not 15 times %d to %d", seconds, TRACKLINE_LEAST_GROUPS, TRACKLINE_GROUPS);
+    }
+}
+
 static void explain_clock(const uint8_t *line, const uint8_t *block)
 {
     static const struct {
@@ -195,6 +203,7 @@ void explain_line(const uint8_t *line, size_t length, uint32_t number)
     case TRACKLINE_LABEL:
         put_labels(line, block);
         explain_labels(block);
+        explain_track_length(line);
         break;
     default: /* 8: 9 does not arise, as all values are lent, and there is no other */
         put_labels(line, block);

@@ -1,14 +1,14 @@
 /*
  * Refusals 3 to 6: which of the figures does not fit. The library answers the number alone, so the figures are worked
- * out here once more, by the rules of the paper and for the message only; nothing here is proved. The limits on the
- * block's numbers are known to hold, so everything but the sum of squares fits 64 bits.
+ * out here once more, by the rules of the paper and for the message only; nothing here is proved. The sizes and the
+ * limits on the block's numbers are known to hold, so everything but the sum of squares fits 64 bits.
  */
 #include "cggtts.h"
 
 #include <inttypes.h>
 #include <math.h>
 
-enum { COUNT = TRACKLINE_GROUPS, SPAN = TRACKLINE_MEASUREMENTS / TRACKLINE_GROUPS };
+enum { MOST = TRACKLINE_GROUPS, SPAN = TRACKLINE_MEASUREMENTS_OF(1) };
 
 static const int64_t WEIGHTS[SPAN] = {-78, -13, 42, 87, 122, 147, 162, 167, 162, 147, 122, 87, 42, -13, -78};
 
@@ -29,16 +29,18 @@ static int64_t smoothed(const uint8_t *block, size_t j)
     return nearest(sum, 1105);
 }
 
-/* The corrected values of each kind. */
+/* The corrected values of each kind, and how many there are. */
 struct values {
-    int64_t a[COUNT], b[COUNT], c[COUNT], d[COUNT];
+    size_t count;
+    int64_t a[MOST], b[MOST], c[MOST], d[MOST];
 };
 
 static void correct(const uint8_t *block, struct values *values)
 {
     int64_t delays = ps_at(block, TRACKLINE_AT_INT) + ps_at(block, TRACKLINE_AT_CAB) - ps_at(block, TRACKLINE_AT_REF)
         + ps_at(block, TRACKLINE_AT_GD);
-    for (size_t j = 0; j < COUNT; j++) {
+    values->count = groups_of(block);
+    for (size_t j = 0; j < values->count; j++) {
         values->c[j] = correction_at(block, j, TRACKLINE_IN_GROUP_TROPOSPHERE);
         values->d[j] = correction_at(block, j, TRACKLINE_IN_GROUP_IONOSPHERE);
         values->a[j] = smoothed(block, j) - delays - correction_at(block, j, TRACKLINE_IN_GROUP_GEOMETRY)
@@ -47,33 +49,40 @@ static void correct(const uint8_t *block, struct values *values)
     }
 }
 
-/* 2j - 51. */
-static int64_t place(size_t j)
+/* 2j - (n - 1). */
+static int64_t place(size_t j, size_t n)
 {
-    return 2 * (int64_t)j - (COUNT - 1);
+    return 2 * (int64_t)j - ((int64_t)n - 1);
 }
 
 /* S and T of the paper. */
-static void sum_up(const int64_t *values, int64_t *total, int64_t *moment)
+static void sum_up(const int64_t *values, size_t n, int64_t *total, int64_t *moment)
 {
     *total = *moment = 0;
-    for (size_t j = 0; j < COUNT; j++) {
+    for (size_t j = 0; j < n; j++) {
         *total += values[j];
-        *moment += place(j) * values[j];
+        *moment += place(j, n) * values[j];
     }
 }
 
-/* DSG in floating point: exact for the root mean square of anything that is a track, near for what is none. */
-static double scatter(const int64_t *values)
+/* n(n^2 - 1). */
+static int64_t span_of(size_t n)
 {
-    int64_t total, moment;
+    return (int64_t)(n * (n * n - 1));
+}
+
+/* DSG in floating point: exact for the root mean square of anything that is a track, near for what is none. */
+static double scatter(const int64_t *values, size_t n)
+{
+    int64_t total, moment, span = span_of(n);
     double squares = 0;
-    sum_up(values, &total, &moment);
-    for (size_t j = 0; j < COUNT; j++) {
-        double residual = (double)nearest(46852 * values[j] - 901 * total - place(j) * moment, 46852);
+    sum_up(values, n, &total, &moment);
+    for (size_t j = 0; j < n; j++) {
+        int64_t over_span = span * values[j] - span / (int64_t)n * total - 3 * place(j, n) * moment;
+        double residual = (double)nearest(over_span, span);
         squares += residual * residual;
     }
-    return floor((sqrt(squares / COUNT) + 50) / 100);
+    return floor((sqrt(squares / (double)n) + 50) / 100);
 }
 
 static void judge(const char *name, int64_t figure, int64_t low, int64_t high)
@@ -84,40 +93,41 @@ static void judge(const char *name, int64_t figure, int64_t low, int64_t high)
     }
 }
 
-static int64_t midpoint(const int64_t *values)
+static int64_t midpoint(const int64_t *values, size_t n)
 {
     int64_t total, moment;
-    sum_up(values, &total, &moment);
-    return nearest(total, 5200);
+    sum_up(values, n, &total, &moment);
+    return nearest(total, 100 * (int64_t)n);
 }
 
-static int64_t slope(const int64_t *values)
+static int64_t slope(const int64_t *values, size_t n)
 {
     int64_t total, moment;
-    sum_up(values, &total, &moment);
-    return nearest(moment, 35139);
+    sum_up(values, n, &total, &moment);
+    return nearest(4 * moment, span_of(n));
 }
 
 void explain_figures(const uint8_t *block, uint32_t number)
 {
     struct values values;
     correct(block, &values);
+    size_t n = values.count;
     switch (number) {
     case TRACKLINE_MIDPOINT:
-        judge("REFSV", midpoint(values.a), -9999999999, 9999999999);
-        judge("REFSYS", midpoint(values.b), -9999999999, 9999999999);
+        judge("REFSV", midpoint(values.a, n), -9999999999, 9999999999);
+        judge("REFSYS", midpoint(values.b, n), -9999999999, 9999999999);
         break;
     case TRACKLINE_SLOPE:
-        judge("SRSV", slope(values.a), -99999, 99999);
-        judge("SRSYS", slope(values.b), -99999, 99999);
-        judge("SMDT", slope(values.c), -999, 999);
-        judge("SMDI", slope(values.d), -999, 999);
+        judge("SRSV", slope(values.a, n), -99999, 99999);
+        judge("SRSYS", slope(values.b, n), -99999, 99999);
+        judge("SMDT", slope(values.c, n), -999, 999);
+        judge("SMDI", slope(values.d, n), -999, 999);
         break;
     case TRACKLINE_DELAY:
-        judge("MDTR", midpoint(values.c), 0, 9999);
-        judge("MDIO", midpoint(values.d), 0, 9999);
+        judge("MDTR", midpoint(values.c, n), 0, 9999);
+        judge("MDIO", midpoint(values.d, n), 0, 9999);
         break;
     default:
-        explain("DSG is about %.0f, not 0 to 9999 (worked out by cggtts, not by the library)", scatter(values.b));
+        explain("DSG is about %.0f, not 0 to 9999 (worked out by cggtts, not by the library)", scatter(values.b, n));
     }
 }

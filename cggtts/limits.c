@@ -27,14 +27,14 @@ static void judge(const char *list, size_t place, int64_t value, int64_t limit, 
 
 void explain_limits(const uint8_t *block)
 {
-    size_t found = 0;
+    size_t found = 0, measurements = measurements_of(block), groups = groups_of(block);
     for (size_t k = 0; k < 4; k++) {
         judge(DELAYS[k], SIZE_MAX, ps_at(block, TRACKLINE_AT_INT + TRACKLINE_WIDTH_PS * k), OTHER_LIMIT, &found);
     }
-    for (size_t i = 0; i < TRACKLINE_MEASUREMENTS; i++) {
+    for (size_t i = 0; i < measurements; i++) {
         judge("measurement", i, measurement_at(block, i), MEASUREMENT_LIMIT, &found);
     }
-    for (size_t j = 0; j < TRACKLINE_GROUPS; j++) {
+    for (size_t j = 0; j < groups; j++) {
         for (size_t k = 0; k < 5; k++) {
             int64_t limit = k == 0 ? GEOMETRY_LIMIT : OTHER_LIMIT;
             judge(COLUMNS[k], j, correction_at(block, j, TRACKLINE_WIDTH_PS * k), limit, &found);

@@ -1,6 +1,7 @@
 /*
  * How a receiver's control program gets the data line of a track: it packs what it measured into a hire block, hands
- * the block over, and sends the line on. Copy what you need. With the library installed (pkg-config may have to be told
+ * the block over, and sends the line on. A satellite that sets early leaves a shorter track, which has a shorter block.
+ * Copy what you need. With the library installed (pkg-config may have to be told
  * where, by PKG_CONFIG_PATH=PREFIX/lib/pkgconfig):
  *
  *     cc -std=c11 receiver.c $(pkg-config --cflags --libs trackline) \
@@ -9,10 +10,12 @@
  * The run path (-rpath) lets the program find the shared library below any PREFIX; where ldconfig knows its folder it can
  * be left out.
  *
- * The track here is the sample: every measurement 1000 ps, no corrections.
+ * The track here is the sample: every measurement 1000 ps, no corrections. "./receiver 307" is what is left of it when the
+ * satellite sets after 307 seconds: 20 blocks of 15 seconds, the 7 seconds over are of no use.
  */
 #include <inttypes.h>
 #include <stdio.h>
+#include <stdlib.h>
 #include <string.h>
 
 #include <trackline.h>
@@ -38,6 +41,7 @@ struct track {
     uint16_t elv, azth;  /* 0.1 degree */
     uint16_t ioe;
     int64_t int_dly, cab_dly, ref_dly, gd; /* ps */
+    size_t groups;       /* how many blocks of 15 seconds were measured */
     int64_t measurements[TRACKLINE_MEASUREMENTS]; /* ps, one a second */
     struct corrections corrections[TRACKLINE_GROUPS];
 };
@@ -79,22 +83,24 @@ static void put_corrections(uint8_t *group, const struct corrections *c)
     put_ps(group, TRACKLINE_IN_GROUP_CLOCK, c->clock);
 }
 
-/* Packs a track into a hire block of TRACKLINE_BLOCK_BYTES bytes. */
-static void pack(uint8_t *block, const struct track *t)
+/* Packs a track into a hire block, in a room of TRACKLINE_BLOCK_BYTES bytes, and answers how many of them it takes. */
+static size_t pack(uint8_t *block, const struct track *t)
 {
-    put(block, TRACKLINE_AT_MEASUREMENTS_SIZE, TRACKLINE_WIDTH_MEASUREMENTS_SIZE, TRACKLINE_MEASUREMENTS);
-    put(block, TRACKLINE_AT_GROUPS_SIZE, TRACKLINE_WIDTH_GROUPS_SIZE, TRACKLINE_GROUPS);
+    size_t measurements = TRACKLINE_MEASUREMENTS_OF(t->groups), at_groups = TRACKLINE_AT_GROUPS_OF(t->groups);
+    put(block, TRACKLINE_AT_MEASUREMENTS_SIZE, TRACKLINE_WIDTH_MEASUREMENTS_SIZE, measurements);
+    put(block, TRACKLINE_AT_GROUPS_SIZE, TRACKLINE_WIDTH_GROUPS_SIZE, t->groups);
     put_labels(block, t);
     put_ps(block, TRACKLINE_AT_INT, t->int_dly);
     put_ps(block, TRACKLINE_AT_CAB, t->cab_dly);
     put_ps(block, TRACKLINE_AT_REF, t->ref_dly);
     put_ps(block, TRACKLINE_AT_GD, t->gd);
-    for (size_t i = 0; i < TRACKLINE_MEASUREMENTS; i++) {
+    for (size_t i = 0; i < measurements; i++) {
         put_ps(block, TRACKLINE_AT_MEASUREMENTS + TRACKLINE_WIDTH_PS * i, t->measurements[i]);
     }
-    for (size_t j = 0; j < TRACKLINE_GROUPS; j++) {
-        put_corrections(block + TRACKLINE_AT_GROUPS + TRACKLINE_WIDTH_GROUP * j, &t->corrections[j]);
+    for (size_t j = 0; j < t->groups; j++) {
+        put_corrections(block + at_groups + TRACKLINE_WIDTH_GROUP * j, &t->corrections[j]);
     }
+    return TRACKLINE_BLOCK_BYTES_OF(t->groups);
 }
 
 /* The refusals' texts come from the header. */
@@ -111,9 +117,12 @@ static const char *meaning(uint32_t refusal)
     }
 }
 
-static void sample(struct track *t)
+/* The sample, of which so many seconds were measured: only whole blocks count, and not more than a full track has. */
+static void sample(struct track *t, unsigned long seconds)
 {
+    unsigned long groups = seconds / TRACKLINE_MEASUREMENTS_OF(1);
     memset(t, 0, sizeof *t);
+    t->groups = groups < TRACKLINE_GROUPS ? groups : TRACKLINE_GROUPS;
     t->constellation = 'G';
     t->satellite = 5;
     t->cl = 255;
@@ -123,20 +132,20 @@ static void sample(struct track *t)
     t->elv = 450;
     t->azth = 1800;
     t->ioe = 7;
-    for (size_t i = 0; i < TRACKLINE_MEASUREMENTS; i++) {
+    for (size_t i = 0; i < TRACKLINE_MEASUREMENTS_OF(t->groups); i++) {
         t->measurements[i] = 1000;
     }
 }
 
-int main(void)
+int main(int argc, char **argv)
 {
     static struct track track;
     static uint8_t block[TRACKLINE_BLOCK_BYTES];
     uint8_t line[TRACKLINE_LINE_BYTES];
 
-    sample(&track);
-    pack(block, &track);
-    uint32_t answer = trackline_block(block, sizeof block, line, sizeof line);
+    sample(&track, argc > 1 ? strtoul(argv[1], NULL, 10) : TRACKLINE_MEASUREMENTS);
+    size_t length = pack(block, &track);
+    uint32_t answer = trackline_block(block, length, line, sizeof line);
     if (answer != TRACKLINE_ACCEPTED) {
         fprintf(stderr, "refused %" PRIu32 ": %s\n", answer, meaning(answer));
         return 1;

@@ -1,6 +1,6 @@
 /*
- * trackline: one CGGTTS data line of 113 columns from a 13-minute satellite track, what stands in such a line, and one
- * file of lines from two.
+ * trackline: one CGGTTS data line of 113 columns from a satellite track of 1 to 13 minutes, what stands in such a line, and
+ * one file of lines from two.
  *
  * Each function but trackline_comment answers 0 when it accepts and the number of its refusal otherwise. A slice is a
  * pointer and a length; NULL with length 0 is an empty slice. A function that accepts writes the first 113 bytes of the
@@ -18,17 +18,23 @@
 extern "C" {
 #endif
 
-/* Columns of a line, bytes of a line with the longest comment behind them, and bytes of a hire block. */
+/* Columns of a line, and bytes of a line with the longest comment behind them. */
 #define TRACKLINE_LINE_BYTES 113
 #define TRACKLINE_LONGEST_LINE 140
-#define TRACKLINE_BLOCK_BYTES 8378
 
 /*
  * The hire block: little-endian; hireblock(5) tells it whole. AT is the first byte, counted from 0, and WIDTH how many
  * there are. Numbers of eight bytes are ps, signed, two's complement; the others are unsigned.
+ *
+ * A track has n blocks of 15 seconds, n from 4 to 52: 15 n one-second measurements and n groups of five corrections. The
+ * block's two sizes are 15 n and n, and it is as long as they make it. The names without OF are for a full track.
  */
-#define TRACKLINE_MEASUREMENTS 780 /* what the first size says: one-second measurements */
-#define TRACKLINE_GROUPS 52        /* what the second size says: groups of five corrections */
+#define TRACKLINE_LEAST_GROUPS 4
+#define TRACKLINE_GROUPS 52
+#define TRACKLINE_MEASUREMENTS 780
+#define TRACKLINE_BLOCK_BYTES 8378
+#define TRACKLINE_MEASUREMENTS_OF(n) (15 * (n))
+#define TRACKLINE_BLOCK_BYTES_OF(n) (58 + 160 * (n))
 
 #define TRACKLINE_AT_MEASUREMENTS_SIZE 0
 #define TRACKLINE_WIDTH_MEASUREMENTS_SIZE 2
@@ -61,7 +67,8 @@ extern "C" {
 #define TRACKLINE_AT_REF 42
 #define TRACKLINE_AT_GD 50
 #define TRACKLINE_AT_MEASUREMENTS 58 /* measurement i, from 0, at 58 + 8 i */
-#define TRACKLINE_AT_GROUPS 6298     /* group j, from 0, at 6298 + 40 j */
+#define TRACKLINE_AT_GROUPS 6298     /* of a full track; group j, from 0, stands 40 j behind the first */
+#define TRACKLINE_AT_GROUPS_OF(n) (58 + 120 * (n))
 #define TRACKLINE_WIDTH_PS 8         /* each delay, measurement and correction */
 #define TRACKLINE_WIDTH_GROUP 40
 
@@ -78,19 +85,19 @@ extern "C" {
  * for it.
  */
 #define TRACKLINE_REFUSALS(X)                                                                             \
-    X(1, TRACKLINE_COUNT, "the block's two sizes are not 780 and 52")                                     \
+    X(1, TRACKLINE_COUNT, "the block's two sizes are not 15 n and n, n from 4 to 52")                     \
     X(2, TRACKLINE_LIMIT, "a measurement, a correction or a delay is beyond its limit")                   \
     X(3, TRACKLINE_MIDPOINT, "REFSV or REFSYS has more than ten digits")                                  \
     X(4, TRACKLINE_SLOPE, "SRSV or SRSYS has more than five digits, or SMDT or SMDI more than three")     \
     X(5, TRACKLINE_DELAY, "MDTR or MDIO is below 0 or has more than four digits")                         \
     X(6, TRACKLINE_SCATTER, "DSG is below 0 or has more than four digits")                                \
-    X(7, TRACKLINE_LABEL, "a label is out of its range, or the track length is not 780")                  \
+    X(7, TRACKLINE_LABEL, "a label is out of its range, or the track length is not 15 n, n from 4 to 52") \
     X(8, TRACKLINE_START, "no track of that day starts at that second")                                   \
     X(9, TRACKLINE_LENT, "the lent line is under 113 bytes, or fewer than 23 values are lent")            \
     X(10, TRACKLINE_CORRECTED, "a corrected value is beyond its limit")                                   \
-    X(11, TRACKLINE_LENGTH, "the block is not 8378 bytes long")                                           \
+    X(11, TRACKLINE_LENGTH, "the block is under 4 bytes or not as long as its sizes make it")             \
     X(12, TRACKLINE_LINE_LENGTH, "the line is not 113 to 140 bytes long, or a file's last line is cut")   \
-    X(13, TRACKLINE_CHARACTER, "a character is not allowed in its column or line end, or TRKL not 0780")  \
+    X(13, TRACKLINE_CHARACTER, "a character is not allowed in its column or line end")                    \
     X(14, TRACKLINE_CHECKSUM, "CK is not the two capital digits of the sum of the columns before it")     \
     X(15, TRACKLINE_DIFFER, "two lines have the same MJD, start, letter and satellite, and differ")       \
     X(16, TRACKLINE_ORDER, "the lines do not ascend by MJD, start, letter and satellite")                 \
@@ -104,7 +111,8 @@ enum trackline_refusal {
 #undef TRACKLINE_NUMBER
 
 /*
- * The line of a hire block. Tried in this order: 11, 1, 2, 10, 3, 4, 5, 6, then the labels' 7 and 8, then 9.
+ * The line of a hire block. Tried in this order: 11 for a block under 4 bytes, 1, 11 for any other wrong length, 2, 10, 3,
+ * 4, 5, 6, then the labels' 7 and 8, then 9.
  */
 uint32_t trackline_block(const uint8_t *block, size_t block_len, uint8_t *line, size_t line_len);
 
@@ -115,7 +123,7 @@ uint32_t trackline_block(const uint8_t *block, size_t block_len, uint8_t *line, 
  * is 1 to 24 for R and 0 for the others; hc, the receiver channel, is 0 to 99; frc1 to frc3, the observation code, are
  * each A to Z or 0 to 9; mjd is 50722 to 99999; start is a second of the day; elv, 0 to 900, and azth, 0 to 3599, are in
  * 0.1 degree; ioe is 1 to 96 for R, 0 to 23 for C, 0 to 255 for G and J, 0 to 999 for E. refsv, refsys, mdtr, mdio and
- * dsg are in 0.1 ns; srsv, srsys, smdt and smdi in 0.1 ps/s; trkl, the track length, is 780.
+ * dsg are in 0.1 ns; srsv, srsys, smdt and smdi in 0.1 ps/s; trkl, the track length, is 15 n seconds, n from 4 to 52.
  */
 uint32_t trackline_line(uint8_t constellation, uint8_t satellite, uint8_t cl, uint8_t fr, uint8_t hc,
                         uint8_t frc1, uint8_t frc2, uint8_t frc3,

@@ -2,6 +2,8 @@
 import struct
 
 LENGTH = 8378
+# of a track of n blocks of 15 seconds, n from 4 to 52: its bytes, its measurements, and where its corrections begin
+OF = {'bytes': lambda n: 58 + 160 * n, 'measurements': lambda n: 15 * n, 'groups at': lambda n: 58 + 120 * n}
 # where each part stands, and how many bytes it has
 AT = {'measurements size': (0, 2), 'groups size': (2, 2), 'constellation': (4, 1), 'satellite': (5, 1), 'CL': (6, 1),
       'FR': (7, 1), 'HC': (8, 1), 'FRC 0': (9, 1), 'FRC 1': (10, 1), 'FRC 2': (11, 1), 'MJD': (12, 4), 'start': (16, 4),
@@ -14,7 +16,10 @@ SAMPLE_LINE = (b'G05 FF 50722 000200 0780 450 1800 +0000000010 +00000 +000000001
 
 
 def put(block, part, value):
-    """A part of the block: a label or a size by its name, a delay, `measurement i`, or a column and its group."""
+    """A part of the block: a label or a size by its name, a delay, `measurement i`, or a column and its group.
+
+    How many groups there are goes by the block's length.
+    """
     if part in AT:
         at, width = AT[part]
         block[at:at + width] = value.to_bytes(width, 'little')
@@ -25,19 +30,19 @@ def put(block, part, value):
     elif name == 'measurement':
         at = 58 + 8 * int(place)
     else:
-        at = 6298 + 40 * int(place) + COLUMNS[name]
+        at = OF['groups at']((len(block) - 58) // 160) + 40 * int(place) + COLUMNS[name]
     struct.pack_into('<q', block, at, value)
 
 
-def block(changes=(), **lists):
+def block(changes=(), groups=52, **lists):
     """The sample's block: every measurement 1000, no corrections. Then whole lists, then single parts are changed."""
-    made = bytearray(LENGTH)
-    labels = {'measurements size': 780, 'groups size': 52, 'constellation': ord('G'), 'satellite': 5, 'CL': 255,
+    made = bytearray(OF['bytes'](groups))
+    labels = {'measurements size': 15 * groups, 'groups size': groups, 'constellation': ord('G'), 'satellite': 5, 'CL': 255,
               'FRC 0': ord('L'), 'FRC 1': ord('1'), 'FRC 2': ord('C'), 'MJD': 50722, 'start': 120, 'ELV': 450,
               'AZTH': 1800, 'IOE': 7}
     for part, value in labels.items():
         put(made, part, value)
-    for i, value in enumerate(lists.pop('measurements', [1000] * 780)):
+    for i, value in enumerate(lists.pop('measurements', [1000] * (15 * groups))):
         put(made, 'measurement %d' % i, value)
     for name, values in lists.items():
         for j, value in enumerate(values):
@@ -54,6 +59,6 @@ def line(columns):
     return text + b'%02X\r\n' % (sum(text) % 256)
 
 
-def scattered(size):
-    """52 values size, -size, -size, size, .. whose mean and slope are 0."""
-    return [size, -size, -size, size] * 13
+def scattered(size, groups=52):
+    """Values size, -size, -size, size, .. whose mean and slope are 0 where their number is a multiple of 4."""
+    return [size, -size, -size, size] * (groups // 4)

@@ -55,14 +55,20 @@ HOME=$scratch/home bash -eu "$scratch/commands" >"$scratch/log" 2>&1 || {
     rm receiver
 ) || fail "the command in the head of receiver.c"
 
-# the commands in the sample's own head, with the installed programs
+# the commands in the samples' own heads, with the installed programs
 (
     cd "$prefix/share/trackline/examples"
-    sed -n 's/^#     //p' sample.txt >"$scratch/commands"
-    PATH=$prefix/bin:$PATH bash -eu "$scratch/commands" | cmp - "$expected"
-    cmp track.blk sample.blk
-    rm track.blk
-) || fail "the commands in the head of sample.txt"
+    for sample in sample short; do
+        sed -n 's/^#     \(hireblock\|trackline\) /\1 /p' $sample.txt >"$scratch/commands"
+        [ "$(wc -l <"$scratch/commands")" -eq 2 ]
+        PATH=$prefix/bin:$PATH bash -eu "$scratch/commands" >"$scratch/line"
+        cmp track.blk $sample.blk
+        rm track.blk
+        "$prefix/bin/cggtts" line $sample.blk | cmp - "$scratch/line"
+    done
+    cut -c21-24 "$scratch/line" | grep -qx 0300
+    "$prefix/bin/cggtts" line sample.blk | cmp - "$expected"
+) || fail "the commands in the heads of the samples"
 
 # what the installed papers name is there: no link leads out of the folder, and no path is that of the sources
 for paper in "$prefix"/share/doc/trackline/*.md; do

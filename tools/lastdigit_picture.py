@@ -190,16 +190,16 @@ def nearest_tie(value, unit):
 
 
 def refsys_panel(fit, exact):
-    decides, tie = Fraction(fit.s, 5200), nearest_tie(exact.midpoint, Fraction(1))
-    labels = ('S / 5200 = %.6f' % float(decides), 'exact: %.6f' % float(exact.midpoint))
+    decides, tie = Fraction(fit.s, fit.midpoints), nearest_tie(exact.midpoint, Fraction(1))
+    labels = ('S / %d = %.6f' % (fit.midpoints, float(decides)), 'exact: %.6f' % float(exact.midpoint))
     yield from digit_panel(726, 'REFSYS', fit.midpoint, tie, Fraction(1), Fraction(1, 200), (decides, exact.midpoint),
                            labels, '%.4f', '0.1 ns')
 
 
 def dsg_panel(fit, exact):
-    decides, root = Fraction((fit.q / 52) ** 0.5), Fraction(exact.root)
+    decides, root = Fraction((fit.q / fit.n) ** 0.5), Fraction(exact.root)
     tie = nearest_tie(root, Fraction(100))
-    labels = ('root of Q / 52 = %.4f' % float(decides), 'exact root mean square: %.4f' % float(root))
+    labels = ('root of Q / %d = %.4f' % (fit.n, float(decides)), 'exact root mean square: %.4f' % float(root))
     yield from digit_panel(930, 'DSG', fit.dsg, tie, Fraction(100), Fraction(1), (decides, root), labels, '%.1f', 'ps')
 
 

@@ -57,17 +57,25 @@ static uint32_t line_of(const struct given *g, uint8_t *line, size_t length)
                           g->mdtr, g->smdt, g->mdio, g->smdi, g->dsg, g->trkl, line, length);
 }
 
-/* The sample's hire block. */
-static void sample_block(uint8_t *block)
+/* The sample's hire block with n blocks of 15 seconds. */
+static void sample_of(uint8_t *block, size_t n)
 {
     static const uint8_t labels[26] = {0x0C, 0x03, 52, 0, 'G', 5, 255, 0, 0, 'L', '1', 'C', 0x22, 0xC6, 0, 0,
                                        120, 0, 0, 0, 0xC2, 0x01, 0x08, 0x07, 7, 0};
-    memset(block, 0, TRACKLINE_BLOCK_BYTES);
+    memset(block, 0, 58 + 160 * n);
     memcpy(block, labels, sizeof labels);
-    for (int i = 0; i < 780; i++) {
+    block[0] = (uint8_t)(15 * n);
+    block[1] = (uint8_t)(15 * n / 256);
+    block[2] = (uint8_t)n;
+    for (size_t i = 0; i < 15 * n; i++) {
         block[58 + 8 * i] = 0xE8;
         block[59 + 8 * i] = 0x03;
     }
+}
+
+static void sample_block(uint8_t *block)
+{
+    sample_of(block, 52);
 }
 
 /* Puts a signed number of eight bytes, the lowest first. */
@@ -166,7 +174,7 @@ static void starts(void)
 static void spoil(struct given *g, size_t *length, uint32_t fault)
 {
     switch (fault) {
-    case 7: g->trkl = 765; break;
+    case 7: g->trkl = 781; break;
     case 8: g->start = 86040 + 86400; break;
     case 3: g->refsys = INT64_MIN; break;
     case 4: g->smdt = 1000; break;
@@ -217,15 +225,30 @@ static void labels(void)
     LABEL(ioe = 256);
     LABEL(ioe = 65535);
     LABEL(trkl = 781);
+    LABEL(trkl = 779);
+    LABEL(trkl = 795);
+    LABEL(trkl = 61);
+    LABEL(trkl = 52);
+    LABEL(trkl = 45);
+    LABEL(trkl = 0);
+    LABEL(trkl = -60);
+    LABEL(trkl = -780);
+    LABEL(trkl = 780 + (INT64_C(1) << 32));
+    LABEL(trkl = INT64_MIN);
+    LABEL(trkl = INT64_MAX);
     LABEL(constellation = 'R');
 #undef LABEL
 }
+
+/* 11 comes at two places: for a block that has no sizes, and for one that is not as long as its sizes make it. */
+enum { NO_SIZES = 1100 };
 
 /* Puts one fault of Block into the sample. */
 static void spoil_block(uint8_t *block, size_t *block_len, size_t *line_len, uint32_t fault)
 {
     switch (fault) {
-    case 11: *block_len = TRACKLINE_BLOCK_BYTES - 1; break;
+    case NO_SIZES: *block_len = 3; break;
+    case 11: *block_len = *block_len < 8377 ? *block_len : 8377; break;
     case 1: block[2] = 51; break;
     case 2: put_ps(block, 50, INT64_MIN); break;
     case 3:
@@ -253,16 +276,17 @@ static void spoil_block(uint8_t *block, size_t *block_len, size_t *line_len, uin
 
 static void order_of_block(void)
 {
-    static const uint32_t order[] = {11, 1, 2, 3, 4, 5, 6, 7, 8, 9};
+    static const uint32_t order[] = {NO_SIZES, 1, 11, 2, 3, 4, 5, 6, 7, 8, 9};
     static uint8_t block[TRACKLINE_BLOCK_BYTES];
-    for (size_t i = 0; i < 10; i++) {
-        for (size_t j = i; j < 10; j++) {
+    for (size_t i = 0; i < 11; i++) {
+        for (size_t j = i; j < 11; j++) {
             size_t block_len = sizeof block, line_len = 113;
             sample_block(block);
             spoil_block(block, &block_len, &line_len, order[i]);
             spoil_block(block, &block_len, &line_len, order[j]);
             fill();
-            expect("order of Block", trackline_block(block, block_len, room + EDGE, line_len), order[i]);
+            uint32_t wanted = order[i] == NO_SIZES ? 11 : order[i];
+            expect("order of Block", trackline_block(block, block_len, room + EDGE, line_len), wanted);
             expect_true("refused: nothing written", kept_but("", 0));
         }
     }
@@ -324,6 +348,165 @@ static void places(void)
     fill();
     expect("places", trackline_block(block, sizeof block, room + EDGE, 113), 0);
     expect_true("places: the line", kept_but(wanted, 113));
+}
+
+/* ---- short tracks */
+
+/* The line's 113 columns from its first 110: a space and the sum of the 111 go behind them. */
+static void finish(char *line)
+{
+    unsigned sum = 0;
+    line[110] = ' ';
+    for (size_t i = 0; i < 111; i++) {
+        sum += (uint8_t)line[i];
+    }
+    sprintf(line + 111, "%02X", sum % 256);
+}
+
+/* The nearest whole number to this many halves of a ps over 100 ps, a tie going up. */
+static int64_t tenths(int64_t halves)
+{
+    int64_t doubled = halves + 100;
+    return doubled / 200 - (doubled % 200 < 0);
+}
+
+/*
+ * The numbers of places(), of which n blocks were measured, at their places in a block of n. The values lie on lines, so the
+ * slopes stay, the midpoints are those of the middle of n, as A = 203700 + 1215 j with j = (n - 1) / 2, and DSG is 0.
+ */
+static void places_of(size_t n)
+{
+    static const int64_t delays[4] = {100000, 200000, 50000, 30000};
+    static const int64_t first[5] = {500000, 7000, 11000, 13000, 19000};
+    static const int64_t step[5] = {300, 30, 6, 9, -75};
+    static uint8_t block[8378];
+    char wanted[128];
+    int64_t last = (int64_t)n - 1;
+    sample_of(block, n);
+    for (size_t k = 0; k < 4; k++) {
+        put_ps(block, 26 + 8 * k, delays[k]);
+    }
+    for (size_t t = 0; t < 15 * n; t++) {
+        put_ps(block, 58 + 8 * t, 1000000 + 100 * (int64_t)t);
+    }
+    for (size_t i = 0; i < 5 * n; i++) {
+        put_ps(block, 58 + 120 * n + 8 * i, first[i % 5] + step[i % 5] * (int64_t)(i / 5));
+    }
+    sprintf(wanted, "G05 FF 50722 000200 %04d 450 1800 %+011" PRId64 " +00810 %+011" PRId64 " +00760 0000 007 %04" PRId64
+            " +006 %04" PRId64 " +004 00 00 L1C", (int)(15 * n), tenths(407400 + 1215 * last), tenths(445400 + 1140 * last),
+            tenths(26000 + 9 * last), tenths(22000 + 6 * last));
+    finish(wanted);
+    fill();
+    expect("places of a short track", trackline_block(block, 58 + 160 * n, room + EDGE, 113), 0);
+    expect_true("places of a short track: the line", kept_but(wanted, 113));
+}
+
+/* Every length near that of n blocks, and every size near its own. */
+static void sizes_of(size_t n)
+{
+    static uint8_t block[8378 + 320];
+    sample_of(block, n);
+    for (size_t length = 58 + 160 * n - 170; length <= 58 + 160 * n + 170; length++) {
+        fill();
+        expect("length of a short track", trackline_block(block, length, room + EDGE, 113), length == 58 + 160 * n ? 0 : 11);
+        expect_true("length of a short track: the line", (length == 58 + 160 * n) == !kept_but("", 0));
+    }
+    for (int by = -16; by <= 16; by++) {
+        sample_of(block, n);
+        block[0] = (uint8_t)(15 * n + (size_t)by);
+        block[1] = (uint8_t)((15 * n + (size_t)by) / 256);
+        expect("first size", trackline_block(block, 58 + 160 * n, room, 113), by == 0 ? 0 : 1);
+        sample_of(block, n);
+        block[2] = (uint8_t)(n + (size_t)by);
+        expect("second size", trackline_block(block, 58 + 160 * n, room, 113), by == 0 ? 0 : 1);
+    }
+}
+
+/*
+ * B is 0 but for its last value, 100000 ps. By hand, for four values: S = 100000 and T = 3 S, so the midpoint is S / 400 and
+ * the slope 4 T / 60; the line is 25000 + 15000 (2j - 3), the residuals are 20000, -10000, -40000, 30000, and their root mean
+ * square is 27386 ps. For five: midpoint S / 500, T = 4 S, slope 4 T / 120; the line is 20000 + 10000 (2j - 4), the residuals
+ * are 20000, 0, -20000, -40000, 40000, and their root mean square is 28284 ps.
+ */
+static void few_values(void)
+{
+    static const struct {
+        size_t n;
+        const char *columns;
+    } cases[] = {
+        {4, "G05 FF 50722 000200 0060 450 1800 +0000000000 +00000 +0000000250 +20000 0274 007 0000 +000 0000 +000 00 00 L1C"},
+        {5, "G05 FF 50722 000200 0075 450 1800 +0000000000 +00000 +0000000200 +13333 0283 007 0000 +000 0000 +000 00 00 L1C"}};
+    for (size_t i = 0; i < sizeof cases / sizeof cases[0]; i++) {
+        static uint8_t block[8378];
+        size_t n = cases[i].n;
+        char wanted[128];
+        strcpy(wanted, cases[i].columns);
+        finish(wanted);
+        sample_of(block, n);
+        for (size_t t = 0; t < 15 * n; t++) {
+            put_ps(block, 58 + 8 * t, 0);
+        }
+        put_ps(block, 58 + 160 * n - 8, 100000);
+        fill();
+        expect("few values", trackline_block(block, 58 + 160 * n, room + EDGE, 113), 0);
+        expect_true("few values: the line", kept_but(wanted, 113));
+    }
+}
+
+/* a, -a, -a, a over and over has a as its root mean square where n is a multiple of 4: the ties of DSG. */
+static void scatter_of(size_t n)
+{
+    static const struct {
+        int64_t a;
+        uint32_t wanted;
+        const char *dsg;
+    } cases[] = {{49, 0, "0000"}, {50, 0, "0001"}, {149, 0, "0001"}, {150, 0, "0002"}, {999949, 0, "9999"}, {999950, 6, ""},
+                 {INT64_C(1) << 32, 6, ""}};
+    static uint8_t block[8378];
+    for (size_t i = 0; i < sizeof cases / sizeof cases[0]; i++) {
+        sample_of(block, n);
+        for (size_t j = 0; j < n; j++) {
+            put_ps(block, 58 + 120 * n + 40 * j + 32, j % 4 == 0 || j % 4 == 3 ? cases[i].a : -cases[i].a);
+        }
+        expect("scatter", trackline_block(block, 58 + 160 * n, room, 113), cases[i].wanted);
+        expect_true("scatter: DSG", memcmp(room + 72, cases[i].dsg, strlen(cases[i].dsg)) == 0);
+    }
+}
+
+static void short_tracks(void)
+{
+    static uint8_t block[58 + 160 * 53];
+    for (size_t n = 4; n <= 52; n++) {
+        char wanted[128];
+        struct given g = GOOD;
+        sprintf(wanted, "G05 FF 50722 000200 %04d 450 1800 +0000000010 +00000 +0000000010 +00000 "
+                        "0000 007 0000 +000 0000 +000 00 00 L1C", (int)(15 * n));
+        finish(wanted);
+        g.trkl = (int64_t)(15 * n);
+        sample_of(block, n);
+        fill();
+        expect("Block of a short track", trackline_block(block, 58 + 160 * n, room + EDGE, 113), 0);
+        expect_true("Block of a short track: the line", kept_but(wanted, 113));
+        fill();
+        expect("Line of a short track", line_of(&g, room + EDGE, 113), 0);
+        expect_true("Line of a short track: the line", kept_but(wanted, 113));
+        expect_true("the header's numbers", TRACKLINE_BLOCK_BYTES_OF(n) == 58 + 160 * n
+                    && TRACKLINE_AT_GROUPS_OF(n) == 58 + 120 * n && TRACKLINE_MEASUREMENTS_OF(n) == 15 * n);
+        places_of(n);
+        sizes_of(n);
+        if (n % 4 == 0) {
+            scatter_of(n);
+        }
+    }
+    for (size_t n = 3; n <= 53; n += 50) {
+        sample_of(block, n);
+        expect("3 or 53 blocks", trackline_block(block, 58 + 160 * n, room, 113), 1);
+    }
+    memset(block, 0, sizeof block);
+    for (size_t length = 0; length <= 8380; length++) {
+        expect("bytes of 0", trackline_block(block, length, room, 113), length < 4 ? 11 : 1);
+    }
+    few_values();
 }
 
 /* ---- reading a line back */
@@ -404,7 +587,14 @@ static const struct spoiled {
     {35, "-", "28", 0},         /* and before a ten */
     {35, "0", "2B", 13},        /* no sign */
     {108, "l", "46", 13},       /* a small letter in FRC */
-    {21, "0781", "27", 13},     /* the track length */
+    {21, "0781", "27", 7},      /* the track length */
+    {21, "0795", "2C", 7},      /* 53 blocks */
+    {21, "0045", "20", 7},      /* 3 blocks */
+    {21, "0000", "17", 7},
+    {21, "9999", "3B", 7},
+    {21, "078O", "45", 13},     /* a letter for a digit */
+    {21, "+780", "21", 13},
+    {21, " 780", "16", 13},
     {2, "00", "21", 7},         /* satellite 0 */
     {8, "50721", "25", 7},      /* the date */
     {78, "256", "2C", 7},       /* IOE of G */
@@ -427,6 +617,18 @@ static void refused_lines(void)
         memcpy(line + 111, SPOILED[i].ck, 2);
         read_as(SPOILED[i].text, line, 113, 23, SPOILED[i].wanted, ten_below);
         read_as("with 22 values", line, 113, 22, SPOILED[i].wanted == 0 ? 9 : SPOILED[i].wanted, NULL);
+    }
+    for (int seconds = 0; seconds <= 9999; seconds++) {
+        char short_line[128];
+        int64_t values[23];
+        memcpy(short_line, SAMPLE, 113);
+        sprintf(short_line + 20, "%04d", seconds);
+        short_line[24] = ' ';
+        finish(short_line);
+        memcpy(values, SAMPLE_VALUES, sizeof values);
+        values[22] = seconds;
+        int fits = seconds % 15 == 0 && seconds >= 60 && seconds <= 780;
+        read_as("the track length", (const uint8_t *)short_line, 113, 23, fits ? 0 : 7, values);
     }
     memcpy(line, WIDEST, 113);
     line[112] = 'f';
@@ -463,6 +665,7 @@ int main(void)
     order_of_block();
     corrections();
     places();
+    short_tracks();
     values_of_lines();
     comments();
     refused_lines();

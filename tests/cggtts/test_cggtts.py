@@ -22,20 +22,22 @@ sys.path.insert(0, str(ROOT / 'tests'))
 from blocks import SAMPLE_LINE, block, scattered  # noqa: E402
 
 PROGRAM = os.environ.get('CGGTTS', str(ROOT / 'target' / 'cggtts' / 'cggtts'))
-SAMPLE, WORKED = 'examples/sample.blk', 'examples/worked.blk'
+SAMPLE, WORKED, SHORT = 'examples/sample.blk', 'examples/worked.blk', 'examples/short.blk'
 WORKED_LINE = (b'G17 FF 60600 133000 0780 583 2145 +0001233431 +00009 -0000000315 -00041 0003 087 0097 +005 0202 -021 '
                b'00 05 L1C 8C\r\n')
-MEANINGS = {1: "the block's two sizes are not 780 and 52",
+SHORT_LINE = (b'G23 FF 60600 134600 0300 103 3021 +0001203805 -00039 -0000000112 -00089 0004 041 0558 +267 0390 +073 '
+              b'00 07 L1C 92\r\n')
+MEANINGS = {1: "the block's two sizes are not 15 n and n, n from 4 to 52",
             2: 'a measurement, a correction or a delay is beyond its limit',
             3: 'REFSV or REFSYS has more than ten digits',
             4: 'SRSV or SRSYS has more than five digits, or SMDT or SMDI more than three',
             5: 'MDTR or MDIO is below 0 or has more than four digits',
             6: 'DSG is below 0 or has more than four digits',
-            7: 'a label is out of its range, or the track length is not 780',
+            7: 'a label is out of its range, or the track length is not 15 n, n from 4 to 52',
             8: 'no track of that day starts at that second',
-            11: 'the block is not 8378 bytes long',
+            11: 'the block is under 4 bytes or not as long as its sizes make it',
             12: "the line is not 113 to 140 bytes long, or a file's last line is cut",
-            13: 'a character is not allowed in its column or line end, or TRKL not 0780',
+            13: 'a character is not allowed in its column or line end',
             14: 'CK is not the two capital digits of the sum of the columns before it',
             15: 'two lines have the same MJD, start, letter and satellite, and differ',
             16: 'the lines do not ascend by MJD, start, letter and satellite'}
@@ -102,16 +104,19 @@ class Line(Scratch):
     def test_lines(self):
         self.assertEqual(run('line', SAMPLE), (0, SAMPLE_LINE, ''))
         self.assertEqual(run('line', SAMPLE, WORKED, SAMPLE), (0, SAMPLE_LINE + WORKED_LINE + SAMPLE_LINE, ''))
+        self.assertEqual(run('line', SHORT, SAMPLE), (0, SHORT_LINE + SAMPLE_LINE, ''))
         self.assertEqual(run('line', '-', data=block()), (0, SAMPLE_LINE, ''))
         self.assertEqual(run('line', WORKED, '-', data=block()), (0, WORKED_LINE + SAMPLE_LINE, ''))
         self.assertEqual(run('line', '--', SAMPLE), (0, SAMPLE_LINE, ''))
 
     def test_lengths(self):
-        for data in (b'', b'G', block()[:8377], block() + b'\0', (block() * 12)[:100000]):
+        for number, data in ((11, b''), (11, b'G'), (11, block()[:8377]), (11, block() + b'\0'), (11, (block() * 12)[:100000]),
+                             (11, block(groups=4)[:-1]), (11, bytes(3)), (1, bytes(4)), (1, bytes(8377)), (1, block(groups=3)),
+                             (1, block(groups=53))):
             path = self.kept('a.blk', data)
-            message = '%s: refused 11: the block is not 8378 bytes long\n'
-            self.assertEqual(run('line', path), (1, b'', message % path))
-            self.assertEqual(run('line', '-', data=data), (1, b'', message % '-'))
+            message = '%s: refused %d: ' + MEANINGS[number] + '\n'
+            self.assertEqual(run('line', path), (1, b'', message % (path, number)))
+            self.assertEqual(run('line', '-', data=data), (1, b'', message % ('-', number)))
 
     def test_refused_among_others(self):
         path = self.kept('bad.blk', block({'HC': 100}))
@@ -282,6 +287,8 @@ class Check(Scratch):
         self.assertEqual(run('check', SAMPLE), (0, b'examples/sample.blk: accepted\n', ''))
         self.assertEqual(run('check', SAMPLE, '-', WORKED, data=block()),
                          (0, b'examples/sample.blk: accepted\n-: accepted\nexamples/worked.blk: accepted\n', ''))
+        for n in range(4, 53):
+            self.assertEqual(run('check', '-', data=block(groups=n)), (0, b'-: accepted\n', ''))
 
     def test_several_files(self):
         path = self.kept('bad.blk', block({'HC': 100}))
@@ -296,24 +303,36 @@ class Check(Scratch):
         result = subprocess.run([PROGRAM, 'check', SAMPLE, path, SAMPLE], cwd=ROOT, stdout=subprocess.PIPE,
                                 stderr=subprocess.STDOUT, check=False)
         self.assertEqual([text.rsplit(b':')[-1] for text in result.stdout.splitlines()],
-                         [b' accepted', b' the block is not 8378 bytes long', b'  it has 1 byte', b' accepted'])
+                         [b' accepted', b' ' + MEANINGS[11].encode(), b'  it has 1 byte', b' accepted'])
 
     def test_length(self):
-        for length in (0, 1, 8377, 8379, 100000):
-            self.explained(11, (block() * 12)[:length], 'it has %d byte%s' % (length, 's'[length == 1:]))
+        for length in (0, 1, 2, 3):
+            self.explained(11, block()[:length], 'it has %d byte%s' % (length, 's'[length == 1:]))
+        for n, length, makes in ((52, 4, 8378), (52, 8377, 8378), (52, 8379, 8378), (52, 100000, 8378), (4, 697, 698),
+                                 (4, 699, 698), (20, 3257, 3258), (51, 8378, 8218)):
+            self.explained(11, (block(groups=n) * 120)[:length], 'it has %d bytes' % length,
+                           'its sizes, %d and %d, make %d' % (15 * n, n, makes))
 
     def test_a_text_that_was_not_packed(self):
         text = (ROOT / 'examples' / 'sample.txt').read_bytes()
         hint = "this may be a text, which 'hireblock pack' packs"
-        self.explained(11, text, 'it has %d bytes' % len(text), hint)
-        refusal = '-: refused 11: %s\n  %s\n' % (MEANINGS[11], hint)
+        self.explained(1, text, hint)
+        refusal = '-: refused 1: %s\n  %s\n' % (MEANINGS[1], hint)
         self.assertEqual(run('line', '-', data=text), (1, b'', refusal))
-        self.explained(11, b'a = 5\0', 'it has 6 bytes')
+        self.explained(11, b'a=5', 'it has 3 bytes', hint)
+        self.explained(1, b'a = 5\0', 'the sizes are 8289 and 8253: a track has 4 to 52 groups')
 
     def test_sizes(self):
-        self.explained(1, block({'measurements size': 779}), 'the sizes are 779 and 52')
-        self.explained(1, block({'groups size': 65535}), 'the sizes are 780 and 65535')
-        self.explained(1, bytes(8378), 'the sizes are 0 and 0')
+        for measurements, groups, what in (
+                (779, 52, 'with 52 groups go 780 measurements'), (60, 5, 'with 5 groups go 75 measurements'),
+                (0, 4, 'with 4 groups go 60 measurements'), (780, 65535, 'a track has 4 to 52 groups'),
+                (45, 3, 'a track has 4 to 52 groups'), (795, 53, 'a track has 4 to 52 groups'),
+                (0, 0, 'a track has 4 to 52 groups'), (52, 780, 'they are exchanged'), (4, 60, 'they are exchanged'),
+                (3, 45, 'with 45 groups go 675 measurements')):
+            for n in (52, 7):
+                self.explained(1, block({'measurements size': measurements, 'groups size': groups}, n),
+                               'the sizes are %d and %d: %s' % (measurements, groups, what))
+        self.explained(1, bytes(8377), 'the sizes are 0 and 0: a track has 4 to 52 groups')
 
     def test_limits(self):
         self.explained(2, block({'measurement 17': 10 ** 12 + 1}),
@@ -326,6 +345,26 @@ class Check(Scratch):
             self.explained(2, block({name: 10 ** 10 + 1}), name + ': 10000000001 ps is beyond 10000000000')
             self.explained(2, block({name: -10 ** 10 - 1}), name + ': -10000000001 ps is beyond -10000000000')
         self.explained(2, block({'geometry 3': 2 * 10 ** 11 + 1}), 'geometry 3: 200000000001 ps is beyond 200000000000')
+
+    def test_limits_of_short_tracks(self):
+        for n in (4, 51):
+            for name, limit in (('measurement %d' % (15 * n - 1), 10 ** 12), ('geometry %d' % (n - 1), 2 * 10 ** 11),
+                                ('clock %d' % (n - 1), 10 ** 10), ('relativity 0', 10 ** 10)):
+                self.explained(2, block({name: limit + 1}, n), '%s: %d ps is beyond %d' % (name, limit + 1, limit))
+            self.explained(2, block(groups=n, measurements=[10 ** 13] * (15 * n)),
+                           'measurement 0: 10000000000000 ps is beyond 1000000000000', 'and %d more' % (15 * n - 1))
+
+    def test_figures_of_short_tracks(self):
+        midpoints, wide = ', not -9999999999 to 9999999999' + OWN, ', not -99999 to 99999' + OWN
+        for n in range(4, 53):
+            self.explained(3, block(groups=n, measurements=[10 ** 12] * (15 * n), clock=[-51] * n),
+                           'REFSV is 10000000000' + midpoints)
+            self.explained(4, block(groups=n, clock=[-150000 * j for j in range(n)]), 'SRSYS is -100000' + wide)
+            self.explained(4, block(groups=n, troposphere=[1500 * j for j in range(n)]),
+                           'SMDT is 1000, not -999 to 999' + OWN)
+            self.explained(5, block(groups=n, ionosphere=[999950] * n), 'MDIO is 10000, not 0 to 9999' + OWN)
+        for n in range(4, 53, 4):
+            self.explained(6, block(groups=n, clock=scattered(1234567, n)), 'DSG is about 12346, not 0 to 9999' + OWN)
 
     def test_first_of_several_beyond_their_limits(self):
         faults = {'clock 4': 10 ** 11, 'geometry 5': 10 ** 12, 'measurement 700': -10 ** 13}
@@ -576,11 +615,17 @@ class Read(Scratch):
             self.refused(13, line_with([(column, '-')]), 'column %d (%s) is a minus before a zero, which has a plus' % (column, name))
         self.refused(13, line_with([(35, '-0000000000'), (54, '-0000000000')]),
                      'column 35 (REFSV) is a minus before a zero, which has a plus')
-        self.refused(13, line_with([(54, '-0000000000'), (21, '0765')]),
+        self.refused(13, line_with([(54, '-0000000000'), (21, '0781')]),
                      'column 54 (REFSYS) is a minus before a zero, which has a plus')
 
     def test_track_length(self):
-        self.refused(13, line_with([(21, '0765')]), 'columns 21 to 24 (TRKL) are 0765, not 0780')
+        for n in range(4, 53):
+            self.shown(line_with([(21, '%04d' % (15 * n))]), '  TRKL           %-22s %04d' % ('%d s' % (15 * n), 15 * n))
+        for seconds in (0, 1, 15, 45, 59, 61, 301, 779, 781, 795, 9999):
+            self.refused(7, line_with([(21, '%04d' % seconds)]), 'TRKL is %d, not 15 times 4 to 52' % seconds)
+        self.refused(7, line_with([(21, '0781'), (2, '00')]), 'satellite is 0, not 1 to 99', 'TRKL is 781, not 15 times 4 to 52')
+        self.refused(13, line_with([(21, ' 300')]), 'column 21 (TRKL) is a blank, not a digit')
+        self.refused(13, line_with([(21, '+780')]), 'column 21 (TRKL) is +, not a digit')
 
     def test_labels(self):
         self.refused(7, line_with([(2, '00'), (78, '256'), (102, '01'), (26, '901'), (30, '3600'), (8, '50721')]),
@@ -607,10 +652,11 @@ class Read(Scratch):
                              (2, None, 'cggtts: standard output: No space left on device\n'))
 
     def test_what_line_prints_is_read(self):
-        lines = run('line', SAMPLE, WORKED)[1]
+        lines = run('line', SAMPLE, SHORT, WORKED)[1]
         status, output, errors = run('read', data=lines)
         self.assertEqual((status, errors), (0, ''))
-        self.assertTrue(output.endswith(b'-:2\n' + WORKED_SHOWN.encode()))
+        self.assertIn(b'\n  TRKL           300 s                  0300\n', output)
+        self.assertTrue(output.endswith(b'-:3\n' + WORKED_SHOWN.encode()))
 
 
 if __name__ == '__main__':

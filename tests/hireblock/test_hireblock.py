@@ -27,15 +27,21 @@ hireblock = importlib.util.module_from_spec(SPEC)
 LOADER.exec_module(hireblock)
 
 
-def sample_bytes():
-    """The sample block by the paper's table of offsets, written anew here."""
-    block = bytearray(8378)
-    block[0:4] = struct.pack('<HH', 780, 52)
+def sample_bytes(n=52):
+    """The sample block by the paper's table of offsets, written anew here, of n blocks of 15 seconds."""
+    block = bytearray(58 + 160 * n)
+    block[0:4] = struct.pack('<HH', 15 * n, n)
     block[4:12] = b'G' + bytes([5, 255, 0, 0]) + b'L1C'
     block[12:26] = struct.pack('<IIHHH', 50722, 120, 450, 1800, 7)
-    for i in range(780):
+    for i in range(15 * n):
         block[58 + 8 * i:66 + 8 * i] = struct.pack('<q', 1000)
     return bytes(block)
+
+
+def sample_text(n=52):
+    """The sample's text with lists for n blocks."""
+    text = SAMPLE.read_text().replace('1000 x 780', '1000 x %d' % (15 * n))
+    return text.replace('= 0 x 52', '= 0 x %d' % n)
 
 
 def packed(text):
@@ -91,9 +97,29 @@ class Packing(unittest.TestCase):
         self.assertEqual(packed(self.changed('FRC', r'\x4C1\x43')), wanted)
         self.assertEqual(packed(self.changed('measurements', '1000x700 1000 x 80')), wanted)
         self.assertEqual(packed(self.changed('measurements', '\n 1000 X 15 # a\n\n(1000 1000x2)x255')), wanted)
+        self.assertEqual(packed('sizes = 1 2\n' + self.text), struct.pack('<HH', 1, 2) + wanted[4:])
         self.assertEqual(packed(self.changed('geometry', '0 x52')), wanted)
         self.assertEqual(packed(self.text.replace('satellite', 'SATELLITE').replace('\n', '\r\n')), wanted)
         self.assertEqual(packed('sizes = 780 52\n' + self.text), wanted)
+
+    def test_every_number_of_blocks(self):
+        for n in range(4, 53):
+            self.assertEqual(packed(sample_text(n)), sample_bytes(n), n)
+            self.assertEqual(packed('sizes = %d %d\n' % (15 * n, n) + sample_text(n)), sample_bytes(n), n)
+            self.assertEqual(packed('sizes = 780 52\n' + sample_text(n))[4:], sample_bytes(n)[4:], n)
+
+    def test_places_in_a_short_block(self):
+        """Measurements from byte 58, groups of five from 58 + 120 n."""
+        n = 7
+        text = sample_text(n).replace('1000 x 105', ' '.join(map(str, range(105))))
+        names = 'geometry', 'relativity', 'ionosphere', 'troposphere', 'clock'
+        for k, name in enumerate(names):
+            text = re.sub(r'(?m)^%s *=.*$' % name, '%s = ' % name + ' '.join(str(1000 * k + j) for j in range(n)), text)
+        data = packed(text)
+        self.assertEqual(len(data), 58 + 160 * 7)
+        self.assertEqual(struct.unpack_from('<105q', data, 58), tuple(range(105)))
+        groups = [struct.unpack_from('<5q', data, 58 + 120 * 7 + 40 * j) for j in range(n)]
+        self.assertEqual(groups, [tuple(1000 * k + j for k in range(5)) for j in range(n)])
 
     def test_repeated_group(self):
         data = packed(self.changed('clock', '(50 -50 -50 50) x 13'))
@@ -114,10 +140,17 @@ def faults(text, spoilt=()):
     return []
 
 
+def beside(text, n=52):
+    """A text with those lists behind it that it has not, for n blocks."""
+    rest = [row for row in sample_text(n).splitlines() if re.match('measurements|geometry|relativity|iono|tropo|clock', row)
+            and row.split()[0] not in re.findall(r'(?m)^\s*(\w+)', text)]
+    return '\n'.join([text, *rest])
+
+
 class Messages(unittest.TestCase):
     def refused(self, text, message, line, column):
-        """The text has this fault and no other."""
-        self.assertEqual(faults(text), [(line, column, message)])
+        """The text, with the lists of a full track beside it, has this fault and no other."""
+        self.assertEqual(faults(beside(text)), [(line, column, message)])
 
     def test_names(self):
         self.refused('satelite = 5', "unknown name 'satelite', did you mean satellite?", 1, 1)
@@ -228,7 +261,7 @@ class Messages(unittest.TestCase):
         self.refused('clock = 1 x 0', 'a count of 0 leaves no number: a count is 1 or more', 1, 13)
         self.refused('clock = (1) x -2', 'a count of -2 leaves no number: a count is 1 or more', 1, 15)
         self.refused('clock = 1 x four', "'four' is no count", 1, 13)
-        many = 'a count of %s makes far too many numbers: clock needs 52'
+        many = 'a count of %s makes far too many numbers: clock has 52 at most'
         self.refused('clock = 1 x 100001', many % '100001', 1, 13)
         self.refused('clock = (1 x 1000) x 1000', many % '1000', 1, 22)
         self.refused('clock = 1 x ' + '9' * 30, many % ('9' * 30), 1, 13)
@@ -241,14 +274,54 @@ class Messages(unittest.TestCase):
                      'this row has 14 numbers, the others 15: measurements needs 780 numbers and has 779', 19, 1)
         rows[30] = '\t' + ' '.join(['7'] * 17)
         self.assertEqual([fault[:2] for fault in faults('measurements =\n' + '\n'.join(rows))], [(19, 1), (32, 2)])
+        rows = [' '.join(['7'] * 15)] * 20
+        rows[4] = ' '.join(['7'] * 16)
+        self.assertEqual(faults(beside('measurements =\n' + '\n'.join(rows), 20)),
+                         [(6, 1, 'this row has 16 numbers, the others 15: measurements needs 300 numbers and has 301')])
         self.refused('measurements = ' + '\n'.join(['7 x 16'] * 47 + ['7 x 15', '7 x 12']),
                      'this row has 15 numbers, the others 16: measurements needs 780 numbers and has 779', 48, 1)
         self.refused('clock = 1 x 25\n1 x 26',
                      'this row has 25 numbers, the others 26: clock needs 52 numbers and has 51', 1, 9)
         self.refused('clock = 1 x 26\n1 x 27',
                      'this row has 27 numbers, the others 26: clock needs 52 numbers and has 53', 2, 1)
-        self.refused('clock =\n' + '1 x 13\n' * 3, 'clock needs 52 numbers and has 39, in 3 rows of 13', 2, 1)
+        self.refused('clock =\n' + '1 x 13\n' * 3,
+                     'clock has 39 numbers, in 3 rows of 13, for 39 blocks, but the other lists are for 52', 2, 1)
         self.refused('clock =\n' + '1 x 13\n' * 5, 'clock needs 52 numbers and has 65, in 5 rows of 13', 2, 1)
+
+    def test_numbers_of_blocks(self):
+        """3 and 53 are none, whatever the lists agree on."""
+        for n, count in (3, 45), (53, 795), (1, 15):
+            found = faults(sample_text(n))
+            self.assertEqual([fault[2] for fault in found], [
+                'measurements has %d numbers; a track has 4 to 52 blocks, and 15 measurements for each' % count,
+                *('%s has %d number%s; a track has 4 to 52 blocks, and a number for each' % (name, n, 's'[n == 1:])
+                  for name in ('geometry', 'relativity', 'ionosphere', 'troposphere', 'clock'))])
+        for n in 4, 52:
+            self.assertEqual(faults(sample_text(n)), [])
+        self.assertEqual(faults('clock = 0 x 4'), [])
+        self.assertEqual(faults('measurements = 0 x 59'), [(1, 16, 'measurements needs 60 numbers and has 59')])
+        self.assertEqual(faults('measurements = 0 x 52'), [
+            (1, 16, 'measurements has 52 numbers; a track has 4 to 52 blocks, and 15 measurements for each')])
+
+    def test_lists_that_disagree(self):
+        self.refused('clock = 0 x 51', 'clock has 51 numbers, for 51 blocks, but the other lists are for 52', 1, 9)
+        self.refused('measurements = 0 x 300',
+                     'measurements has 300 numbers, for 20 blocks, but the other lists are for 52', 1, 16)
+        self.assertEqual(faults(beside('measurements = 0 x 780', 20)),
+                         [(1, 16, 'measurements has 780 numbers, for 52 blocks, but the other lists are for 20')])
+        self.refused('clock = 0 x 53', 'clock needs 52 numbers and has 53', 1, 9)
+        self.refused('clock = 0 x 3', 'clock needs 52 numbers and has 3', 1, 9)
+        self.assertEqual(faults(beside('clock = 0 x 51\ngeometry = 0 x 20')), [
+            (1, 9, 'clock has 51 numbers, for 51 blocks, but measurements, relativity, ionosphere and troposphere are '
+                   'for 52'),
+            (2, 12, 'geometry has 20 numbers, for 20 blocks, but measurements, relativity, ionosphere and troposphere are '
+                    'for 52')])
+        # where as many are for one number as for another, the measurements decide
+        self.assertEqual(faults('geometry = 0 x 51\nmeasurements = 0 x 300'),
+                         [(1, 12, 'geometry has 51 numbers, for 51 blocks, but measurements is for 20')])
+        self.assertEqual(faults('measurements = 0 x 300\ngeometry = 0 x 20\nclock = 0 x 52\nionosphere = 0 x 52'),
+                         [(line, column, '%s has 52 numbers, for 52 blocks, but measurements and geometry are for 20' % name)
+                          for line, column, name in ((3, 9, 'clock'), (4, 14, 'ionosphere'))])
 
     def test_a_row_that_another_makes_up_for(self):
         message = ('this row has %d numbers, the others %d, and another row makes up for it: '
@@ -268,7 +341,7 @@ class Messages(unittest.TestCase):
         for k in range(4):
             counts = [13] * 4
             counts[k], counts[(k + 2) % 4] = 12, 14
-            self.assertEqual(len(faults(wrapped('clock', *counts))), 2)
+            self.assertEqual(len(faults(beside(wrapped('clock', *counts)))), 2)
         # the last row is what is left over, and may make up for another too
         self.assertEqual(faults(wrapped('measurements', *[16] * 48, 12)), [])
         self.assertEqual(len(faults(wrapped('measurements', *[16] * 30, 15, *[16] * 17, 13))), 2)
@@ -311,11 +384,41 @@ class RoundTrip(unittest.TestCase):
             self.assertEqual(packed(text), bytes(data))
             self.assertEqual(hireblock.show(hireblock.parse(text)), text)
 
+    def test_any_bytes_of_every_length(self):
+        """The sizes of random bytes are those of no track, and are kept."""
+        seeded = random.Random(160)
+        for n in range(4, 53):
+            for data in sample_bytes(n), seeded.randbytes(58 + 160 * n):
+                self.assertEqual(round_trip(data), data, n)
+
+    def test_sizes_are_shown_where_the_lists_have_others(self):
+        for n in 4, 20, 52:
+            text = hireblock.show(hireblock.unpack(sample_bytes(n)))
+            self.assertTrue(text.startswith('# A hire block: one track of %d s, %d blocks of 15 s.\n\ncons' % (15 * n, n)))
+            wrong = struct.pack('<HH', 780, 51) + sample_bytes(n)[4:]
+            row = hireblock.show(hireblock.unpack(wrong)).splitlines()[1]
+            self.assertEqual(row, 'sizes         = 780 51         # but the lists have %d and %d' % (15 * n, n))
+            self.assertEqual(round_trip(wrong), wrong)
+
+    def wrong_length(self, data, message):
+        with self.assertRaises(hireblock.Bad) as caught:
+            hireblock.unpack(data)
+        self.assertEqual(caught.exception.faults, [(None, None, message)])
+
     def test_wrong_length(self):
-        for length in (0, 8377, 8379):
-            with self.assertRaises(hireblock.Bad) as caught:
-                hireblock.unpack(bytes(length))
-            self.assertEqual(caught.exception.faults, [(None, None, '%d bytes; a hire block has 8378' % length)])
+        general = 'a hire block has 58 + 160 n, n from 4 to 52'
+        for length, found in (0, '0 bytes'), (1, '1 byte'), (3, '3 bytes'):
+            self.wrong_length(bytes(length), '%s; %s' % (found, general))
+        # 538 and 8538 bytes are those of 3 and of 53 blocks
+        for length in 4, 538, 697, 699, 8377, 8379, 8538:
+            self.wrong_length(bytes(length), '%d bytes; %s, and the sizes 0 and 0 are of none' % (length, general))
+        for n in (3, 53):
+            self.wrong_length(sample_bytes(n), '%d bytes; %s, and the sizes %d and %d are of none' % (
+                58 + 160 * n, general, 15 * n, n))
+        for n in (4, 20, 52):
+            for data in sample_bytes(n)[:-1], sample_bytes(n) + b'\0', sample_bytes(n)[:4]:
+                self.wrong_length(data, '%d bytes, but a hire block of the sizes %d and %d has %d' % (
+                    len(data), 15 * n, n, 58 + 160 * n))
 
 
 class Encoding(unittest.TestCase):
@@ -387,9 +490,19 @@ class CommandLine(unittest.TestCase):
                   '%s:%d:6: 300 does not fit: the block holds 0 to 255' % (text, len(lines) + 1),
                   '%s: 3 faults; no block is made' % text)
         self.assertFalse(block.exists())
-        self.ends(self.run_tool('show', '-', data=b'x'), 1, '-: 1 bytes; a hire block has 8378')
-        self.ends(self.run_tool('show', SAMPLE), 1, "%s: %d bytes; a hire block has 8378: this may be a text, which "
-                  "'hireblock pack' packs" % (SAMPLE, SAMPLE.stat().st_size))
+        general = 'a hire block has 58 + 160 n, n from 4 to 52'
+        self.ends(self.run_tool('show', '-', data=b'x'), 1, '-: 1 byte; ' + general)
+        self.ends(self.run_tool('show', SAMPLE), 1, "%s: %d bytes; %s: this may be a text, which "
+                  "'hireblock pack' packs" % (SAMPLE, SAMPLE.stat().st_size, general))
+
+    def test_sizes_that_the_lists_have_not(self):
+        """The block is made, to try a refusal, and it is said that it will be refused."""
+        block = self.folder / 'a.blk'
+        text = ('sizes = 780 52\n' + sample_text(20)).encode()
+        remark = '-: packed with the sizes 780 and 52, while the lists have 300 and 20: it will be refused'
+        self.ends(self.run_tool('pack', '-', '-o', block, data=text), 0, remark)
+        self.assertEqual(block.read_bytes(), struct.pack('<HH', 780, 52) + sample_bytes(20)[4:])
+        self.ends(self.run_tool('pack', '-', '-o', block, data=text.replace(b'780 52', b'300 20')), 0)
 
     def test_unreadable_is_2(self):
         self.ends(self.run_tool('show', '/no/such/file'), 2, "can't read /no/such/file: No such file or directory")

@@ -21,6 +21,7 @@ DOCUMENT = ROOT / 'docs' / 'LAST-DIGIT.md'
 PROGRAM = ROOT / 'target' / 'bin' / 'trackline'
 WORKED = (ROOT / 'examples' / 'worked.blk').read_bytes()
 SAMPLE = (ROOT / 'examples' / 'sample.blk').read_bytes()
+SHORT = (ROOT / 'examples' / 'short.blk').read_bytes()
 
 sys.dont_write_bytecode = True
 sys.path.insert(0, str(ROOT / 'tools'))
@@ -54,10 +55,28 @@ def pattern(a):
     return column(measured(0), 4, a, -a, -a, a)
 
 
+def sample(n, values=(1000,), sizes=None):
+    """The sample with n blocks, byte by byte: sizes, labels, no delays, these measurements over and over, no corrections."""
+    head = struct.pack('<2H', *(sizes or (15 * n, n))) + SAMPLE[4:58]
+    return head + b''.join(struct.pack('<q', values[i % len(values)]) for i in range(15 * n)) + bytes(40 * n)
+
+
+def scattered(n, a):
+    """n blocks whose clocks are a, -a, -a, a over and over."""
+    clocks = ((58 + 120 * n + 40 * j + 32, '<q', (a, -a, -a, a)[j % 4]) for j in range(n))
+    return changed(sample(n, (0,)), *clocks)
+
+
 # a block and the number that it is refused with
 REFUSED = [
-    (b'', 11), (SAMPLE[:-1], 11), (SAMPLE + b'\0', 11), (changed(SAMPLE, (0, '<H', 779)), 1),
-    (changed(SAMPLE, (2, '<H', 51)), 1), (changed(SAMPLE, (58 + 8 * 779, '<q', 10 ** 12 + 1)), 2),
+    (b'', 11), (SAMPLE[:3], 11), (bytes(3), 11), (bytes(4), 1), (bytes(8377), 1), (bytes(8378), 1), (SAMPLE[:4], 11),
+    (SAMPLE[:-1], 11), (SAMPLE + b'\0', 11), (changed(SAMPLE, (0, '<H', 779)), 1), (changed(SAMPLE, (0, '<H', 765)), 1),
+    (changed(SAMPLE, (2, '<H', 51)), 1), (changed(SAMPLE, (0, '<H', 765), (2, '<H', 51)), 11), (sample(3), 1),
+    (sample(53), 1), (sample(20, sizes=(20, 300)), 1), (sample(20, sizes=(300, 21)), 1), (sample(20)[:-1], 11), (sample(20) + b'\0', 11),
+    (sample(20, sizes=(315, 21)), 11), (sample(20, sizes=(780, 52)), 11), (sample(4, (10 ** 12 + 1,)), 2),
+    (changed(sample(4), (698 - 8, '<q', -10 ** 10 - 1)), 2), (sample(4, (10 ** 12,)), 3), (scattered(4, 999950), 6),
+    (changed(sample(4), (698 - 16, '<q', -300)), 5), (changed(sample(20), (16, '<I', 121)), 8),
+    (changed(SAMPLE, (58 + 8 * 779, '<q', 10 ** 12 + 1)), 2),
     (changed(SAMPLE, (6298, '<q', 2 * 10 ** 11 + 1)), 2),
     (changed(SAMPLE, (6298 + 40 * 51 + 32, '<q', -10 ** 10 - 1)), 2),
     (changed(SAMPLE, (50, '<q', 10 ** 10 + 1)), 2), (measured(10 ** 12), 3), (measured(-999999999951), 3),
@@ -72,11 +91,65 @@ REFUSED = [
 ACCEPTED = [SAMPLE, WORKED, measured(999999999949), measured(-999999999950), pattern(999949), column(SAMPLE, 3, -50),
             column(SAMPLE, 3, 999949), changed(SAMPLE, (16, '<I', 84600)),
             changed(SAMPLE, (4, '<B', 0x45), (24, '<H', 999)),
-            changed(SAMPLE, (4, '<B', 0x52), (7, '<B', 24), (24, '<H', 96))]
+            changed(SAMPLE, (4, '<B', 0x52), (7, '<B', 24), (24, '<H', 96)), SHORT, scattered(4, 999949),
+            *(sample(n) for n in range(4, 53)), *(sample(n, tuple(range(0, 15 * n * 77, 77))) for n in range(4, 53))]
 
 
 def run_tool(*arguments):
     return subprocess.run([sys.executable, str(TOOL), *map(str, arguments)], capture_output=True, text=True)
+
+
+class ShortTracks(unittest.TestCase):
+    """Expected figures are worked out here by hand."""
+
+    def test_four_values(self):
+        """Values 0, 0, 0, 100: S is 100, T 300 and n(n² - 1) 60, worked out on paper."""
+        fit = lastdigit.Fit([0, 0, 0, 100])
+        self.assertEqual((fit.s, fit.t, fit.midpoint, fit.slope), (100, 300, 0, 20))
+        # the line through (-3, 0), (-1, 0), (1, 0), (3, 100) is 25 + 15 x
+        self.assertEqual(fit.residuals, [20, -10, -40, 30])
+        self.assertEqual((fit.q, fit.dsg), (3000, 0))
+        exact = lastdigit.ExactFit([0, 0, 0, 100])
+        # 15 ps for half of 15 seconds are 2 ps/s, 20 units
+        self.assertEqual((exact.midpoint * 100, exact.slope, exact.mean_square), (25, 20, 750))
+        self.assertEqual(exact.mean_date, 7 + 15 * 3 / 2)
+
+    def test_lines_are_met(self):
+        """Values on a line of 15 b ps a block: midpoint at the mean date, slope 10 b, no residual."""
+        for n in range(4, 53):
+            for b in (-7, 1, 100):
+                fit = lastdigit.Fit([500 + 15 * b * j for j in range(n)])
+                self.assertEqual(fit.slope, 10 * b)
+                self.assertEqual(fit.midpoint, (2 * 500 + 15 * b * (n - 1) + 100) // 200)
+                self.assertEqual((set(fit.residuals), fit.dsg), ({0}, 0))
+
+    def test_thresholds(self):
+        """The pattern a, -a, -a, a has neither mean nor slope where n is a multiple of 4, so Q is n a²."""
+        for n in range(4, 53, 4):
+            for a, dsg in (49, 0), (50, 1), (149, 1), (150, 2), (999949, 9999), (999950, 10000):
+                self.assertEqual(lastdigit.Fit([a, -a, -a, a] * (n // 4)).dsg, dsg)
+
+    def test_promise(self):
+        self.assertEqual([lastdigit.rounded_up(lastdigit.slope_promise(n), 4) for n in (4, 20, 52)],
+                         ['0.7667', '0.5502', '0.5193'])
+
+    def test_the_short_sample_needs_its_promise(self):
+        track = lastdigit.Track(SHORT)
+        distances = {name: (abs(value - exact), kind) for name, kind, value, exact, _ in lastdigit.figures(track)}
+        self.assertGreater(distances['SRSYS'][0], lastdigit.Fraction(52, 100))
+        for name, (distance, kind) in distances.items():
+            self.assertLessEqual(distance, lastdigit.promise(kind, 20), name)
+
+    def test_printed(self):
+        result = run_tool(ROOT / 'examples' / 'short.blk')
+        self.assertEqual((result.returncode, result.stderr), (0, ''))
+        for row in ('== Smoothing block 10', '== B of the 20 blocks, in ps', 'T / 1 995 = -88.500251',
+                    '133 x S = -29 889 888',
+                    'threshold of 4 = 20 x (100 x 4 - 50)^2 = 20 x 350^2 = 2 450 000', 'columns  21 to  24  TRKL    0300'):
+            self.assertIn(row, result.stdout.splitlines())
+        for n, row in (6, '2T / 105 = 0.000000'), (9, '3 x (2j - 8) x T = 0'), (4, '== Smoothing block 2'):
+            self.assertIn(row, subprocess.run([sys.executable, str(TOOL), '-'], input=sample(n),
+                                              capture_output=True).stdout.decode().splitlines())
 
 
 class Blocks(unittest.TestCase):
@@ -122,6 +195,10 @@ class Blocks(unittest.TestCase):
         for _ in range(60):
             at = seeded.choice([0, 2, 4, 5, 7, 8, 9, 11, 12, 16, 20, 22, 24, 26, 50, 58, 6298, 6330])
             blocks.append(changed(WORKED, (at, '<B', seeded.randrange(256))))
+        # the worked track cut after n blocks
+        numbers, groups = WORKED[58:6298], WORKED[6298:]
+        blocks += [struct.pack('<2H', 15 * n, n) + WORKED[4:58] + numbers[:120 * n] + groups[:40 * n]
+                   for n in range(3, 54)]
         for k, block in enumerate(blocks):
             printed = subprocess.run([PROGRAM], input=block, capture_output=True).stdout.decode('latin-1')
             number = lastdigit.refusal(block)
@@ -143,7 +220,9 @@ class Blocks(unittest.TestCase):
         result = run_tool('/no/such/file')
         message = 'lastdigit: /no/such/file: No such file or directory\n'
         self.assertEqual((result.returncode, result.stderr), (2, message))
-        for arguments in ('-j', '52'), ('a.blk', '--check', DOCUMENT), ('a.blk', '--svg', 'a.svg'):
+        result = run_tool(ROOT / 'examples' / 'short.blk', '-r', '20')
+        self.assertEqual((result.returncode, result.stderr), (2, 'lastdigit: block 20: the track has 20, 0 to 19\n'))
+        for arguments in ('-j', '52'), ('-j', '-1'), ('-j', 'x'), ('a.blk', '--check', DOCUMENT), ('a.blk', '--svg', 'a.svg'):
             self.assertEqual(run_tool(*arguments).returncode, 2)
 
 
@@ -181,7 +260,7 @@ class Document(unittest.TestCase):
     @classmethod
     def setUpClass(cls):
         cls.track = lastdigit.Track(WORKED)
-        cls.phrases = lastdigit_prose.phrases(cls.track, lastdigit)
+        cls.phrases = lastdigit_prose.phrases(cls.track, lastdigit.Track(SHORT), lastdigit)
         cls.prose = lastdigit_prose.read(DOCUMENT.read_text())[1]
 
     def faults(self, prose):
@@ -216,13 +295,15 @@ class Document(unittest.TestCase):
 
     def test_every_line_of_the_code_blocks_is_checked(self):
         rows = DOCUMENT.read_text().splitlines(keepends=True)
-        at = rows.index('DSG = 3\n')
-        before, here, after = rows[:at], rows[at], rows[at + 1:]
         with tempfile.TemporaryDirectory() as folder:
             wrong = pathlib.Path(folder, 'a.md')
-            for changes in ['DSG = 4\n', *after], after, [here, here, *after], [after[0], here, *after[1:]]:
-                wrong.write_text(''.join(before + changes))
-                self.assertEqual(run_tool('--check', wrong).returncode, 1)
+            # of the worked track, and of the short one
+            for line, other in ('DSG = 3\n', 'DSG = 4\n'), ('columns  66 to  71  SRSYS   -00089\n', 'SRSYS\n'):
+                at = rows.index(line)
+                before, here, after = rows[:at], rows[at], rows[at + 1:]
+                for changes in [other, *after], after, [here, here, *after], [after[0], here, *after[1:]]:
+                    wrong.write_text(''.join(before + changes))
+                    self.assertEqual(run_tool('--check', wrong).returncode, 1)
 
 
 if __name__ == '__main__':

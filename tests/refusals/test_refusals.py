@@ -77,12 +77,44 @@ def negative(name):
     return tried(**{name: -WORKED[name] if name in DELAYS else [-value for value in WORKED[name]]})
 
 
+def cut(first, last, **parts):
+    """The worked track's blocks from the first to the one before the last."""
+    lists = {name: WORKED[name][first:last] for name in COLUMNS}
+    measurements = WORKED['measurements'][15 * first:15 * last]
+    return hireblock.pack({**WORKED, **lists, 'measurements': measurements, 'sizes': [15 * (last - first), last - first],
+                           **parts})
+
+
 class Card(unittest.TestCase):
     def all_are(self, number, answers):
         self.assertEqual(set(answers), {number})
 
     def test_worked_track_is_accepted(self):
         self.assertEqual(tried(), 0)
+
+    def test_1(self):
+        self.all_are(1, [answer(cut(0, n)) for n in (0, 1, 2, 3)])
+        worked = hireblock.pack(WORKED)
+        more = hireblock.pack({**WORKED, 'measurements': WORKED['measurements'] + [0] * 15, 'sizes': [795, 53],
+                               **{name: WORKED[name] + [0] for name in COLUMNS}})
+        exchanged_sizes, wrong_order = worked[2:4] + worked[:2] + worked[4:], worked[1::-1] + worked[3:1:-1] + worked[4:]
+        self.all_are(1, [answer(data) for data in (more, exchanged_sizes, wrong_order, worked[1:], b'\0' + worked,
+                                                   bytes(4), bytes(698), bytes(8377), bytes(8378))])
+        self.all_are(1, [answer((ROOT / 'examples' / name).read_bytes()) for name in ('sample.txt', 'short.txt', 'worked.txt')])
+        self.all_are(1, [tried(measurements=WORKED['measurements'][:seconds], sizes=[seconds, 52]) for seconds in (779, 765)])
+
+    def test_11(self):
+        worked, short = hireblock.pack(WORKED), cut(0, 20)
+        self.all_are(11, [answer(data) for data in (b'', bytes(3), worked[:4], worked[:-1], worked[:4000], worked + b'\n',
+                                                    2 * worked, short[:-1], 2 * short)])
+        self.all_are(11, [answer(cut(0, n, sizes=[780, 52])) for n in (4, 20, 51)])
+        self.assertEqual([len(cut(0, n)) for n in (52, 4)], [8378, 698])
+
+    def test_short_tracks_are_accepted(self):
+        self.all_are(0, [answer(cut(0, n)) for n in range(4, 53)])
+        self.all_are(0, [answer(cut(n, 52)) for n in range(49)])
+        line = subprocess.run([PROGRAM], input=cut(30, 52), stdout=subprocess.PIPE, check=True).stdout.split()
+        self.assertEqual(line[2:5], [b'60600', b'133000', b'0330'])
 
     def test_2(self):
         self.all_are(2, [marked(9999999999999, [second]) for second in (0, 400, 779)])

@@ -20,6 +20,8 @@ from blocks import SAMPLE_LINE, block, line, scattered  # noqa: E402
 PROGRAM = os.environ.get('TRACKLINE', str(ROOT / 'target' / 'bin' / 'trackline'))
 WORKED_LINE = (b'G17 FF 60600 133000 0780 583 2145 +0001233431 +00009 -0000000315 -00041 0003 087 0097 +005 0202 -021 '
                b'00 05 L1C 8C\r\n')
+SHORT_LINE = (b'G23 FF 60600 134600 0300 103 3021 +0001203805 -00039 -0000000112 -00089 0004 041 0558 +267 0390 +073 '
+              b'00 07 L1C 92\r\n')
 
 
 def printed(data):
@@ -39,15 +41,64 @@ class Trackline(unittest.TestCase):
         self.assertEqual(printed(block()), SAMPLE_LINE)
         self.refused(11, block() + b'\0')
         self.refused(11, (block() * 12)[:100000])
-        self.refused(1, bytes(8378))
+
+    def test_lengths_of_short_tracks(self):
+        for n in range(4, 53):
+            data = block(groups=n)
+            self.assertEqual(len(data), 58 + 160 * n)
+            self.assertEqual(printed(data), line('G05 FF 50722 000200 %04d 450 1800 +0000000010 +00000 +0000000010 +00000 '
+                                                 '0000 007 0000 +000 0000 +000 00 00 L1C' % (15 * n)))
+            for wrong in (data[:4], data[:57], data[:-1], data[:-160], data + b'\0', data + bytes(160)):
+                self.refused(11, wrong)
+
+    def test_bytes_of_zero(self):
+        """Under four bytes they are no block at all; from there on their sizes, 0 and 0, are named first."""
+        for length in (1, 2, 3):
+            self.refused(11, bytes(length))
+        for length in (4, 58, 698, 8377, 8378, 8379, 100000):
+            self.refused(1, bytes(length))
 
     def test_kept_blocks(self):
         self.assertEqual(printed((ROOT / 'examples' / 'sample.blk').read_bytes()), SAMPLE_LINE)
         self.assertEqual(printed((ROOT / 'examples' / 'worked.blk').read_bytes()), WORKED_LINE)
+        self.assertEqual(printed((ROOT / 'examples' / 'short.blk').read_bytes()), SHORT_LINE)
 
     def test_sizes(self):
-        for sizes in ((779, 52), (780, 51), (52, 780), (780, 0), (65535, 65535), (0x0C03, 52)):
+        for sizes in ((779, 52), (780, 51), (765, 52), (52, 780), (780, 0), (65535, 65535), (0x0C03, 52), (795, 53), (45, 3),
+                      (0, 0), (15 * 256 + 60, 4), (60, 256 + 4)):
             self.refused(1, block(zip(('measurements size', 'groups size'), sizes)))
+        for n in (3, 53):
+            self.refused(1, block(groups=n))
+        for n in range(4, 53):
+            for sizes in ((15 * n + 1, n), (15 * n, n + 1), (15 * n, n - 1), (n, 15 * n), (15, 1)):
+                self.refused(1, block(zip(('measurements size', 'groups size'), sizes), groups=n))
+            # the sizes of another track: the length is not theirs
+            other = 52 if n == 4 else n - 1
+            self.refused(11, block({'measurements size': 15 * other, 'groups size': other}, groups=n))
+
+    def test_figures_of_short_tracks(self):
+        """At second t 1000 + 2 t ps: the midpoint is that of second 7.5 n - 0.5, the slope 2 ps/s."""
+        for n in range(4, 53):
+            midpoint = (2 * 1000 + 2 * (15 * n - 1) + 100) // 200
+            self.assertEqual(printed(block(groups=n, measurements=[1000 + 2 * t for t in range(15 * n)])),
+                             line('G05 FF 50722 000200 %04d 450 1800 %+011d +00020 %+011d +00020 0000 007 0000 +000 '
+                                  '0000 +000 00 00 L1C' % (15 * n, midpoint, midpoint)))
+
+    def test_limits_of_short_tracks(self):
+        for n in (4, 5, 51):
+            for part, limit in (('measurement 0', 10 ** 12), ('measurement %d' % (15 * n - 1), 10 ** 12),
+                                ('geometry %d' % (n - 1), 2 * 10 ** 11), ('relativity 0', 10 ** 10),
+                                ('clock %d' % (n - 1), 10 ** 10), ('GD', 10 ** 10)):
+                self.refused(2, block({part: limit + 1}, groups=n))
+                self.refused(2, block({part: -limit - 1}, groups=n))
+            self.refused(3, block(groups=n, measurements=[10 ** 12] * (15 * n)))
+            self.refused(4, block(groups=n, clock=[150000 * j for j in range(n)]))
+            self.refused(5, block(groups=n, troposphere=[-51] * n))
+        for n in (4, 48):
+            self.refused(6, block(groups=n, clock=scattered(999950, n)))
+            self.assertEqual(printed(block(groups=n, clock=scattered(999949, n)))[72:76], b'9999')
+            for size, dsg in ((49, b'0000'), (50, b'0001'), (149, b'0001'), (150, b'0002')):
+                self.assertEqual(printed(block(groups=n, clock=scattered(size, n)))[72:76], dsg)
 
     def test_limits(self):
         for part, limit in (('INT', 10 ** 10), ('CAB', 10 ** 10), ('REF', 10 ** 10), ('GD', 10 ** 10),
@@ -107,13 +158,16 @@ class Trackline(unittest.TestCase):
             self.assertEqual(printed(block({'MJD': mjd, 'start': start}))[:19], b'G05 FF ' + columns)
 
     def test_first_fault_is_named(self):
-        faults = [(11, None), (1, {'groups size': 51}), (2, {'GD': 2 ** 62}), (7, {'HC': 200}), (8, {'start': 121})]
-        for i, (number, _) in enumerate(faults):
-            changes = {}
-            for _, fault in faults[i:]:
-                changes.update(fault or {})
-            data = block(changes)
-            self.refused(number, data[:-1] if number == 11 else data)
+        cut = {'length': -1}
+        faults = [(11, {'length': 3}), (1, {'groups size': 51}), (11, cut), (2, {'GD': 2 ** 62}), (7, {'HC': 200}),
+                  (8, {'start': 121})]
+        for groups in (52, 20):
+            for i, (number, _) in enumerate(faults):
+                changes = {}
+                for _, fault in reversed(faults[i:]):
+                    changes.update(fault)
+                length = changes.pop('length', None)
+                self.refused(number, block(changes, groups)[:length])
 
     def test_input_in_pieces(self):
         process = subprocess.Popen([PROGRAM], stdin=subprocess.PIPE, stdout=subprocess.PIPE)
