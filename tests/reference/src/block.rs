@@ -2,7 +2,7 @@
 
 use crate::fit::{blocks_fit, MOST_BLOCKS};
 use crate::line::{line, Labels};
-use crate::track::{track, Columns, Delays, BLOCK_SECONDS, MOST_SECONDS};
+use crate::track::{track, Columns, Delays, Record, BLOCK_SECONDS, MOST_SECONDS};
 
 /// Bytes of a hire block of n blocks of 15 seconds: sizes, labels and delays, the measurements, the corrections.
 pub const fn block_bytes(n: usize) -> usize {
@@ -52,17 +52,19 @@ fn delays(block: &[u8]) -> Delays {
 }
 
 /// The measurements of n blocks.
+#[inline(always)]
 fn measurements(block: &[u8], n: usize) -> [i64; MOST_SECONDS] {
     let mut measurements = [0; MOST_SECONDS];
-    let numbers = block[58..corrections_at(n)].chunks_exact(8);
-    measurements.iter_mut().zip(numbers).for_each(|(m, number)| *m = i64_at(number, 0));
+    let (numbers, _) = block[58..corrections_at(n)].as_chunks();
+    measurements.iter_mut().zip(numbers).for_each(|(m, number)| *m = i64::from_le_bytes(*number));
     measurements
 }
 
 /// One of the five corrections of each of n groups.
+#[inline(always)]
 fn column(block: &[u8], n: usize, which: usize) -> [i64; MOST_BLOCKS] {
     let mut column = [0; MOST_BLOCKS];
-    let groups = block[corrections_at(n)..].chunks_exact(40);
+    let (groups, _) = block[corrections_at(n)..].as_chunks::<40>();
     column.iter_mut().zip(groups).for_each(|(v, group)| *v = i64_at(group, 8 * which));
     column
 }
@@ -82,12 +84,9 @@ fn admit(block: &[u8]) -> Result<usize, u32> {
     Ok(n)
 }
 
-/// Block: the line of a hire block into the lent line and 0, or the refusal and nothing written.
-pub fn block(block: &[u8], lent: &mut [u8]) -> u32 {
-    let n = match admit(block) {
-        Ok(n) => n,
-        Err(refusal) => return refusal,
-    };
+/// Track of the numbers of n blocks.
+#[inline(always)]
+fn track_of(block: &[u8], n: usize) -> Result<Record, u32> {
     let columns = Columns {
         geometry: &column(block, n, 0)[..n],
         relativity: &column(block, n, 1)[..n],
@@ -95,7 +94,18 @@ pub fn block(block: &[u8], lent: &mut [u8]) -> u32 {
         troposphere: &column(block, n, 3)[..n],
         clock: &column(block, n, 4)[..n],
     };
-    match track(&measurements(block, n)[..BLOCK_SECONDS * n], &delays(block), &columns) {
+    track(&measurements(block, n)[..BLOCK_SECONDS * n], &delays(block), &columns)
+}
+
+/// Block: the line of a hire block into the lent line and 0, or the refusal and nothing written.
+pub fn block(block: &[u8], lent: &mut [u8]) -> u32 {
+    // a full block's lengths and offsets are constants to the compiler
+    let tracked = match admit(block) {
+        Ok(MOST_BLOCKS) => track_of(block, MOST_BLOCKS),
+        Ok(n) => track_of(block, n),
+        Err(refusal) => return refusal,
+    };
+    match tracked {
         Ok(record) => line(&labels(block), &record.numbers, lent),
         Err(refusal) => refusal,
     }

@@ -93,6 +93,7 @@ fn all_within(values: &[i64], limit: i64) -> bool {
 }
 
 /// 1 and 2; else the number of blocks.
+#[inline(always)]
 fn admit(measurements: &[i64], delays: &Delays, columns: &Columns) -> Result<usize, u32> {
     let Columns { geometry, relativity, ionosphere, troposphere, clock } = *columns;
     let lists = [geometry, relativity, ionosphere, troposphere, clock];
@@ -112,6 +113,7 @@ fn admit(measurements: &[i64], delays: &Delays, columns: &Columns) -> Result<usi
 }
 
 /// Track: a record, or the refusal.
+#[inline(always)]
 pub fn track(measurements: &[i64], delays: &Delays, columns: &Columns) -> Result<Record, u32> {
     let n = admit(measurements, delays, columns)?;
     let mut a = [0; MOST_BLOCKS];
