@@ -7,7 +7,7 @@
 #ifndef CGGTTS_H
 #define CGGTTS_H
 
-#define _POSIX_C_SOURCE 200809L
+#define _XOPEN_SOURCE 700
 
 #include <stddef.h>
 #include <stdint.h>
@@ -94,6 +94,7 @@ void explain_line(const uint8_t *line, size_t length, uint32_t number);
 int line_command(int argc, char **argv);
 int check_command(int argc, char **argv);
 int read_command(int argc, char **argv);
+int merge_command(int argc, char **argv);
 int starts_command(int argc, char **argv);
 
 #endif

@@ -1,11 +1,12 @@
 /*
- * trackline: one CGGTTS data line of 113 columns from a satellite track of 1 to 13 minutes, and what stands in such a line.
+ * trackline: one CGGTTS data line of 113 columns from a satellite track of 1 to 13 minutes, what stands in such a line, and
+ * one file of lines from two.
  *
  * Each function but trackline_comment answers 0 when it accepts and the number of its refusal otherwise. A slice is a
  * pointer and a length; NULL with length 0 is an empty slice. A function that accepts writes the first 113 bytes of the
- * lent line, with no byte of zero after them, or the first 23 of the lent values; one that refuses writes nothing. The
- * two slices of a call must not overlap. Nothing is kept between calls, so that threads may call at once on lines of
- * their own.
+ * lent line, with no byte of zero after them, the first 23 of the lent values, or the lent file as far as it goes; one
+ * that refuses writes nothing. The slices of a call must not overlap. Nothing is kept between calls, so that threads may
+ * call at once on lines of their own.
  */
 #ifndef TRACKLINE_H
 #define TRACKLINE_H
@@ -95,13 +96,16 @@ extern "C" {
     X(9, TRACKLINE_LENT, "the lent line is under 113 bytes, or fewer than 23 values are lent")            \
     X(10, TRACKLINE_CORRECTED, "a corrected value is beyond its limit")                                   \
     X(11, TRACKLINE_LENGTH, "the block is under 4 bytes or not as long as its sizes make it")             \
-    X(12, TRACKLINE_LINE_LENGTH, "the line is not 113 to 140 bytes long")                                 \
-    X(13, TRACKLINE_CHARACTER, "a character is not allowed in its column")                                \
-    X(14, TRACKLINE_CHECKSUM, "CK is not the two capital digits of the sum of the columns before it")
+    X(12, TRACKLINE_LINE_LENGTH, "the line is not 113 to 140 bytes long, or a file's last line is cut")   \
+    X(13, TRACKLINE_CHARACTER, "a character is not allowed in its column or line end")                    \
+    X(14, TRACKLINE_CHECKSUM, "CK is not the two capital digits of the sum of the columns before it")     \
+    X(15, TRACKLINE_DIFFER, "two lines have the same MJD, start, letter and satellite, and differ")       \
+    X(16, TRACKLINE_ORDER, "the lines do not ascend by MJD, start, letter and satellite")                 \
+    X(17, TRACKLINE_ROOM, "the lent file is shorter than the result")
 
 #define TRACKLINE_NUMBER(number, name, text) name = number,
 enum trackline_refusal {
-    TRACKLINE_ACCEPTED = 0, /* the line is written, or its values are */
+    TRACKLINE_ACCEPTED = 0, /* the line is written, or its values are, or the file is */
     TRACKLINE_REFUSALS(TRACKLINE_NUMBER)
 };
 #undef TRACKLINE_NUMBER
@@ -175,6 +179,24 @@ uint32_t trackline_read(const uint8_t *line, size_t line_len, int64_t *values, s
  * is then empty. It is the rest of the line from there, up to 27 bytes of 20 to 7E hexadecimal.
  */
 size_t trackline_comment(const uint8_t *line, size_t line_len);
+
+/*
+ * A line file has 115 bytes a line: 113 columns, carriage return, line feed. Its lines ascend strictly by four keys: MJD,
+ * start, constellation letter (C, E, G, J, R), satellite. A file without a byte is one too.
+ */
+#define TRACKLINE_FILE_LINE_BYTES 115
+
+/*
+ * One line file from two: the lines of both, a line that is in both once. It is written to the lent file, and how many
+ * bytes it has, which may be none, to *written. Both lengths together are room enough.
+ *
+ * Tried in this order: the first file, then the second, then 15, then 17. In a file the earliest line decides, by 12, 14,
+ * 13, 7, 8, 13, 16: 12 is a last line of under 115 bytes; the second 13 a line end other than carriage return and line
+ * feed; 16 keys that are not above those of the line before it. 15: two lines, one of each file, have the same keys and
+ * differ. 17: the lent file is shorter than the result. A refusal leaves *written too as it was; written is never NULL.
+ */
+uint32_t trackline_merge(const uint8_t *first, size_t first_len, const uint8_t *second, size_t second_len,
+                         uint8_t *file, size_t file_len, size_t *written);
 
 #ifdef __cplusplus
 }

@@ -27,6 +27,11 @@ CGGTTS=$prefix/bin/cggtts python3 tests/cggtts/test_cggtts.py >"$scratch/log" 2>
     cat "$scratch/log" >&2
     fail 'the installed cggtts'
 }
+CGGTTS=$prefix/bin/cggtts python3 tests/cggtts/test_merge.py >"$scratch/log" 2>&1 || {
+    cat "$scratch/log" >&2
+    fail 'the installed cggtts merge'
+}
+(cd "$prefix/share/trackline/examples" && "$prefix/bin/cggtts" merge first.cggtts second.cggtts) | cmp - examples/week.cggtts
 cmp docs/REFUSALS.md "$prefix/share/doc/trackline/REFUSALS.md"
 cmp docs/HIRE-BLOCK.md "$prefix/share/doc/trackline/HIRE-BLOCK.md"
 
@@ -89,7 +94,7 @@ pkg-config --exact-version "$(sed -n 's/^VERSION := //p' Makefile)" trackline ||
 
 # what the shared library exports and needs
 exports=$(nm -D --defined-only "$prefix/lib/libtrackline.so" | awk '{print $3}' | sort | xargs)
-[ "$exports" = 'trackline_block trackline_comment trackline_line trackline_read trackline_start' ] || fail "the shared library exports: $exports"
+[ "$exports" = 'trackline_block trackline_comment trackline_line trackline_merge trackline_read trackline_start' ] || fail "the shared library exports: $exports"
 needs=$(ldd "$prefix/lib/libtrackline.so" | awk '{print $1}' | grep -vE '^(linux-vdso|libc|/lib.*/ld-linux|statically)' || true)
 [ -z "$needs" ] || fail "the shared library needs: $needs"
 

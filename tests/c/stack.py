@@ -15,11 +15,11 @@ ROOT = pathlib.Path(__file__).resolve().parents[2]
 MEASURED = r'stack: (trackline_\w+) takes (at most )?(\d+) bytes, promised (\d+)\n'
 # a figure that a document gives, and the functions whose figures it names, in order
 DOCUMENTS = (
-    ('man/trackline.3', r'that gave ([\d,]+), ([\d,]+), ([\d,]+), ([\d,]+) and at most ([\d,]+) bytes',
-     ('block', 'line', 'read', 'comment', 'start'), 1),
+    ('man/trackline.3', r'that gave ([\d,]+), ([\d,]+), ([\d,]+), ([\d,]+), ([\d,]+) and at most ([\d,]+) bytes',
+     ('block', 'merge', 'line', 'read', 'comment', 'start'), 1),
     ('docs/TRUST.md', r'`trackline_block` takes about ([\d.]+) kB', ('block',), 1000),
 )
-PROMISED = r'takes up to ([\d,]+) bytes .+? up to ([\d,]+)\.'
+PROMISED = r'takes up to ([\d,]+) bytes .+? up to ([\d,]+), .+? up to ([\d,]+)\.'
 
 
 def number(text):
@@ -30,7 +30,7 @@ def main(program):
     printed = subprocess.run([program], stdout=subprocess.PIPE, text=True, cwd=ROOT)
     print(printed.stdout, end='')
     found = {name[10:]: (int(figure), int(most)) for name, _, figure, most in re.findall(MEASURED, printed.stdout)}
-    if len(found) != 5 or printed.returncode:
+    if len(found) != 6 or printed.returncode:
         print('stack: FAILED: the stack was not measured, or is above what is promised', file=sys.stderr)
         return 1
     faults = []
@@ -43,8 +43,8 @@ def main(program):
                 faults.append('%s: trackline_%s takes %d bytes, and it says %s' % (
                     path, name, measured, figure or 'nothing'))
     promised = re.search(PROMISED, ' '.join((ROOT / 'man/trackline.3').read_text().split()))
-    others = {most for name, (_, most) in found.items() if name != 'block'}
-    if not promised or [number(word) for word in promised.groups()] != [found['block'][1], *others]:
+    others = {most for name, (_, most) in found.items() if name not in ('block', 'merge')}
+    if not promised or [number(word) for word in promised.groups()] != [found['block'][1], found['merge'][1], *others]:
         faults.append('man/trackline.3 does not promise what tests/c/stack.c tests')
     for fault in faults:
         print('stack: FAILED: %s' % fault, file=sys.stderr)

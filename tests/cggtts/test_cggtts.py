@@ -36,9 +36,11 @@ MEANINGS = {1: "the block's two sizes are not 15 n and n, n from 4 to 52",
             7: 'a label is out of its range, or the track length is not 15 n, n from 4 to 52',
             8: 'no track of that day starts at that second',
             11: 'the block is under 4 bytes or not as long as its sizes make it',
-            12: 'the line is not 113 to 140 bytes long',
-            13: 'a character is not allowed in its column',
-            14: 'CK is not the two capital digits of the sum of the columns before it'}
+            12: "the line is not 113 to 140 bytes long, or a file's last line is cut",
+            13: 'a character is not allowed in its column or line end',
+            14: 'CK is not the two capital digits of the sum of the columns before it',
+            15: 'two lines have the same MJD, start, letter and satellite, and differ',
+            16: 'the lines do not ascend by MJD, start, letter and satellite'}
 OWN = ' (worked out by cggtts, not by the library)'
 ONE_TOO_MANY = "starts: '50723' is one word too many"
 
