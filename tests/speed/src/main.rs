@@ -16,15 +16,17 @@ mod files;
 #[allow(dead_code)]
 #[path = "../../boundary/src/library.rs"]
 mod library;
+mod measurements;
 mod read_stages;
 mod stages;
 mod timing;
 
+use measurements::MEASUREMENTS;
 use read_stages::READ_STAGES;
 use reference::good::{good_comment, good_labels, good_numbers};
 use reference::seeded::Seeded;
 use reference::{LEAST_BLOCKS, LINE_BYTES, MOST_BLOCKS, VALUES};
-use stages::{Stage, MEASUREMENTS, STAGES};
+use stages::{Stage, STAGES};
 use timing::Pair;
 
 // Never inlined and with plain names, so that valgrind can count what is inside.

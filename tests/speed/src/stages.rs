@@ -23,21 +23,12 @@ pub const STAGES: [Stage; 6] = [
     stage("labels and start, text", 0, |_| {}),
 ];
 
-/// Where the limit test on the measurements stops (docs/SPEED.md).
-pub const MEASUREMENTS: [Stage; 2] = [
-    stage("the first measurement outside", 2, |block| put(block, 58, i64::MAX)),
-    stage("the last measurement outside", 2, |block| {
-        let last = 58 + 8 * (15 * blocks(block) - 1);
-        put(block, last, i64::MAX)
-    }),
-];
-
-fn put(block: &mut [u8], at: usize, value: i64) {
+pub fn put(block: &mut [u8], at: usize, value: i64) {
     block[at..at + 8].copy_from_slice(&value.to_le_bytes());
 }
 
 /// The number of blocks of 15 seconds.
-fn blocks(block: &[u8]) -> usize {
+pub fn blocks(block: &[u8]) -> usize {
     block[2].into()
 }
 
