@@ -2,6 +2,7 @@ pub mod Keys
 pub mod Ascending
 pub mod Steps
 pub mod Lines
+pub mod Digits
 pub mod Ranks
 pub mod Judging
 pub mod Written

@@ -5,13 +5,13 @@ use mathlib.Core.List.{List, [], _∷_, _++_}
 use Prim.Native.Nat.{ℕ, zero, suc, _+_, _-_, _*_, _/_, _%_, _≤_, _<_}
 use native.Mathlib.Nat.{not-suc-le-zero, le-of-suc-le-suc, mul-div-cancel-left, le-of-eq}
 use native.Mathlib.Omega.{arith}
-use lib.Dec.{eqb, lit<}
+use lib.Dec.{lit<}
 use lib.ListN.{length, take, drop, getD, length-append, length-drop, take-append-drop}
 use lib.Seq.{length-take-le, take-all, take-at, drop-at, drop-nil, drop-append-add, drop-drop}
 use borrow.Author.Tests.{eqb-true, eq-eqb, not-false}
 use Rattle.limits.specs.Refusal.{_when_, _then_}
 use Rattle.limits.proofs.Laws.{then-zero, when-zero}
-use Rattle.files.specs.Files.{endedLength, linesIn, lines, linesNumber, fileNumber}
+use Rattle.files.specs.Files.{endedLength, linesIn, lines, fileNumber}
 use Rattle.files.specs.Merge.{joined}
 use Rattle.files.proofs.Ascending.{Ascending, All, Accepted, lines-accepted, accepted-lines}
 

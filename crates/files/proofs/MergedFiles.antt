@@ -14,7 +14,7 @@ use Rattle.limits.proofs.Laws.{then-passed}
 use Rattle.files.specs.Files.{endedLength, linesIn, lines, linesNumber, fileNumber}
 use Rattle.files.specs.Merge.{partners, anyDiffer, merged, joined, mergedFile, mergeNumber, mergeRule, mergeAfter}
 use Rattle.files.proofs.Ascending.{Ascending, All, Accepted}
-use Rattle.files.proofs.Lines.{LineFile, line-file, line-file-zero, lines-joined, joined-lines}
+use Rattle.files.proofs.Lines.{line-file, line-file-zero, lines-joined, joined-lines}
 use Rattle.files.proofs.Steps.{all-merged, merged-ascends, merged-nothing, partners-nothing}
 use Rattle.files.proofs.Walking.{merged-long, length-merged}
 use Rattle.files.proofs.Replies.{number-is}

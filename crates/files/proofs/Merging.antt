@@ -4,7 +4,7 @@
 use mathlib.Core.Path.{_≡_, refl, sym, ap, ap₂, subst, _∙_}
 use mathlib.Core.Bool.{Bool, true, false, cond, not, _||_, true≢false, false≢true, or-comm, or-assoc}
 use mathlib.Core.List.{List, [], _∷_, _++_}
-use Prim.Native.Nat.{ℕ, zero, suc, _+_}
+use Prim.Native.Nat.{ℕ, _+_}
 use native.Mathlib.Omega.{arith}
 use borrow.Author.Tests.{not-false}
 use Rattle.limits.proofs.Laws.{or-false}
@@ -13,7 +13,7 @@ use Rattle.files.specs.Files.{same, keys, before}
 use Rattle.files.specs.Merge.{partnersOf, partners, anyDiffer, inserted, merged}
 use Rattle.files.proofs.Keys.{same-refl, same-eq, Order, below, level, above, order, before-irrefl, before-asym, before-apart}
 use Rattle.files.proofs.Ascending.{Ascending, All, Behind, all-map, all-behind}
-use Rattle.files.proofs.Steps.{all-merged, merged-ascends, merged-nothing, level-merged, level-partners}
+use Rattle.files.proofs.Steps.{all-merged, merged-ascends, level-merged, level-partners}
 
 -- Whether a line is among others, and how often.
 unfoldable pub holds : (line : List ℕ) → List (List ℕ) → Bool

@@ -1,62 +1,24 @@
 -- Accepted lines ascend by their rank (specs/Walk.antt) as they do by their keys.
 -- Assumes nothing.
 use mathlib.Core.Path.{_≡_, sym, ap, ap₂, _∙_}
-use mathlib.Core.Bool.{Bool, true, false, false≢true}
+use mathlib.Core.Bool.{true}
 use mathlib.Core.List.{List, [], _∷_}
-use Prim.Native.Nat.{ℕ, zero, suc, _+_, _*_, _-_, _≤_, _<_}
-use native.Mathlib.Nat.{add-zero}
+use Prim.Native.Nat.{ℕ, _+_, _*_, _≤_, _<_}
 use native.Mathlib.Omega.{arith}
-use lib.Dec.{T, ltb, leb, eqb, lit<}
-use lib.ListN.{length, take, drop, getD}
-use lib.Seq.{getD-take, getD-drop}
-use borrow.Author.Tests.{lt-ltb, le-ltb, lt-leb, le-leb, eqb-true, ltb-true, ltb-false}
-use Rattle.limits.specs.Refusal.{_when_, _then_}
-use Rattle.limits.proofs.Laws.{then-zero, then-refused, then-passed}
-use Rattle.fields.specs.Read.{digitsAfter, readDecimal}
-use Rattle.columns.specs.Text.{lineLength}
+use lib.Dec.{ltb, eqb, lit<, lit≤}
+use lib.ListN.{getD}
+use lib.Seq.{getD-take}
+use borrow.Author.Tests.{lt-ltb, le-ltb, eqb-true}
+use Rattle.fields.specs.Read.{readDecimal}
 use Rattle.columns.specs.Columns.{byteIn, field, readLabels}
-use Rattle.reader.specs.Kinds.{allows, allowed, kinds, letterFits}
-use Rattle.reader.specs.Fields.{digits}
-use Rattle.reader.specs.Read.{readNumber}
-use Rattle.reader.proofs.Allowed.{both, either, letter-is, digit-range}
-use Rattle.reader.proofs.Columns.{Columns, columns-of, field-bound, holds-at}
-use Rattle.reader.proofs.Refusals.{accepted}
-use Rattle.files.specs.Files.{columnsOf, keysOf, keys, before, lineNumber, linesNumber}
+use Rattle.reader.specs.Kinds.{letterFits}
+use Rattle.reader.proofs.Allowed.{either, letter-is}
+use Rattle.reader.proofs.Columns.{field-bound, holds-at}
+use Rattle.files.specs.Files.{columnsOf, keysOf, keys, before}
 use Rattle.files.specs.Walk.{pairAt, rank}
 use Rattle.files.proofs.Keys.{Heads, less, equal, more, heads, before-below, before-above, before-level, before-irrefl}
 use Rattle.files.proofs.Ascending.{Accepted}
-
--- ---- digits as they stand
-
-digit : (b : ℕ) → allows 57 b ≡ true → b ≡ (b - 48) + 48
-digit b e = let r = digit-range b e in omega arith
-
-pair-read : (t : List ℕ) → allowed (digits 2) t ≡ true → 10 * getD t 0 0 + getD t 1 0 ≡ readDecimal (take 2 t) + 528
-unfolding allowed readDecimal digitsAfter
-pair-read [] e = absurd (false≢true e)
-pair-read (a ∷ []) e = absurd (false≢true (both (allows 57 a) false e .1))
-pair-read (a ∷ b ∷ t) e =
-    let p = both (allows 57 a) (allowed (digits 1) (b ∷ t)) e in
-    let q = both (allows 57 b) true (p .1) in
-    omega (arith, digit a (p .0), digit b (q .0))
-
-five-read : (t : List ℕ) → allowed (digits 5) t ≡ true
-    → 1000 * (10 * getD t 0 0 + getD t 1 0) + 10 * (10 * getD t 2 0 + getD t 3 0) + getD t 4 0 ≡ readDecimal (take 5 t) + 533328
-unfolding allowed readDecimal digitsAfter
-five-read [] e = absurd (false≢true e)
-five-read (a ∷ []) e = absurd (false≢true (both (allows 57 a) false e .1))
-five-read (a ∷ b ∷ []) e = absurd (false≢true (both (allows 57 b) false (both (allows 57 a) _ e .1) .1))
-five-read (a ∷ b ∷ c ∷ []) e =
-    absurd (false≢true (both (allows 57 c) false (both (allows 57 b) _ (both (allows 57 a) _ e .1) .1) .1))
-five-read (a ∷ b ∷ c ∷ d ∷ []) e =
-    absurd (false≢true (both (allows 57 d) false (both (allows 57 c) _ (both (allows 57 b) _ (both (allows 57 a) _ e .1) .1) .1) .1))
-five-read (a ∷ b ∷ c ∷ d ∷ f ∷ t) e =
-    let p = both (allows 57 a) _ e in
-    let q = both (allows 57 b) _ (p .1) in
-    let r = both (allows 57 c) _ (q .1) in
-    let s = both (allows 57 d) _ (r .1) in
-    let u = both (allows 57 f) true (s .1) in
-    omega (arith, digit a (p .0), digit b (q .0), digit c (r .0), digit d (s .0), digit f (u .0))
+use Rattle.files.proofs.Digits.{rawAfter, excess, row, columns, digits-raw}
 
 -- the letter is that of a constellation
 letter-bound : (b : ℕ) → letterFits b ≡ true → b < 256
@@ -114,51 +76,39 @@ value-before m s c t m′ s′ c′ t′ i j =
 -- ---- an accepted line
 
 module _ (x : List ℕ) (e : Accepted x) where
-  read-zero : readNumber (columnsOf x) ≡ 0
-  unfolding lineNumber
-  read-zero = then-zero _ _ e .0
-
-  columns : Columns (columnsOf x)
-  columns = columns-of (columnsOf x) (accepted (columnsOf x) read-zero .0 .columns)
-
-  at : (i : ℕ) → T (ltb i 113) → getD x i 0 ≡ getD (columnsOf x) i 0
-  at i h = sym (getD-take 113 x i 0 (lit< h))
-
-  within : (p i : ℕ) → T (ltb (p + i) 113) → getD x (p + i) 0 ≡ getD (drop p (columnsOf x)) i 0
-  within p i h = at (p + i) h ∙ sym (getD-drop p (columnsOf x) i 0)
+  letter-is-first : getD x 0 0 ≡ getD (columnsOf x) 0 0
+  letter-is-first = sym (getD-take 113 x 0 0 (lit< tt))
 
   mjd-is : 1000 * pairAt 7 x + 10 * pairAt 9 x + getD x 11 0 ≡ readDecimal (field 8 12 (columnsOf x)) + 533328
-  unfolding field
-  mjd-is =
-      (λ i. 1000 * (10 * within 7 0 tt i + within 7 1 tt i) + 10 * (10 * within 7 2 tt i + within 7 3 tt i) + within 7 4 tt i)
-      ∙ five-read (drop 7 (columnsOf x)) (columns .mjd .holds)
-
-  pair-is : (p : ℕ) → T (ltb (p + 0) 113) → T (ltb (p + 1) 113) → allowed (digits 2) (drop p (columnsOf x)) ≡ true
-      → 10 * getD x (p + 0) 0 + getD x (p + 1) 0 ≡ readDecimal (take 2 (drop p (columnsOf x))) + 528
-  pair-is p h k a = (λ i. 10 * within p 0 h i + within p 1 k i) ∙ pair-read (drop p (columnsOf x)) a
+  unfolding field rawAfter excess row
+  mjd-is = omega (arith, digits-raw x e 5 7 (lit≤ tt) (columns x e .mjd .holds))
 
   start-is : 3600 * pairAt 13 x + 60 * pairAt 15 x + pairAt 17 x ≡ readLabels (columnsOf x) .start + 1933008
-  unfolding readLabels field
+  unfolding readLabels field rawAfter excess row
   start-is =
       omega (
         arith,
-        pair-is 13 tt tt (columns .hour .holds),
-        pair-is 15 tt tt (columns .minute .holds),
-        pair-is 17 tt tt (columns .second .holds),
+        digits-raw x e 2 13 (lit≤ tt) (columns x e .hour .holds),
+        digits-raw x e 2 15 (lit≤ tt) (columns x e .minute .holds),
+        digits-raw x e 2 17 (lit≤ tt) (columns x e .second .holds),
       )
+
+  satellite-is : pairAt 1 x ≡ readDecimal (field 2 3 (columnsOf x)) + 528
+  unfolding field rawAfter excess row
+  satellite-is = omega (arith, digits-raw x e 2 1 (lit≤ tt) (columns x e .satellite .holds))
 
   rank-is : rank x ≡ value (readLabels (columnsOf x) .mjd) (readLabels (columnsOf x) .start) (readLabels (columnsOf x) .constellation) (readLabels (columnsOf x) .satellite)
   unfolding rank readLabels byteIn field
   rank-is =
-      λ i. ((mjd-is i * 4000000 + start-is i) * 256 + at 0 tt i) * 1000 + pair-is 1 tt tt (columns .satellite .holds) i
+      λ i. ((mjd-is i * 4000000 + start-is i) * 256 + letter-is-first i) * 1000 + satellite-is i
 
   inside : Inside (readLabels (columnsOf x) .start) (readLabels (columnsOf x) .constellation) (readLabels (columnsOf x) .satellite)
   unfolding readLabels byteIn
   inside =
       record {
-        start = omega (arith, field-bound (columns .hour), field-bound (columns .minute), field-bound (columns .second));
-        letter = letter-bound _ (sym (letter-is _) ∙ holds-at 1 (76 ∷ []) (columnsOf x) (columns .letter) 0 (lit< tt));
-        satellite = field-bound (columns .satellite);
+        start = omega (arith, field-bound (columns x e .hour), field-bound (columns x e .minute), field-bound (columns x e .second));
+        letter = letter-bound _ (sym (letter-is _) ∙ holds-at 1 (76 ∷ []) (columnsOf x) (columns x e .letter) 0 (lit< tt));
+        satellite = field-bound (columns x e .satellite);
       }
 
 pub rank-before : (x y : List ℕ) → Accepted x → Accepted y → before (keys x) (keys y) ≡ ltb (rank x) (rank y)

@@ -2,17 +2,16 @@
 -- Assumes nothing.
 use mathlib.Core.Path.{_≡_, refl, sym, ap, ap₂, subst, _∙_}
 use mathlib.Core.Bool.{Bool, true, false, cond, true≢false}
-use mathlib.Core.List.{List, [], _∷_, _++_, append-nil}
+use mathlib.Core.List.{List, [], _∷_, _++_}
 use Prim.Native.Nat.{ℕ, _<_}
 use native.Mathlib.Nat.{le-of-eq, le-of-lt, le-antisymm}
 use native.Mathlib.Omega.{arith}
 use lib.Dec.{ltb, leb, eqb}
-use lib.ListN.{length, drop, getD}
-use lib.Seq.{drop-cons, drop-drop}
+use lib.ListN.{drop}
 use borrow.Author.Tests.{ltb-true, ltb-false, le-leb, lt-leb, eq-eqb, ne-eqb}
 use Rattle.files.specs.Files.{same, keys, before}
-use Rattle.files.specs.Merge.{partnersOf, partners, anyDiffer, inserted, merged}
-use Rattle.files.proofs.Keys.{Order, below, level, above, order, before-asym, before-apart, before-trans}
+use Rattle.files.specs.Merge.{partnersOf, partners, inserted, merged}
+use Rattle.files.proofs.Keys.{Order, below, level, above, order, before-asym, before-apart}
 use Rattle.files.proofs.Ascending.{Ascending, All, Behind, all-map, ascending-from, all-behind}
 
 -- ---- a line among others

@@ -3,19 +3,19 @@
 use mathlib.Core.Path.{_≡_, refl, sym, ap, ap₂, subst, _∙_}
 use mathlib.Core.Bool.{Bool, true, false, cond, not, _&&_, _||_, or-false, or-assoc}
 use mathlib.Core.List.{List, [], _∷_, _++_, append-assoc, append-nil}
-use Prim.Native.Nat.{ℕ, zero, suc, _+_, _-_, _*_, _/_, _≤_, _<_}
+use Prim.Native.Nat.{ℕ, suc, _+_, _-_, _*_, _/_, _≤_, _<_}
 use native.Mathlib.Omega.{arith}
 use lib.Dec.{ltb, leb, eqb}
 use lib.ListN.{length, drop, getD, length-append, length-drop, drop-of-length-le}
 use lib.Seq.{drop-cons, drop-drop}
-use borrow.Author.Tests.{ltb-true, ltb-false, leb-true, leb-false}
+use borrow.Author.Tests.{ltb-false, leb-false}
 use Rattle.columns.specs.Placed.{placed}
 use Rattle.files.specs.declared.walk.Next.{Next}
-use Rattle.files.specs.Files.{endedLength, lines, same, keys, before}
+use Rattle.files.specs.Files.{endedLength, lines, same}
 use Rattle.files.specs.Merge.{partners, anyDiffer, merged, joined, mergedFile}
 use Rattle.files.specs.Walk.{rank, Stepped}
 use Rattle.files.proofs.Ascending.{Ascending, All, Accepted, all-drop, ascending-drop}
-use Rattle.files.proofs.Steps.{Passed, passed, all-merged, merged-nothing, partners-nothing}
+use Rattle.files.proofs.Steps.{passed, all-merged, merged-nothing, partners-nothing}
 use Rattle.files.proofs.Lines.{Long, LineFile, length-lines, lines-long, length-joined, rest-lines}
 use Rattle.files.proofs.Ranks.{rank-before}
 use Rattle.files.proofs.Written.{Written, room, more-written}

@@ -1,6 +1,6 @@
 -- `files::judge::line_refusal` meets its contract: the case of the reading tells whether the end is looked at.
 -- Assumes nothing.
-use mathlib.Core.Path.{_≡_, sym, ap, _∙_}
+use mathlib.Core.Path.{sym, ap, _∙_}
 use native.Mathlib.Omega.{arith}
 use lib.Seq.{length-take-le}
 use Rattle.reader.specs.declared.Reading.{Reading}

@@ -6,7 +6,6 @@ use native.Mathlib.Omega.{arith}
 use mathlib.Core.List.{_++_}
 use lib.ListN.{length, drop, length-append, length-drop}
 use Rattle.columns.specs.Placed.{placed}
-use borrow.Author.Needs.{needs}
 use borrow.Author.Tests.{ltb-true}
 use Rattle.reader.proofs.Allowed.{both}
 use Rattle.files.specs.Files.{endedLength, lines}
