@@ -67,10 +67,10 @@ int64_t measurement_at(const uint8_t *block, size_t i);
 int64_t correction_at(const uint8_t *block, size_t j, size_t in_group);
 
 /*
- * check.c: the hint for a text that was not packed, and whether it is one. labels.c, limits.c, figures.c, starts.c: each explains
- * what a block is refused for.
+ * check.c: what is wrong with the bytes as a whole, and whether they look like a text that was not packed. labels.c, limits.c,
+ * figures.c, starts.c: each explains what a block is refused for.
  */
-int explain_text(const struct bytes *block);
+int explain_bytes(const struct bytes *block, uint32_t number);
 void explain_labels(const uint8_t *block);
 void explain_limits(const uint8_t *block);
 void explain_figures(const uint8_t *block, uint32_t number);

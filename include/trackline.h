@@ -27,7 +27,8 @@ extern "C" {
  * there are. Numbers of eight bytes are ps, signed, two's complement; the others are unsigned.
  *
  * A track has n blocks of 15 seconds, n from 4 to 52: 15 n one-second measurements and n groups of five corrections. The
- * block's two sizes are 15 n and n, and it is as long as they make it. The names without OF are for a full track.
+ * block's two sizes are 15 n and n, and it is as long as they make it. The measurements follow second by second from the
+ * start on, without a gap. The names without OF are for a full track.
  */
 #define TRACKLINE_LEAST_GROUPS 4
 #define TRACKLINE_GROUPS 52
@@ -122,7 +123,7 @@ uint32_t trackline_block(const uint8_t *block, size_t block_len, uint8_t *line, 
  * constellation is the letter G, R, E, C or J; satellite is 1 to 99; cl, the class, is any byte; fr, the GLONASS channel,
  * is 1 to 24 for R and 0 for the others; hc, the receiver channel, is 0 to 99; frc1 to frc3, the observation code, are
  * each A to Z or 0 to 9; mjd is 50722 to 99999; start is a second of the day; elv, 0 to 900, and azth, 0 to 3599, are in
- * 0.1 degree; ioe is 1 to 96 for R, 0 to 23 for C, 0 to 255 for G and J, 0 to 999 for E. refsv, refsys, mdtr, mdio and
+ * 0.1 degree and of the middle of the track; ioe is 1 to 96 for R, 0 to 23 for C, 0 to 255 for G and J, 0 to 999 for E. refsv, refsys, mdtr, mdio and
  * dsg are in 0.1 ns; srsv, srsys, smdt and smdi in 0.1 ps/s; trkl, the track length, is 15 n seconds, n from 4 to 52.
  */
 uint32_t trackline_line(uint8_t constellation, uint8_t satellite, uint8_t cl, uint8_t fr, uint8_t hc,

@@ -45,7 +45,7 @@ keysOf l = l .mjd ∷ l .start ∷ l .constellation ∷ l .satellite ∷ []
 unfoldable pub keys : List ℕ → List ℕ
 keys line = keysOf (readLabels (columnsOf line))
 
--- Keys stand before others by the first in which they differ. No keys at all stand before any.
+-- Keys stand before others by the first in which they differ. No keys at all stand before any, so that the first line of a file follows.
 unfoldable pub before : List ℕ → List ℕ → Bool
 before [] [] = false
 before [] (b ∷ bs) = true

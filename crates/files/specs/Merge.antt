@@ -24,7 +24,8 @@ unfoldable pub anyDiffer : List (List ℕ × List ℕ) → Bool
 anyDiffer [] = false
 anyDiffer ((line, other) ∷ pairs) = not (same line other) || anyDiffer pairs
 
--- A line put among ascending ones, at the place that its keys give it. One that has these keys already is replaced.
+-- A line put among ascending ones, at the place that its keys give it. One that has these keys already is replaced: where 15 is not answered, the
+-- two are the same line.
 unfoldable pub inserted : (line : List ℕ) → List (List ℕ) → List (List ℕ)
 inserted line [] = line ∷ []
 inserted line (other ∷ others) =

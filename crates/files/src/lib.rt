@@ -1,6 +1,6 @@
 // Line files: lines of 115 bytes, each 113 columns and a line end, that ascend strictly by MJD, start, constellation letter and satellite
 // number. Two of them become one. A file is refused by the numbers and in the order of document 02, Job 5; the first file before the
-// second, then 15 for two lines of the same keys that differ, then 17 for a lent file that is too short. Nothing is written before all
+// second, then 15 for two lines of the same keys that differ, then 17 for a lent file that is too short. Nothing is written before all of
 // that is accepted, and nothing behind the result.
 ghost use mathlib.Core.Path.{_≡_};
 ghost use lib.ListN.{length};
