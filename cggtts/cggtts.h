@@ -33,6 +33,7 @@ int write_file(const char *name, const struct bytes *bytes);
 int append_bytes(struct bytes *bytes, const void *more, size_t length);
 int looks_like_text(const struct bytes *bytes);
 int same_file(const char *one, const char *other);
+int is_standard_output(const char *name);
 void free_bytes(struct bytes *bytes);
 
 /* output.c: standard output, and what goes wrong with it, which is told once, at the end. */

@@ -108,6 +108,15 @@ int same_file(const char *one, const char *other)
     return stat(one, &a) == 0 && stat(other, &b) == 0 && a.st_dev == b.st_dev && a.st_ino == b.st_ino;
 }
 
+/* Whether a file to be read, by its name or as standard input, is the one that standard output goes to. */
+int is_standard_output(const char *name)
+{
+    struct stat in, out;
+    int stands = strcmp(name, "-") == 0 ? fstat(STDIN_FILENO, &in) == 0 : stat(name, &in) == 0;
+    return stands && fstat(STDOUT_FILENO, &out) == 0 && S_ISREG(out.st_mode) && in.st_dev == out.st_dev
+        && in.st_ino == out.st_ino;
+}
+
 /* Writes all of it and closes the file, whatever happens. */
 static int write_all(int file, const struct bytes *bytes)
 {

@@ -87,10 +87,52 @@ static void explain_end(const uint8_t *end)
             end[1] == ' ' ? "a blank" : shown(end[1], second));
 }
 
-/* The form's name, with which the header of a published file begins. */
+static int begins_with(const struct bytes *file, const char *word)
+{
+    return file->length >= strlen(word) && memcmp(file->at, word, strlen(word)) == 0;
+}
+
+/* The form's name, with which the header of a published file begins, or the name of the first column. */
 static int begins_with_header(const struct bytes *file)
 {
-    return file->length >= 6 && (memcmp(file->at, "CGGTTS", 6) == 0 || memcmp(file->at, "GGTTS", 5) == 0);
+    return begins_with(file, "CGGTTS") || begins_with(file, "GGTTS") || begins_with(file, "SAT");
+}
+
+/* The first column in which two lines differ, counted from 1, or 0 if they are the same. */
+static size_t column_of_difference(const uint8_t *line, const uint8_t *other)
+{
+    for (size_t column = 1; column <= TRACKLINE_LINE_BYTES; column++) {
+        if (line[column - 1] != other[column - 1]) {
+            return column;
+        }
+    }
+    return 0;
+}
+
+/* The name of the field that a column stands in. */
+static const char *name_at(size_t column)
+{
+    const struct field *field = FIELD;
+    while (field->last < column) {
+        field++;
+    }
+    return field->name;
+}
+
+/* 16: the keys of the line and of the line before it, which may be the same, as the whole line may. */
+static void explain_order(const uint8_t *line, const uint8_t *before)
+{
+    char keys[40], keys_before[40];
+    size_t column = column_of_difference(line, before);
+    keys_of(line, keys, sizeof keys);
+    keys_of(before, keys_before, sizeof keys_before);
+    if (column == 0) {
+        explain("it has %s, and is the line before it once more", keys);
+    } else if (strcmp(keys, keys_before) == 0) {
+        explain("it has %s as the line before it has, and is another from column %zu on (%s)", keys, column, name_at(column));
+    } else {
+        explain("it has %s, and the line before it %s", keys, keys_before);
+    }
 }
 
 /* What a line of one file is refused for. */
@@ -98,16 +140,14 @@ static void explain_file(const struct bytes *file, size_t number, uint32_t answe
 {
     const uint8_t *line = line_at(file, number);
     int64_t values[TRACKLINE_VALUES];
-    char keys[40], keys_before[40];
-    if (answer == TRACKLINE_LINE_LENGTH) {
+    if (begins_with_header(file)) {
+        explain("the file begins with a header, and a line file has data lines alone");
+    } else if (answer == TRACKLINE_LINE_LENGTH) {
         size_t tail = file->length - TRACKLINE_FILE_LINE_BYTES * (number - 1);
         explain("it has %zu byte%s, and a line of a file has %d with its line end", tail, tail == 1 ? "" : "s",
                 TRACKLINE_FILE_LINE_BYTES);
     } else if (answer == TRACKLINE_ORDER) {
-        explain("it has %s, and the line before it %s", keys_of(line, keys, sizeof keys),
-                keys_of(line_at(file, number - 1), keys_before, sizeof keys_before));
-    } else if (begins_with_header(file)) {
-        explain("the file begins with a header, and a line file has data lines alone");
+        explain_order(line, line_at(file, number - 1));
     } else if (trackline_read(line, TRACKLINE_LINE_BYTES, values, TRACKLINE_VALUES) == TRACKLINE_ACCEPTED) {
         explain_end(line + TRACKLINE_LINE_BYTES);
     } else {
@@ -122,18 +162,11 @@ static void report_two_lines(const struct file *first, const struct file *second
     struct bytes part = head(&first->bytes, number);
     size_t other_number = blamed_line(&second->bytes, &part);
     const uint8_t *line = line_at(&first->bytes, number), *other = line_at(&second->bytes, other_number);
-    const struct field *field = FIELD;
-    size_t column = 1;
+    size_t column = column_of_difference(line, other);
     char keys[40];
-    while (column < TRACKLINE_LINE_BYTES && line[column - 1] == other[column - 1]) {
-        column++;
-    }
-    while (field->last < column) {
-        field++;
-    }
     report_line(first, number, TRACKLINE_DIFFER);
     explain("%s:%zu has %s too, and is another from column %zu on (%s)", second->name, other_number,
-            keys_of(line, keys, sizeof keys), column, field->name);
+            keys_of(line, keys, sizeof keys), column, name_at(column));
 }
 
 static void report_files(const struct file *first, const struct file *second, uint32_t answer)
@@ -181,6 +214,16 @@ static int merge_files(struct file *first, struct file *second, const char *outp
     return status;
 }
 
+/* A file that standard output goes to was emptied by the shell, or would grow while it is read. */
+static int complain_of_output(const char *name)
+{
+    char reason[4200];
+    snprintf(reason, sizeof reason, "is also standard output; use -o%s%s", strcmp(name, "-") == 0 ? "" : " ",
+             strcmp(name, "-") == 0 ? "" : name);
+    complain(name, reason);
+    return FAILED;
+}
+
 int merge_command(int argc, char **argv)
 {
     struct arguments given;
@@ -189,6 +232,11 @@ int merge_command(int argc, char **argv)
     }
     if (given.count != 2) {
         return wrong_use("merge: two files are needed, not %d", given.count);
+    }
+    for (int i = 0; i < given.count; i++) {
+        if (is_standard_output(given.names[i])) {
+            return complain_of_output(given.names[i]);
+        }
     }
     struct file first = {given.names[0], NOTHING}, second = {given.names[1], NOTHING};
     return merge_files(&first, &second, given.output != NULL ? given.output : "-");

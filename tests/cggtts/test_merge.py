@@ -15,7 +15,7 @@ import subprocess
 import time
 import unittest
 
-from test_cggtts import MEANINGS, ROOT, SAMPLE_COLUMNS, SIGNAL_IN_WRITE, Scratch, line_with, run
+from test_cggtts import MEANINGS, PROGRAM, ROOT, SAMPLE_COLUMNS, SIGNAL_IN_WRITE, Scratch, line_with, run
 
 FIRST, SECOND, WEEK = ('examples/%s.cggtts' % name for name in ('first', 'second', 'week'))
 
@@ -129,6 +129,27 @@ class ToFile(Scratch):
         self.assertEqual((one.read_bytes(), other.read_bytes(), out.read_bytes()), (A + C, B + A, b'as it was'))
         self.assertEqual(sorted(os.listdir(self.folder)), ['one', 'other', 'out'])
 
+    def test_standard_output_is_one_of_the_files(self):
+        one, other, third, link = self.kept('one', A), self.kept('other', B), self.kept('third', C), self.folder / 'link'
+        link.symlink_to('one')
+        told = 'cggtts: %s: is also standard output; use -o %s\n'
+        for files, name in (((one, other), one), ((other, one), one), ((link, other), link), ((one, one), one),
+                            ((one, other, '-o', '-'), one), ((one, other, '-o', '/dev/stdout'), one),
+                            ((one, other, '-o', third), one)):
+            with one.open('ab') as behind:
+                self.assertEqual(run('merge', *files, stdout=behind), (2, None, told % (name, name)))
+            self.assertEqual([file.read_bytes() for file in (one, other, third)], [A, B, C])
+        with one.open('rb') as read, one.open('ab') as behind:
+            done = subprocess.run([PROGRAM, 'merge', '-', other], stdin=read, stdout=behind, stderr=subprocess.PIPE)
+        self.assertEqual((done.returncode, done.stderr), (2, b'cggtts: -: is also standard output; use -o\n'))
+        self.assertEqual(one.read_bytes(), A)
+        with one.open('wb') as emptied:
+            self.assertEqual(run('merge', one, other, stdout=emptied), (2, None, told % (one, one)))
+        self.assertEqual(one.read_bytes(), b'')
+        with third.open('wb') as out:
+            self.assertEqual(run('merge', one, other, stdout=out), (0, None, ''))
+        self.assertEqual(third.read_bytes(), B)
+
     def test_a_signal_leaves_the_file_whole(self):
         shim, one, other = self.folder / 'shim.so', self.kept('one', A + C), self.kept('other', B)
         subprocess.run([os.environ.get('CC', 'cc'), '-shared', '-fPIC', '-xc', '-', '-o', shim], input=SIGNAL_IN_WRITE,
@@ -144,6 +165,8 @@ class Use(Scratch):
         for files in ((), ('one',), ('one', 'other', 'third')):
             reason = 'no file' if not files else 'two files are needed, not %d' % len(files)
             self.assertEqual(run('merge', *files), (2, b'', 'cggtts: merge: %s; try cggtts --help\n' % reason))
+        for twice in (('-o', 'out', 'one', 'other', '-o', 'out'), ('-oa', '-ob', 'one', 'other'), ('-oa', 'one', 'other', '-o')):
+            self.assertEqual(run('merge', *twice), (2, b'', 'cggtts: merge: -o twice; try cggtts --help\n'))
         self.assertEqual(run('merge', 'one', 'other', '-o'), (2, b'', 'cggtts: merge: -o without a file; try cggtts --help\n'))
 
     def test_help(self):
@@ -198,7 +221,13 @@ class Refused(Scratch):
         told = 'it has MJD %s, start %s, %s, and the line before it MJD %s, start %s, %s'
         self.refused(16, 'first:2', B + A, b'', told % ('50722', '000200', 'C99', '50722', '000200', 'G01'))
         self.refused(16, 'second:4', F, A + B + E + D + F, told % ('50722', '001800', 'E01', '50723', '001400', 'C01'))
-        self.refused(16, 'second:7', A, b''.join(LINES) + F, told % ('50723', '001400', 'R01', '50723', '001400', 'R01'))
+
+    def test_the_same_keys(self):
+        self.refused(16, 'second:7', A, b''.join(LINES) + F,
+                     'it has MJD 50723, start 001400, R01, and is the line before it once more')
+        told = 'it has MJD 50722, start 001800, E01 as the line before it has, and is another from column %d on (%s)'
+        for change, column, name in (((5, 'FE'), 6, 'CL'), ((35, '+0000000011'), 45, 'REFSV'), ((108, 'L1P'), 110, 'FRC')):
+            self.refused(16, 'first:3', A + D + ended(50722, '001800', 'E01', [change]) + F, b'', told % (column, name))
 
     def test_tails(self):
         for length in (1, 47, 113, 114):
@@ -224,8 +253,13 @@ class Refused(Scratch):
         self.refused(15, 'first:5', A + B + C + D + E + F, A + D + two, told % (3, '50723', '001400', 'C01', 110, 'FRC'))
 
     def test_a_header(self):
+        told = 'the file begins with a header, and a line file has data lines alone'
+        for head in (b'CGGTTS     GENERIC DATA FORMAT VERSION = 2E\r\n', b'CGGTTS', b'GGTTS', b'SAT CL  MJD  STTIME\r\n', b'SAT'):
+            self.refused(12, 'first:1', head, b'', told)
+        self.refused(14, 'second:1', A, b'SAT CL  MJD  STTIME TRKL\r\n' + A + B, told)
+        self.refused(12, 'first:1', b'SA', b'', 'it has 2 bytes, and a line of a file has 115 with its line end')
         for head in (b'CGGTTS     GENERIC DATA FORMAT VERSION = 2E\r\nREV DATE = 2014-02-20\r\n', b'GGTTS GPS DATA FORMAT VERSION = 01\r\n'):
-            self.refused(14, 'first:1', head + A + B, b'', 'the file begins with a header, and a line file has data lines alone')
+            self.refused(14, 'first:1', head + A + B, b'', told)
 
     def test_line_feeds_alone(self):
         self.refused(13, 'first:1', (A + B).replace(b'\r', b''), b'',
@@ -238,8 +272,7 @@ class Refused(Scratch):
                  for satellite in ('G%02d' % number for number in range(1, 16))]
         self.assertGreater(len(lines), 40000)
         begun = time.monotonic()
-        told = 'it has MJD 51110, start %s, G15, and the line before it MJD 51110, start %s, G15' % (
-            (lines[-1][13:19].decode(),) * 2)
+        told = 'it has MJD 51110, start %s, G15, and is the line before it once more' % lines[-1][13:19].decode()
         self.refused(16, 'second:%d' % (len(lines) + 1), b''.join(lines), b''.join(lines) + lines[-1], told)
         self.assertLess(time.monotonic() - begun, 30)
 
