@@ -44,7 +44,7 @@ PROGRAM_SOURCES := $(shell find crates -name must-fail -prune -o -path 'crates/t
 PROGRAMS := $(PROGRAM) $(CGGTTS) tools/hireblock
 PAGES := $(wildcard man/*.[1-8])
 DOCUMENTS := docs/REFUSALS.md docs/HIRE-BLOCK.md
-EXAMPLES := examples/receiver.c examples/sample.txt examples/sample.blk examples/short.txt examples/short.blk examples/first.cggtts examples/second.cggtts
+EXAMPLES := examples/receiver.c examples/sample.txt examples/sample.blk examples/short.txt examples/short.blk examples/first.cggtts examples/second.cggtts examples/week.cggtts
 INSTALLS := $(addprefix bin/,$(notdir $(PROGRAMS))) include/trackline.h lib/libtrackline.a lib/$(SONAME) \
 	lib/libtrackline.so lib/pkgconfig/trackline.pc \
 	$(foreach page,$(PAGES),share/man/man$(subst .,,$(suffix $(page)))/$(notdir $(page))) \

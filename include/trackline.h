@@ -4,9 +4,9 @@
  *
  * Each function but trackline_comment answers 0 when it accepts and the number of its refusal otherwise. A slice is a
  * pointer and a length; NULL with length 0 is an empty slice. A function that accepts writes the first 113 bytes of the
- * lent line, with no byte of zero after them, the first 23 of the lent values, or the lent file as far as it goes; one
- * that refuses writes nothing. The slices of a call must not overlap. Nothing is kept between calls, so that threads may
- * call at once on lines of their own.
+ * lent line, with no byte of zero after them, the first 23 of the lent values, or the first *written bytes of
+ * the lent file; one that refuses writes nothing. What is written to must not overlap anything else of the call. Nothing is
+ * kept between calls, so that threads may call at once on lines of their own.
  */
 #ifndef TRACKLINE_H
 #define TRACKLINE_H
@@ -85,23 +85,23 @@ extern "C" {
  * below the folder of the installation says what to do about each. 10 does not arise, as the other limits leave no room
  * for it.
  */
-#define TRACKLINE_REFUSALS(X)                                                                             \
-    X(1, TRACKLINE_COUNT, "the block's two sizes are not 15 n and n, n from 4 to 52")                     \
-    X(2, TRACKLINE_LIMIT, "a measurement, a correction or a delay is beyond its limit")                   \
-    X(3, TRACKLINE_MIDPOINT, "REFSV or REFSYS has more than ten digits")                                  \
-    X(4, TRACKLINE_SLOPE, "SRSV or SRSYS has more than five digits, or SMDT or SMDI more than three")     \
-    X(5, TRACKLINE_DELAY, "MDTR or MDIO is below 0 or has more than four digits")                         \
-    X(6, TRACKLINE_SCATTER, "DSG is below 0 or has more than four digits")                                \
-    X(7, TRACKLINE_LABEL, "a label is out of its range, or the track length is not 15 n, n from 4 to 52") \
-    X(8, TRACKLINE_START, "no track of that day starts at that second")                                   \
-    X(9, TRACKLINE_LENT, "the lent line is under 113 bytes, or fewer than 23 values are lent")            \
-    X(10, TRACKLINE_CORRECTED, "a corrected value is beyond its limit")                                   \
-    X(11, TRACKLINE_LENGTH, "the block is under 4 bytes or not as long as its sizes make it")             \
-    X(12, TRACKLINE_LINE_LENGTH, "the line is not 113 to 140 bytes long, or a file's last line is cut")   \
-    X(13, TRACKLINE_CHARACTER, "a character is not allowed in its column or line end")                    \
-    X(14, TRACKLINE_CHECKSUM, "CK is not the two capital digits of the sum of the columns before it")     \
-    X(15, TRACKLINE_DIFFER, "two lines have the same MJD, start, letter and satellite, and differ")       \
-    X(16, TRACKLINE_ORDER, "the lines do not ascend by MJD, start, letter and satellite")                 \
+#define TRACKLINE_REFUSALS(X)                                                                                 \
+    X(1, TRACKLINE_COUNT, "the block's two sizes are not 15 n and n, n from 4 to 52")                         \
+    X(2, TRACKLINE_LIMIT, "a measurement, a correction or a delay is beyond its limit")                       \
+    X(3, TRACKLINE_MIDPOINT, "REFSV or REFSYS has more than ten digits")                                      \
+    X(4, TRACKLINE_SLOPE, "SRSV or SRSYS has more than five digits, or SMDT or SMDI more than three")         \
+    X(5, TRACKLINE_DELAY, "MDTR or MDIO is below 0 or has more than four digits")                             \
+    X(6, TRACKLINE_SCATTER, "DSG is below 0 or has more than four digits")                                    \
+    X(7, TRACKLINE_LABEL, "a label is out of its range, or the track length is not 15 n, n from 4 to 52")     \
+    X(8, TRACKLINE_START, "no track of that day starts at that second")                                       \
+    X(9, TRACKLINE_LENT, "the lent line is under 113 bytes, or fewer than 23 values are lent")                \
+    X(10, TRACKLINE_CORRECTED, "a corrected value is beyond its limit")                                       \
+    X(11, TRACKLINE_LENGTH, "the block is under 4 bytes or not as long as its sizes make it")                 \
+    X(12, TRACKLINE_LINE_LENGTH, "the line is not 113 to 140 bytes long, or a file's last line is under 115") \
+    X(13, TRACKLINE_CHARACTER, "a character is not allowed in its column or line end")                        \
+    X(14, TRACKLINE_CHECKSUM, "CK is not the two capital digits of the sum of the columns before it")         \
+    X(15, TRACKLINE_DIFFER, "two lines have the same MJD, start, letter and satellite, and differ")           \
+    X(16, TRACKLINE_ORDER, "the lines do not ascend by MJD, start, letter and satellite")                     \
     X(17, TRACKLINE_ROOM, "the lent file is shorter than the result")
 
 #define TRACKLINE_NUMBER(number, name, text) name = number,
@@ -194,7 +194,10 @@ size_t trackline_comment(const uint8_t *line, size_t line_len);
  * Tried in this order: the first file, then the second, then 15, then 17. In a file the earliest line decides, by 12, 14,
  * 13, 7, 8, 13, 16: 12 is a last line of under 115 bytes; the second 13 a line end other than carriage return and line
  * feed; 16 keys that are not above those of the line before it. 15: two lines, one of each file, have the same keys and
- * differ. 17: the lent file is shorter than the result. A refusal leaves *written too as it was; written is never NULL.
+ * differ. 17: the lent file is shorter than the result. A refusal leaves *written too as it was.
+ *
+ * The number does not tell which file it is of: hand each over alone, with NULL and 0 for the other and for the lent file;
+ * 0 or 17 then says that it is a line file. first and second may be the same; written must not be NULL.
  */
 uint32_t trackline_merge(const uint8_t *first, size_t first_len, const uint8_t *second, size_t second_len,
                          uint8_t *file, size_t file_len, size_t *written);

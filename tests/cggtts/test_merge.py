@@ -60,6 +60,18 @@ class Merged(Scratch):
         subprocess.run(['/bin/sh', '-c', command], cwd=self.folder, check=True)
         self.assertEqual((self.folder / 'SORTED').read_bytes(), (ROOT / WEEK).read_bytes())
 
+    def test_the_card_s_way_to_a_line_file(self):
+        """The command that docs/REFUSALS.md gives for a file with a header, with comments or with other line ends."""
+        command = re.search(r'(?m)^    (LC_ALL=C grep .* > LINES)$', (ROOT / 'docs' / 'REFUSALS.md').read_text()).group(1)
+        head = [b'CGGTTS     GENERIC DATA FORMAT VERSION = 2E', b'REV DATE = 2014-02-20', b'RCVR = R\xe9cepteur', b'CH = 12',
+                b'CAB DLY = 100.0 ns', b'COMMENTS = G05', b'CKSUM = 3B', b'', b'SAT CL  MJD  STTIME TRKL', b'             hhmmss  s']
+        for comment in (b'', b' ', b' caf\xe9', b' G05 by hand'):
+            for end in (b'\n', b'\r\n'):
+                self.kept('FILE', b''.join(line + end for line in head + [line[:113] + comment for line in LINES]))
+                subprocess.run(['/bin/sh', '-c', command], cwd=self.folder, check=True)
+                self.assertEqual((self.folder / 'LINES').read_bytes(), b''.join(LINES))
+        self.assertEqual(run('merge', self.folder / 'LINES', '/dev/null'), (0, b''.join(LINES), ''))
+
     def test_files(self):
         for first, second in ((b'', b''), (A, b''), (b'', A), (A, A), (A + C, B + D), (A + F, B + E), (D + E, A + B),
                               (A + B + C, B + C + D), (A + B + C + D, C), (b''.join(LINES), b''.join(LINES))):
