@@ -123,8 +123,9 @@ uint32_t trackline_block(const uint8_t *block, size_t block_len, uint8_t *line, 
  * constellation is the letter G, R, E, C or J; satellite is 1 to 99; cl, the class, is any byte; fr, the GLONASS channel,
  * is 1 to 24 for R and 0 for the others; hc, the receiver channel, is 0 to 99; frc1 to frc3, the observation code, are
  * each A to Z or 0 to 9; mjd is 50722 to 99999; start is a second of the day; elv, 0 to 900, and azth, 0 to 3599, are in
- * 0.1 degree and of the middle of the track; ioe is 1 to 96 for R, 0 to 23 for C, 0 to 255 for G and J, 0 to 999 for E. refsv, refsys, mdtr, mdio and
- * dsg are in 0.1 ns; srsv, srsys, smdt and smdi in 0.1 ps/s; trkl, the track length, is 15 n seconds, n from 4 to 52.
+ * 0.1 degree and of the middle of the track; ioe is 1 to 96 for R, 0 to 23 for C, 0 to 255 for G and J, 0 to 999 for E.
+ * refsv, refsys, mdtr, mdio and dsg are in 0.1 ns; srsv, srsys, smdt and smdi in 0.1 ps/s; trkl, the track length, is 15 n
+ * seconds, n from 4 to 52.
  */
 uint32_t trackline_line(uint8_t constellation, uint8_t satellite, uint8_t cl, uint8_t fr, uint8_t hc,
                         uint8_t frc1, uint8_t frc2, uint8_t frc3,

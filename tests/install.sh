@@ -31,7 +31,16 @@ CGGTTS=$prefix/bin/cggtts python3 tests/cggtts/test_merge.py >"$scratch/log" 2>&
     cat "$scratch/log" >&2
     fail 'the installed cggtts merge'
 }
-(cd "$prefix/share/trackline/examples" && "$prefix/bin/cggtts" merge first.cggtts second.cggtts) | cmp - examples/week.cggtts
+
+# the README's merge, as it is written, among the installed examples
+sed -n 's/^    \$ \(cggtts merge\|cmp\) /\1 /p' README.md >"$scratch/commands"
+[ "$(wc -l <"$scratch/commands")" -eq 2 ] || fail "the README's merge"
+(
+    cd "$prefix/share/trackline/examples"
+    PATH=$prefix/bin:$PATH bash -eu "$scratch/commands"
+    rm merged.cggtts
+) || fail "the README's merge"
+cmp examples/week.cggtts "$prefix/share/trackline/examples/week.cggtts"
 cmp docs/REFUSALS.md "$prefix/share/doc/trackline/REFUSALS.md"
 cmp docs/HIRE-BLOCK.md "$prefix/share/doc/trackline/HIRE-BLOCK.md"
 
