@@ -44,7 +44,7 @@ PROGRAM_SOURCES := $(shell find crates -name must-fail -prune -o -path 'crates/t
 PROGRAMS := $(PROGRAM) $(CGGTTS) tools/hireblock
 PAGES := $(wildcard man/*.[1-8])
 DOCUMENTS := docs/REFUSALS.md docs/HIRE-BLOCK.md
-EXAMPLES := examples/receiver.c examples/sample.txt examples/sample.blk examples/short.txt examples/short.blk
+EXAMPLES := examples/receiver.c examples/sample.txt examples/sample.blk examples/short.txt examples/short.blk examples/first.cggtts examples/second.cggtts examples/week.cggtts
 INSTALLS := $(addprefix bin/,$(notdir $(PROGRAMS))) include/trackline.h lib/libtrackline.a lib/$(SONAME) \
 	lib/libtrackline.so lib/pkgconfig/trackline.pc \
 	$(foreach page,$(PAGES),share/man/man$(subst .,,$(suffix $(page)))/$(notdir $(page))) \
@@ -91,6 +91,8 @@ beside: archive programs cggtts
 	$(CARGO) run --release --manifest-path tests/boundary/Cargo.toml
 	$(CC) $(CFLAGS) $(STRICT) -Iinclude tests/c/boundary_test.c $(ARCHIVE) -o target/boundary_test
 	target/boundary_test
+	$(CC) $(CFLAGS) $(STRICT) -Iinclude tests/c/files_test.c $(ARCHIVE) -o target/files_test
+	target/files_test
 	$(CC) $(CFLAGS) $(STRICT) -Iinclude examples/receiver.c $(ARCHIVE) -o target/receiver
 	target/receiver | cmp - crates/trackline/stdout
 	python3 tests/c/receiver.py target/receiver
@@ -99,11 +101,15 @@ beside: archive programs cggtts
 	python3 tests/layout.py
 	python3 tests/trackline/test_trackline.py
 	python3 tests/cggtts/test_cggtts.py
+	python3 tests/cggtts/test_merge.py
 	tools/hireblock pack examples/sample.txt | cmp - examples/sample.blk
 	tools/worked | cmp - examples/worked.txt
 	tools/hireblock pack examples/worked.txt | cmp - examples/worked.blk
 	tools/worked --short | cmp - examples/short.txt
 	tools/hireblock pack examples/short.txt | cmp - examples/short.blk
+	tools/week first | cmp - examples/first.cggtts
+	tools/week second | cmp - examples/second.cggtts
+	tools/week both | cmp - examples/week.cggtts
 	tools/lastdigit --check docs/LAST-DIGIT.md
 	tools/lastdigit --program target/bin/trackline
 	tools/lastdigit examples/short.blk --program target/bin/trackline

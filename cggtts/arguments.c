@@ -17,6 +17,8 @@ int read_arguments(int argc, char **argv, int allowed, struct arguments *found)
             files_only = 1;
         } else if (!(allowed & WITH_OUTPUT) || word[1] != 'o') {
             return wrong_use("%s: no option '%s'", argv[0], word);
+        } else if (found->output != NULL) {
+            return wrong_use("%s: -o twice", argv[0]);
         } else if (word[2] == '\0' && i + 1 == argc) {
             return wrong_use("%s: -o without a file", argv[0]);
         } else {

@@ -7,7 +7,7 @@
 #ifndef CGGTTS_H
 #define CGGTTS_H
 
-#define _POSIX_C_SOURCE 200809L
+#define _XOPEN_SOURCE 700
 
 #include <stddef.h>
 #include <stdint.h>
@@ -33,6 +33,7 @@ int write_file(const char *name, const struct bytes *bytes);
 int append_bytes(struct bytes *bytes, const void *more, size_t length);
 int looks_like_text(const struct bytes *bytes);
 int same_file(const char *one, const char *other);
+int is_standard_output(const char *name);
 void free_bytes(struct bytes *bytes);
 
 /* output.c: standard output, and what goes wrong with it, which is told once, at the end. */
@@ -67,10 +68,10 @@ int64_t measurement_at(const uint8_t *block, size_t i);
 int64_t correction_at(const uint8_t *block, size_t j, size_t in_group);
 
 /*
- * check.c: the hint for a text that was not packed, and whether it is one. labels.c, limits.c, figures.c, starts.c: each explains
- * what a block is refused for.
+ * check.c: what is wrong with the bytes as a whole, and whether they look like a text that was not packed. labels.c, limits.c,
+ * figures.c, starts.c: each explains what a block is refused for.
  */
-int explain_text(const struct bytes *block);
+int explain_bytes(const struct bytes *block, uint32_t number);
 void explain_labels(const uint8_t *block);
 void explain_limits(const uint8_t *block);
 void explain_figures(const uint8_t *block, uint32_t number);
@@ -94,6 +95,7 @@ void explain_line(const uint8_t *line, size_t length, uint32_t number);
 int line_command(int argc, char **argv);
 int check_command(int argc, char **argv);
 int read_command(int argc, char **argv);
+int merge_command(int argc, char **argv);
 int starts_command(int argc, char **argv);
 
 #endif

@@ -16,18 +16,32 @@ static void explain_sizes(const uint8_t *block)
     }
 }
 
-/* Refusal 11: how many bytes there are, and how many its sizes make. */
+/* Whether the bytes from a place on begin as a block does. */
+static int block_begins_at(const struct bytes *bytes, size_t at)
+{
+    return bytes->length - at >= TRACKLINE_AT_CONSTELLATION
+        && sizes_fit(measurements_of(bytes->at + at), groups_of(bytes->at + at));
+}
+
+/* Refusal 11: how many bytes there are, how many its sizes make, and so how many are missing or too many. */
 static void explain_length(const struct bytes *block)
 {
     explain("it has %zu byte%s", block->length, block->length == 1 ? "" : "s");
-    if (block->length >= TRACKLINE_AT_CONSTELLATION) {
-        size_t measurements = measurements_of(block->at), groups = groups_of(block->at);
-        explain("its sizes, %zu and %zu, make %zu", measurements, groups, TRACKLINE_BLOCK_BYTES_OF(groups));
+    if (block->length < TRACKLINE_AT_CONSTELLATION) {
+        return;
+    }
+    size_t measurements = measurements_of(block->at), groups = groups_of(block->at);
+    size_t makes = TRACKLINE_BLOCK_BYTES_OF(groups);
+    if (block->length < makes) {
+        explain("its sizes, %zu and %zu, make %zu: %zu missing", measurements, groups, makes, makes - block->length);
+    } else {
+        explain("its sizes, %zu and %zu, make %zu: %zu too many%s", measurements, groups, makes, block->length - makes,
+                block_begins_at(block, makes) ? ", as if another block followed" : "");
     }
 }
 
 /* A block has bytes of 0, as its sizes are small numbers, and so is no text. */
-int explain_text(const struct bytes *block)
+static int explain_text(const struct bytes *block)
 {
     if (!looks_like_text(block)) {
         return 0;
@@ -36,16 +50,24 @@ int explain_text(const struct bytes *block)
     return 1;
 }
 
+/* What is wrong with the bytes as a whole: cut, too long, or a text. Answers whether they look like a text. */
+int explain_bytes(const struct bytes *block, uint32_t number)
+{
+    if (number == TRACKLINE_LENGTH) {
+        explain_length(block);
+    }
+    return explain_text(block);
+}
+
 /* What a refused block is refused for. Only a block whose sizes and length are right is looked into. */
 static void explain_refusal(const struct bytes *block, uint32_t number)
 {
     switch (number) {
     case TRACKLINE_LENGTH:
-        explain_length(block);
-        explain_text(block);
+        explain_bytes(block, number);
         break;
     case TRACKLINE_COUNT:
-        if (!explain_text(block)) {
+        if (!explain_bytes(block, number)) {
             explain_sizes(block->at);
         }
         break;

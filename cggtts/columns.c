@@ -165,7 +165,8 @@ static void explain_track_length(const uint8_t *line)
 {
     unsigned seconds = decimal(line, 21, 24);
     if (!sizes_fit(seconds, seconds / TRACKLINE_MEASUREMENTS_OF(1))) {
-        explain("TRKL is %u, not 15 times %d to %d", seconds, TRACKLINE_LEAST_GROUPS, TRACKLINE_GROUPS);
+        explain("TRKL is %u s, not a multiple of %d from %d to %d", seconds, TRACKLINE_MEASUREMENTS_OF(1),
+                TRACKLINE_MEASUREMENTS_OF(TRACKLINE_LEAST_GROUPS), TRACKLINE_MEASUREMENTS);
     }
 }
 

@@ -108,6 +108,15 @@ int same_file(const char *one, const char *other)
     return stat(one, &a) == 0 && stat(other, &b) == 0 && a.st_dev == b.st_dev && a.st_ino == b.st_ino;
 }
 
+/* Whether a file to be read, by its name or as standard input, is the one that standard output goes to. */
+int is_standard_output(const char *name)
+{
+    struct stat in, out;
+    int stands = strcmp(name, "-") == 0 ? fstat(STDIN_FILENO, &in) == 0 : stat(name, &in) == 0;
+    return stands && fstat(STDOUT_FILENO, &out) == 0 && S_ISREG(out.st_mode) && in.st_dev == out.st_dev
+        && in.st_ino == out.st_ino;
+}
+
 /* Writes all of it and closes the file, whatever happens. */
 static int write_all(int file, const struct bytes *bytes)
 {
@@ -161,24 +170,37 @@ static int replace_undisturbed(const char *name, const char *beside, const struc
     return answer;
 }
 
-/* A device, a pipe or a link can't be put in place, so it is written to. */
+/* What the file at its own place is called: a link that leads to it stays. The caller frees it. */
+static char *own_place(const char *name, int stands)
+{
+    struct stat link;
+    if (!stands && lstat(name, &link) == 0) {
+        errno = ENOENT; /* a link that leads nowhere */
+        return NULL;
+    }
+    return stands ? realpath(name, NULL) : strdup(name);
+}
+
+/* A device or a pipe can't be put in place, so it is written to. */
 static int write_whole(const char *name, const struct bytes *bytes)
 {
     struct stat old;
-    int stands = lstat(name, &old) == 0;
+    int stands = stat(name, &old) == 0;
     if (stands && !S_ISREG(old.st_mode)) {
         int file = open(name, O_WRONLY | O_TRUNC | O_CLOEXEC);
         return file < 0 ? -1 : write_all(file, bytes);
     }
-    size_t room = strlen(name) + 32;
-    char *beside = malloc(room);
-    if (beside == NULL) {
-        return -1;
+    char *place = own_place(name, stands);
+    size_t room = place != NULL ? strlen(place) + 32 : 0;
+    char *beside = place != NULL ? malloc(room) : NULL;
+    int answer = -1;
+    if (beside != NULL) {
+        snprintf(beside, room, "%s.%ld.part", place, (long)getpid());
+        answer = replace_undisturbed(place, beside, stands ? &old : NULL, bytes);
     }
-    snprintf(beside, room, "%s.%ld.part", name, (long)getpid());
-    int answer = replace_undisturbed(name, beside, stands ? &old : NULL, bytes);
     int error = errno;
     free(beside);
+    free(place);
     errno = error;
     return answer;
 }

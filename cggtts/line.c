@@ -17,7 +17,7 @@ static int put_line(const char *name, struct bytes *lines)
     uint32_t answer = trackline_block(block.at, block.length, line, TRACKLINE_LINE_BYTES);
     if (answer != TRACKLINE_ACCEPTED) {
         report_refusal(name, answer);
-        explain_text(&block);
+        explain_bytes(&block, answer);
     }
     free_bytes(&block);
     if (answer != TRACKLINE_ACCEPTED) {

@@ -11,8 +11,10 @@
  * be left out.
  *
  * The track here is the sample: every measurement 1000 ps, no corrections. "./receiver 307" is what is left of it when the
- * satellite sets after 307 seconds: 20 blocks of 15 seconds, the 7 seconds over are of no use.
+ * satellite sets after 307 seconds: 20 blocks of 15 seconds, the 7 seconds over are of no use. A track that is interrupted ends
+ * before the interruption too, as its seconds have to follow each other from the start on.
  */
+#include <errno.h>
 #include <inttypes.h>
 #include <stdio.h>
 #include <stdlib.h>
@@ -38,11 +40,11 @@ struct track {
     char frc[3];         /* observation code */
     uint32_t mjd;
     uint32_t start;      /* second of the day */
-    uint16_t elv, azth;  /* 0.1 degree */
+    uint16_t elv, azth;  /* 0.1 degree, in the middle of the track */
     uint16_t ioe;
     int64_t int_dly, cab_dly, ref_dly, gd; /* ps */
-    size_t groups;       /* how many blocks of 15 seconds were measured */
-    int64_t measurements[TRACKLINE_MEASUREMENTS]; /* ps, one a second */
+    size_t groups;       /* how many blocks of 15 seconds were measured, TRACKLINE_LEAST_GROUPS to TRACKLINE_GROUPS */
+    int64_t measurements[TRACKLINE_MEASUREMENTS]; /* ps, one a second from the start on, without a gap */
     struct corrections corrections[TRACKLINE_GROUPS];
 };
 
@@ -83,9 +85,15 @@ static void put_corrections(uint8_t *group, const struct corrections *c)
     put_ps(group, TRACKLINE_IN_GROUP_CLOCK, c->clock);
 }
 
-/* Packs a track into a hire block, in a room of TRACKLINE_BLOCK_BYTES bytes, and answers how many of them it takes. */
+/*
+ * Packs a track into a hire block, in a room of TRACKLINE_BLOCK_BYTES bytes, and answers how many of them it takes. A track of
+ * more than TRACKLINE_GROUPS groups has no room in it: 0 is answered, and nothing is written.
+ */
 static size_t pack(uint8_t *block, const struct track *t)
 {
+    if (t->groups > TRACKLINE_GROUPS) {
+        return 0;
+    }
     size_t measurements = TRACKLINE_MEASUREMENTS_OF(t->groups), at_groups = TRACKLINE_AT_GROUPS_OF(t->groups);
     put(block, TRACKLINE_AT_MEASUREMENTS_SIZE, TRACKLINE_WIDTH_MEASUREMENTS_SIZE, measurements);
     put(block, TRACKLINE_AT_GROUPS_SIZE, TRACKLINE_WIDTH_GROUPS_SIZE, t->groups);
@@ -137,13 +145,35 @@ static void sample(struct track *t, unsigned long seconds)
     }
 }
 
+/* A number of seconds in decimal digits. Answers whether it is one. */
+static int read_seconds(const char *text, unsigned long *seconds)
+{
+    char *end;
+    if (text[0] < '0' || text[0] > '9') { /* strtoul takes blanks and a sign, too */
+        return 0;
+    }
+    errno = 0;
+    *seconds = strtoul(text, &end, 10);
+    return *end == '\0' && errno == 0;
+}
+
 int main(int argc, char **argv)
 {
     static struct track track;
     static uint8_t block[TRACKLINE_BLOCK_BYTES];
     uint8_t line[TRACKLINE_LINE_BYTES];
+    unsigned long seconds = TRACKLINE_MEASUREMENTS;
 
-    sample(&track, argc > 1 ? strtoul(argv[1], NULL, 10) : TRACKLINE_MEASUREMENTS);
+    if (argc > 2 || (argc == 2 && !read_seconds(argv[1], &seconds))) {
+        fprintf(stderr, "usage: receiver [SECONDS]\n");
+        return 2;
+    }
+    sample(&track, seconds);
+    if (track.groups < TRACKLINE_LEAST_GROUPS) {
+        fprintf(stderr, "no line: %lu s were measured, and a track has %d s or more\n", seconds,
+                TRACKLINE_MEASUREMENTS_OF(TRACKLINE_LEAST_GROUPS));
+        return 1;
+    }
     size_t length = pack(block, &track);
     uint32_t answer = trackline_block(block, length, line, sizeof line);
     if (answer != TRACKLINE_ACCEPTED) {

@@ -1,11 +1,12 @@
 /*
- * trackline: one CGGTTS data line of 113 columns from a satellite track of 1 to 13 minutes, and what stands in such a line.
+ * trackline: one CGGTTS data line of 113 columns from a satellite track of 1 to 13 minutes, what stands in such a line, and
+ * one file of lines from two.
  *
  * Each function but trackline_comment answers 0 when it accepts and the number of its refusal otherwise. A slice is a
  * pointer and a length; NULL with length 0 is an empty slice. A function that accepts writes the first 113 bytes of the
- * lent line, with no byte of zero after them, or the first 23 of the lent values; one that refuses writes nothing. The
- * two slices of a call must not overlap. Nothing is kept between calls, so that threads may call at once on lines of
- * their own.
+ * lent line, with no byte of zero after them, the first 23 of the lent values, or the first *written bytes of
+ * the lent file; one that refuses writes nothing. What is written to must not overlap anything else of the call. Nothing is
+ * kept between calls, so that threads may call at once on lines of their own.
  */
 #ifndef TRACKLINE_H
 #define TRACKLINE_H
@@ -26,7 +27,8 @@ extern "C" {
  * there are. Numbers of eight bytes are ps, signed, two's complement; the others are unsigned.
  *
  * A track has n blocks of 15 seconds, n from 4 to 52: 15 n one-second measurements and n groups of five corrections. The
- * block's two sizes are 15 n and n, and it is as long as they make it. The names without OF are for a full track.
+ * block's two sizes are 15 n and n, and it is as long as they make it. The measurements follow second by second from the
+ * start on, without a gap. The names without OF are for a full track.
  */
 #define TRACKLINE_LEAST_GROUPS 4
 #define TRACKLINE_GROUPS 52
@@ -83,25 +85,28 @@ extern "C" {
  * below the folder of the installation says what to do about each. 10 does not arise, as the other limits leave no room
  * for it.
  */
-#define TRACKLINE_REFUSALS(X)                                                                             \
-    X(1, TRACKLINE_COUNT, "the block's two sizes are not 15 n and n, n from 4 to 52")                     \
-    X(2, TRACKLINE_LIMIT, "a measurement, a correction or a delay is beyond its limit")                   \
-    X(3, TRACKLINE_MIDPOINT, "REFSV or REFSYS has more than ten digits")                                  \
-    X(4, TRACKLINE_SLOPE, "SRSV or SRSYS has more than five digits, or SMDT or SMDI more than three")     \
-    X(5, TRACKLINE_DELAY, "MDTR or MDIO is below 0 or has more than four digits")                         \
-    X(6, TRACKLINE_SCATTER, "DSG is below 0 or has more than four digits")                                \
-    X(7, TRACKLINE_LABEL, "a label is out of its range, or the track length is not 15 n, n from 4 to 52") \
-    X(8, TRACKLINE_START, "no track of that day starts at that second")                                   \
-    X(9, TRACKLINE_LENT, "the lent line is under 113 bytes, or fewer than 23 values are lent")            \
-    X(10, TRACKLINE_CORRECTED, "a corrected value is beyond its limit")                                   \
-    X(11, TRACKLINE_LENGTH, "the block is under 4 bytes or not as long as its sizes make it")             \
-    X(12, TRACKLINE_LINE_LENGTH, "the line is not 113 to 140 bytes long")                                 \
-    X(13, TRACKLINE_CHARACTER, "a character is not allowed in its column")                                \
-    X(14, TRACKLINE_CHECKSUM, "CK is not the two capital digits of the sum of the columns before it")
+#define TRACKLINE_REFUSALS(X)                                                                                 \
+    X(1, TRACKLINE_COUNT, "the block's two sizes are not 15 n and n, n from 4 to 52")                         \
+    X(2, TRACKLINE_LIMIT, "a measurement, a correction or a delay is beyond its limit")                       \
+    X(3, TRACKLINE_MIDPOINT, "REFSV or REFSYS has more than ten digits")                                      \
+    X(4, TRACKLINE_SLOPE, "SRSV or SRSYS has more than five digits, or SMDT or SMDI more than three")         \
+    X(5, TRACKLINE_DELAY, "MDTR or MDIO is below 0 or has more than four digits")                             \
+    X(6, TRACKLINE_SCATTER, "DSG is below 0 or has more than four digits")                                    \
+    X(7, TRACKLINE_LABEL, "a label is out of its range, or the track length is not 15 n, n from 4 to 52")     \
+    X(8, TRACKLINE_START, "no track of that day starts at that second")                                       \
+    X(9, TRACKLINE_LENT, "the lent line is under 113 bytes, or fewer than 23 values are lent")                \
+    X(10, TRACKLINE_CORRECTED, "a corrected value is beyond its limit")                                       \
+    X(11, TRACKLINE_LENGTH, "the block is under 4 bytes or not as long as its sizes make it")                 \
+    X(12, TRACKLINE_LINE_LENGTH, "the line is not 113 to 140 bytes long, or a file's last line is under 115") \
+    X(13, TRACKLINE_CHARACTER, "a character is not allowed in its column or line end")                        \
+    X(14, TRACKLINE_CHECKSUM, "CK is not the two capital digits of the sum of the columns before it")         \
+    X(15, TRACKLINE_DIFFER, "two lines have the same MJD, start, letter and satellite, and differ")           \
+    X(16, TRACKLINE_ORDER, "the lines do not ascend by MJD, start, letter and satellite")                     \
+    X(17, TRACKLINE_ROOM, "the lent file is shorter than the result")
 
 #define TRACKLINE_NUMBER(number, name, text) name = number,
 enum trackline_refusal {
-    TRACKLINE_ACCEPTED = 0, /* the line is written, or its values are */
+    TRACKLINE_ACCEPTED = 0, /* the line is written, or its values are, or the file is */
     TRACKLINE_REFUSALS(TRACKLINE_NUMBER)
 };
 #undef TRACKLINE_NUMBER
@@ -118,8 +123,9 @@ uint32_t trackline_block(const uint8_t *block, size_t block_len, uint8_t *line, 
  * constellation is the letter G, R, E, C or J; satellite is 1 to 99; cl, the class, is any byte; fr, the GLONASS channel,
  * is 1 to 24 for R and 0 for the others; hc, the receiver channel, is 0 to 99; frc1 to frc3, the observation code, are
  * each A to Z or 0 to 9; mjd is 50722 to 99999; start is a second of the day; elv, 0 to 900, and azth, 0 to 3599, are in
- * 0.1 degree; ioe is 1 to 96 for R, 0 to 23 for C, 0 to 255 for G and J, 0 to 999 for E. refsv, refsys, mdtr, mdio and
- * dsg are in 0.1 ns; srsv, srsys, smdt and smdi in 0.1 ps/s; trkl, the track length, is 15 n seconds, n from 4 to 52.
+ * 0.1 degree and of the middle of the track; ioe is 1 to 96 for R, 0 to 23 for C, 0 to 255 for G and J, 0 to 999 for E.
+ * refsv, refsys, mdtr, mdio and dsg are in 0.1 ns; srsv, srsys, smdt and smdi in 0.1 ps/s; trkl, the track length, is 15 n
+ * seconds, n from 4 to 52.
  */
 uint32_t trackline_line(uint8_t constellation, uint8_t satellite, uint8_t cl, uint8_t fr, uint8_t hc,
                         uint8_t frc1, uint8_t frc2, uint8_t frc3,
@@ -175,6 +181,27 @@ uint32_t trackline_read(const uint8_t *line, size_t line_len, int64_t *values, s
  * is then empty. It is the rest of the line from there, up to 27 bytes of 20 to 7E hexadecimal.
  */
 size_t trackline_comment(const uint8_t *line, size_t line_len);
+
+/*
+ * A line file has 115 bytes a line: 113 columns, carriage return, line feed. Its lines ascend strictly by four keys: MJD,
+ * start, constellation letter (C, E, G, J, R), satellite. A file without a byte is one too.
+ */
+#define TRACKLINE_FILE_LINE_BYTES 115
+
+/*
+ * One line file from two: the lines of both, a line that is in both once. It is written to the lent file, and how many
+ * bytes it has, which may be none, to *written. Both lengths together are room enough.
+ *
+ * Tried in this order: the first file, then the second, then 15, then 17. In a file the earliest line decides, by 12, 14,
+ * 13, 7, 8, 13, 16: 12 is a last line of under 115 bytes; the second 13 a line end other than carriage return and line
+ * feed; 16 keys that are not above those of the line before it. 15: two lines, one of each file, have the same keys and
+ * differ. 17: the lent file is shorter than the result. A refusal leaves *written too as it was.
+ *
+ * The number does not tell which file it is of: hand each over alone, with NULL and 0 for the other and for the lent file;
+ * 0 or 17 then says that it is a line file. first and second may be the same; written must not be NULL.
+ */
+uint32_t trackline_merge(const uint8_t *first, size_t first_len, const uint8_t *second, size_t second_len,
+                         uint8_t *file, size_t file_len, size_t *written);
 
 #ifdef __cplusplus
 }

@@ -35,7 +35,7 @@ def wrong_in_header(text):
     wanted.update({'IN_GROUP_' + name: at for name, (at, _) in in_group().items()})
     wanted.update({'WIDTH_' + name: width for name, (at, width) in paper().items() if at < 26})
     wanted.update({'WIDTH_PS': 8, 'WIDTH_GROUP': 40, 'MEASUREMENTS': 780, 'LEAST_GROUPS': 4, 'GROUPS': 52,
-                   'BLOCK_BYTES': LENGTH, 'LINE_BYTES': 113, 'LONGEST_LINE': 140})
+                   'BLOCK_BYTES': LENGTH, 'LINE_BYTES': 113, 'LONGEST_LINE': 140, 'FILE_LINE_BYTES': 115})
     return sorted(set(wanted.items()) ^ set(found.items())) + wrong_by_blocks(text, found)
 
 

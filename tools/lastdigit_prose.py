@@ -18,7 +18,8 @@ DOCUMENT_01 = Fraction(52, 100)
 # the block and the residual that the document follows
 FOLLOWED = 20
 # digits that are no figures
-NAMES = ("document 000's two equations", "document 01's terms", 'document 000, equations 1 and 2')
+NAMES = ("document 000's two equations", "document 01's terms", 'document 000, equations 1 and 2',
+         'Document 000, in its conclusion,')
 
 
 # ---- the document

@@ -66,6 +66,16 @@ pub unsafe extern "C" fn trackline_comment(line: *const u8, line_len: usize) -> 
     let line = bytes(line, line_len);
     line.len() - reference::comment(line).len()
 }
+#[no_mangle]
+pub unsafe extern "C" fn trackline_merge(
+    first: *const u8, first_len: usize, second: *const u8, second_len: usize,
+    file: *mut u8, file_len: usize, written: *mut usize,
+) -> u32 {
+    match reference::merge(bytes(first, first_len), bytes(second, second_len), lent(file, file_len)) {
+        Ok(length) => { *written = length; 0 }
+        Err(refusal) => refusal,
+    }
+}
 '''
 LEFT = 'n * (n * n - 1) * v - (n * n - 1) * s - 3 * place(n, j) * t'
 RESIDUAL = 'let residual = nearest(%s, n * (n * n - 1));' % LEFT
@@ -86,6 +96,12 @@ CHARACTERS = 'if !characters_fit(columns, comment) {'
 CLOCK = 'hour <= 23 && minute <= 59 && second <= 59 && start(labels.mjd, labels.start) == 0'
 FEW = 'if lent.len() < VALUES {'
 VALUES = 'lent[..VALUES].copy_from_slice(&values(&labels, &numbers));'
+KEYS = '(labels.mjd, labels.start, labels.constellation, labels.satellite)'
+LINES = 'let lines = merged(&first, &second)?;'
+ROOM = 'if lent.len() < length {'
+TAIL = 'if line.len() < FILE_LINE_BYTES {'
+FOLLOWS = 'if lines.last().is_some_and(|(before, _)| *before >= keys) {'
+READING = 'let (labels, _) = read(&line[..LINE_BYTES])?;'
 # name, then file, text and what to write for it, as often as needed
 MUTANTS = [
     # what the paper calls plausible and wrong
@@ -352,6 +368,66 @@ MUTANTS = [
      'Ok((labels, numbers))', 'if numbers.length_fits() { Ok((labels, numbers)) } else { Err(7) }'),
     ('7 for a letter in the track length', 'reader.rs', CHARACTERS,
      'if !columns[20..24].iter().all(u8::is_ascii_digit) { return Err(7); }\n    ' + CHARACTERS),
+    # two line files: which lines, and in which order
+    ('equal lines written twice', 'files.rs', 'n += usize::from(second_keys <= first_keys)',
+     'n += usize::from(second_keys < first_keys)'),
+    ('a line of the second file lost behind an equal one', 'files.rs', 'n += usize::from(second_keys <= first_keys)',
+     'n += usize::from(second_keys <= first_keys) + usize::from(second_keys == first_keys)', 'files.rs', 'second[n..]',
+     'second[n.min(second.len())..]'),
+    ('last line lost', 'files.rs', 'Ok(lines)\n}\n\n/// Merge', 'lines.pop();\n    Ok(lines)\n}\n\n/// Merge'),
+    ('satellites before the letter', 'files.rs', KEYS,
+     '(labels.mjd, labels.start, labels.satellite, labels.constellation)'),
+    ('start before MJD', 'files.rs', KEYS,
+     '(labels.start, labels.mjd, labels.constellation, labels.satellite)'),
+    ('letters in the order G, R, E, C, J', 'files.rs', KEYS, '(labels.mjd, labels.start, '
+     'b"GRECJ".iter().position(|b| *b == labels.constellation).unwrap() as u8, labels.satellite)'),
+    ('satellites not compared', 'files.rs', KEYS, '(labels.mjd, labels.start, labels.constellation, 0)'),
+    ('lines in the order of the files', 'files.rs', 'm < first.len() && n < second.len()',
+     'm < first.len() && n < second.len() && first[m].0 == second[n].0'),
+    # what a file is refused for
+    ('equal keys accepted', 'files.rs', '*before >= keys', '*before > keys'),
+    ('order not looked at', 'files.rs', '*before >= keys', '*before >= keys && false'),
+    ('order against the first line', 'files.rs', 'lines.last()', 'lines.first()'),
+    ('tail of 114 ignored', 'files.rs', 'let keys = judged(line)?;', 'if line.len() == 114 { break; }\n'
+     '        let keys = judged(line)?;'),
+    ('tail ignored', 'files.rs', 'file.chunks(FILE_LINE_BYTES)', 'file.chunks_exact(FILE_LINE_BYTES)'),
+    ('tail before the lines', 'files.rs', 'let mut lines: Vec<FileLine>',
+     'if file.len() % FILE_LINE_BYTES != 0 { return Err(12); }\n    let mut lines: Vec<FileLine>'),
+    ('line feed alone looked at', 'files.rs', "line[LINE_BYTES..] != *b\"\\r\\n\"", "line[LINE_BYTES + 1] != b'\\n'"),
+    ('carriage return alone looked at', 'files.rs', "line[LINE_BYTES..] != *b\"\\r\\n\"", "line[LINE_BYTES] != b'\\r'"),
+    ('line end before the reading', 'files.rs', READING,
+     "if line[LINE_BYTES..] != *b\"\\r\\n\" { return Err(13); }\n    " + READING),
+    ('16 before the line end', 'files.rs', 'let keys = judged(line)?;\n        ' + FOLLOWS,
+     'let keys = read(&line[..line.len().min(113)]).map(|(labels, _)| keys(&labels));\n'
+     '        if lines.last().is_some_and(|(before, _)| keys.is_ok_and(|keys| *before >= keys)) { return Err(16); }\n'
+     '        let keys = judged(line)?;\n        if false {'),
+    ('16 when all lines are read', 'files.rs', 'let mut lines: Vec<FileLine>',
+     'file.chunks(FILE_LINE_BYTES).try_for_each(|line| judged(line).map(|_| ()))?;\n    let mut lines: Vec<FileLine>'),
+    # order of the refusals, and the lent file
+    ('second file judged first', 'files.rs', 'let first = file_lines(first)?;\n    let second = file_lines(second)?;',
+     'let second = file_lines(second)?;\n    let first = file_lines(first)?;'),
+    ('second file not judged', 'files.rs', 'let second = file_lines(second)?;',
+     'let second = file_lines(second).or_else(|r| if r == 16 { Err(r) } else { Ok(Vec::new()) })?;'),
+    ('15 unnoticed', 'files.rs', 'first_keys == second_keys && line != other', 'false'),
+    ('15 by the columns before the last', 'files.rs', 'line != other', 'line[..109] != other[..109]'),
+    ('15 for equal lines', 'files.rs', '&& line != other', ''),
+    ('17 before 15', 'files.rs', LINES,
+     'if lent.is_empty() && first.len() + second.len() > 0 { return Err(17); }\n    ' + LINES),
+    ('17 before the second file', 'files.rs', 'let second = file_lines(second)?;',
+     'if lent.is_empty() && !first.is_empty() { return Err(17); }\n    let second = file_lines(second)?;'),
+    ('17 by both lengths', 'files.rs', ROOM,
+     'if lent.len() < FILE_LINE_BYTES * (first.len() + second.len()) {'),
+    ('17 where the room is just enough', 'files.rs', ROOM, 'if lent.len() <= length && length > 0 {'),
+    ('17 never', 'files.rs', ROOM, 'if false {'),
+    ('an empty result refused', 'files.rs', ROOM, 'if lent.len() < length.max(1) {'),
+    ('written where the room is too short', 'files.rs', ROOM,
+     ROOM + ' lent.chunks_exact_mut(115).zip(lines).for_each(|(to, line)| to.copy_from_slice(line));'),
+    ('the rest of the lent file cleared', 'files.rs', 'Ok(length)\n}', 'lent[length..].fill(0);\n    Ok(length)\n}'),
+    ('a byte of zero behind the result', 'files.rs', 'Ok(length)\n}',
+     'if let Some(byte) = lent.get_mut(length) { *byte = 0; }\n    Ok(length)\n}'),
+    ('lines counted, not bytes', 'files.rs', 'Ok(length)\n}', 'Ok(length / FILE_LINE_BYTES)\n}'),
+    ('the number of bytes set on a refusal', 'EXPORTS', '        Err(refusal) => refusal,\n    }\n}',
+     '        Err(refusal) => { *written = 0; refusal }\n    }\n}'),
 ]
 
 

@@ -49,6 +49,18 @@ static uint32_t call_comment(void)
     return trackline_comment(commented, sizeof commented - 1) != TRACKLINE_LINE_BYTES;
 }
 
+/* Two lines each, of which one is in both. */
+static uint32_t call_merge(void)
+{
+#define ENDED(satellite, ck)                                                                                  \
+    satellite " FF 50722 000200 0780 450 1800 +0000000010 +00000 +0000000010 +00000 0000 007 0000 +000 0000 " \
+              "+000 00 00 L1C " ck "\r\n"
+    static const uint8_t first[] = ENDED("G05", "26") ENDED("G06", "27"), second[] = ENDED("G06", "27") ENDED("G07", "28");
+    static uint8_t file[3 * TRACKLINE_FILE_LINE_BYTES];
+    size_t written;
+    return trackline_merge(first, sizeof first - 1, second, sizeof second - 1, file, sizeof file, &written);
+}
+
 static struct measured {
     const char *name;
     uint32_t (*call)(void);
@@ -56,7 +68,8 @@ static struct measured {
     size_t bytes; /* what it took; EDGE if it is no more than that */
 } MOST[] = {
     {"trackline_block", call_block, 32000, 0}, {"trackline_line", call_line, 1000, 0}, {"trackline_start", call_start, 1000, 0},
-    {"trackline_read", call_read, 1000, 0}, {"trackline_comment", call_comment, 1000, 0}};
+    {"trackline_read", call_read, 1000, 0}, {"trackline_comment", call_comment, 1000, 0},
+    {"trackline_merge", call_merge, 2000, 0}};
 
 /* The thread. */
 static void *measure(void *which)

@@ -13,38 +13,45 @@ import sys
 
 ROOT = pathlib.Path(__file__).resolve().parents[2]
 MEASURED = r'stack: (trackline_\w+) takes (at most )?(\d+) bytes, promised (\d+)\n'
-# a figure that a document gives, and the functions whose figures it names, in order
+# the figures that a document gives, and the functions that each is of, in order
 DOCUMENTS = (
-    ('man/trackline.3', r'that gave ([\d,]+), ([\d,]+), ([\d,]+), ([\d,]+) and at most ([\d,]+) bytes',
-     ('block', 'line', 'read', 'comment', 'start'), 1),
-    ('docs/TRUST.md', r'`trackline_block` takes about ([\d.]+) kB', ('block',), 1000),
+    ('man/trackline.3', r'that gave ([\d,]+) bytes for trackline_block, ([\d,]+) for trackline_merge, ([\d,]+) for trackline_line, '
+     r'([\d,]+) for trackline_read and trackline_comment, and at most ([\d,]+) for trackline_start\.',
+     (('block',), ('merge',), ('line',), ('read', 'comment'), ('start',)), 1),
+    ('docs/TRUST.md', r'`trackline_block` takes about ([\d.]+) kB', (('block',),), 1000),
 )
-PROMISED = r'takes up to ([\d,]+) bytes .+? up to ([\d,]+)\.'
+PROMISED = r'takes up to ([\d,]+) bytes .+? up to ([\d,]+), .+? up to ([\d,]+)\.'
 
 
 def number(text):
     return float(text.replace(',', ''))
 
 
+def text_of(path):
+    """A document as one line, without a manual page's marks of type."""
+    words = re.sub(r'(?m)^\.[A-Z]+ ', '', (ROOT / path).read_text()).split()
+    return re.sub(r' ([,.;])(?= |$)', r'\1', ' '.join(words))
+
+
 def main(program):
     printed = subprocess.run([program], stdout=subprocess.PIPE, text=True, cwd=ROOT)
     print(printed.stdout, end='')
     found = {name[10:]: (int(figure), int(most)) for name, _, figure, most in re.findall(MEASURED, printed.stdout)}
-    if len(found) != 5 or printed.returncode:
+    if len(found) != 6 or printed.returncode:
         print('stack: FAILED: the stack was not measured, or is above what is promised', file=sys.stderr)
         return 1
     faults = []
     for path, pattern, names, unit in DOCUMENTS:
-        text = ' '.join((ROOT / path).read_text().split())
-        said = re.search(pattern, text)
-        for name, figure in zip(names, said.groups() if said else [''] * len(names)):
+        said = re.search(pattern, text_of(path))
+        figures = said.groups() if said else [''] * len(names)
+        for name, figure in ((name, figure) for several, figure in zip(names, figures) for name in several):
             measured = found[name][0]
             if not figure or abs(number(figure) * unit - measured) > measured / 10:
                 faults.append('%s: trackline_%s takes %d bytes, and it says %s' % (
                     path, name, measured, figure or 'nothing'))
-    promised = re.search(PROMISED, ' '.join((ROOT / 'man/trackline.3').read_text().split()))
-    others = {most for name, (_, most) in found.items() if name != 'block'}
-    if not promised or [number(word) for word in promised.groups()] != [found['block'][1], *others]:
+    promised = re.search(PROMISED, text_of('man/trackline.3'))
+    others = {most for name, (_, most) in found.items() if name not in ('block', 'merge')}
+    if not promised or [number(word) for word in promised.groups()] != [found['block'][1], found['merge'][1], *others]:
         faults.append('man/trackline.3 does not promise what tests/c/stack.c tests')
     for fault in faults:
         print('stack: FAILED: %s' % fault, file=sys.stderr)

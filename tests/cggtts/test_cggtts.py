@@ -12,6 +12,7 @@ import re
 import resource
 import signal
 import stat
+import struct
 import subprocess
 import sys
 import tempfile
@@ -36,9 +37,11 @@ MEANINGS = {1: "the block's two sizes are not 15 n and n, n from 4 to 52",
             7: 'a label is out of its range, or the track length is not 15 n, n from 4 to 52',
             8: 'no track of that day starts at that second',
             11: 'the block is under 4 bytes or not as long as its sizes make it',
-            12: 'the line is not 113 to 140 bytes long',
-            13: 'a character is not allowed in its column',
-            14: 'CK is not the two capital digits of the sum of the columns before it'}
+            12: "the line is not 113 to 140 bytes long, or a file's last line is under 115",
+            13: 'a character is not allowed in its column or line end',
+            14: 'CK is not the two capital digits of the sum of the columns before it',
+            15: 'two lines have the same MJD, start, letter and satellite, and differ',
+            16: 'the lines do not ascend by MJD, start, letter and satellite'}
 OWN = ' (worked out by cggtts, not by the library)'
 ONE_TOO_MANY = "starts: '50723' is one word too many"
 
@@ -48,6 +51,18 @@ def run(*arguments, data=b'', **more):
     result = subprocess.run([PROGRAM, *map(str, arguments)], input=data, stderr=subprocess.PIPE, cwd=ROOT, check=False,
                             **more)
     return result.returncode, result.stdout, result.stderr.decode()
+
+
+def length_told(data):
+    """What is said of a block of a wrong length. Of those that are made here, only repeated ones look like two."""
+    rows = ['it has %d byte%s' % (len(data), 's'[len(data) == 1:])]
+    if len(data) < 4:
+        return rows
+    measurements, groups = struct.unpack_from('<2H', data)
+    over = len(data) - (58 + 160 * groups)
+    what = '%d missing' % -over if over < 0 else '%d too many' % over
+    return rows + ['its sizes, %d and %d, make %d: %s' % (measurements, groups, 58 + 160 * groups, what)
+                   + ', as if another block followed' * (over >= 4 and data[-over:][:4] == data[:4])]
 
 
 class Scratch(unittest.TestCase):
@@ -113,8 +128,9 @@ class Line(Scratch):
                              (1, block(groups=53))):
             path = self.kept('a.blk', data)
             message = '%s: refused %d: ' + MEANINGS[number] + '\n'
-            self.assertEqual(run('line', path), (1, b'', message % (path, number)))
-            self.assertEqual(run('line', '-', data=data), (1, b'', message % ('-', number)))
+            told = {11: ''.join('  %s\n' % row for row in length_told(data))}.get(number, '')
+            self.assertEqual(run('line', path), (1, b'', message % (path, number) + told))
+            self.assertEqual(run('line', '-', data=data), (1, b'', message % ('-', number) + told))
 
     def test_refused_among_others(self):
         path = self.kept('bad.blk', block({'HC': 100}))
@@ -306,10 +322,19 @@ class Check(Scratch):
     def test_length(self):
         for length in (0, 1, 2, 3):
             self.explained(11, block()[:length], 'it has %d byte%s' % (length, 's'[length == 1:]))
-        for n, length, makes in ((52, 4, 8378), (52, 8377, 8378), (52, 8379, 8378), (52, 100000, 8378), (4, 697, 698),
-                                 (4, 699, 698), (20, 3257, 3258), (51, 8378, 8218)):
+        following = ', as if another block followed'
+        for n, length, what in ((52, 4, '8378: 8374 missing'), (52, 8377, '8378: 1 missing'), (52, 8379, '8378: 1 too many'),
+                                (52, 8381, '8378: 3 too many'), (52, 8382, '8378: 4 too many' + following),
+                                (52, 100000, '8378: 91622 too many' + following), (4, 697, '698: 1 missing'),
+                                (4, 699, '698: 1 too many'), (20, 3257, '3258: 1 missing'),
+                                (20, 6516, '3258: 3258 too many' + following), (51, 8378, '8218: 160 too many' + following)):
             self.explained(11, (block(groups=n) * 120)[:length], 'it has %d bytes' % length,
-                           'its sizes, %d and %d, make %d' % (15 * n, n, makes))
+                           'its sizes, %d and %d, make %s' % (15 * n, n, what))
+        self.explained(11, block(groups=4) + block(groups=20), 'it has 3956 bytes',
+                       'its sizes, 60 and 4, make 698: 3258 too many' + following)
+        self.explained(11, block(groups=4) + block(groups=3), 'it has 1236 bytes', 'its sizes, 60 and 4, make 698: 538 too many')
+        self.explained(11, block({'measurements size': 60, 'groups size': 4}), 'it has 8378 bytes',
+                       'its sizes, 60 and 4, make 698: 7680 too many')
 
     def test_a_text_that_was_not_packed(self):
         text = (ROOT / 'examples' / 'sample.txt').read_bytes()
@@ -619,9 +644,10 @@ class Read(Scratch):
     def test_track_length(self):
         for n in range(4, 53):
             self.shown(line_with([(21, '%04d' % (15 * n))]), '  TRKL           %-22s %04d' % ('%d s' % (15 * n), 15 * n))
-        for seconds in (0, 1, 15, 45, 59, 61, 301, 779, 781, 795, 9999):
-            self.refused(7, line_with([(21, '%04d' % seconds)]), 'TRKL is %d, not 15 times 4 to 52' % seconds)
-        self.refused(7, line_with([(21, '0781'), (2, '00')]), 'satellite is 0, not 1 to 99', 'TRKL is 781, not 15 times 4 to 52')
+        for seconds in (0, 1, 15, 45, 59, 61, 301, 779, 781, 790, 795, 9999):
+            self.refused(7, line_with([(21, '%04d' % seconds)]), 'TRKL is %d s, not a multiple of 15 from 60 to 780' % seconds)
+        self.refused(7, line_with([(21, '0781'), (2, '00')]), 'satellite is 0, not 1 to 99',
+                     'TRKL is 781 s, not a multiple of 15 from 60 to 780')
         self.refused(13, line_with([(21, ' 300')]), 'column 21 (TRKL) is a blank, not a digit')
         self.refused(13, line_with([(21, '+780')]), 'column 21 (TRKL) is +, not a digit')
 

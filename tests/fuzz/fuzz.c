@@ -33,6 +33,8 @@ uint32_t reference_line(const struct given *given, uint8_t *line, size_t line_le
 uint32_t reference_start(uint32_t mjd, uint32_t second);
 uint32_t reference_read(const uint8_t *line, size_t line_len, int64_t *values, size_t values_len);
 size_t reference_comment(const uint8_t *line, size_t line_len);
+uint32_t reference_merge(const uint8_t *first, size_t first_len, const uint8_t *second, size_t second_len,
+                         uint8_t *file, size_t file_len, size_t *written);
 int LLVMFuzzerInitialize(int *argc, char ***argv);
 int LLVMFuzzerTestOneInput(const uint8_t *data, size_t size);
 
@@ -82,8 +84,8 @@ struct guarded {
     size_t size;
 };
 
-/* for what is given, a lent line and lent values */
-static struct guarded given_memory, line_memory, values_memory;
+/* for what is given, a lent line and lent values; for a second file that is given, and a lent one */
+static struct guarded given_memory, line_memory, values_memory, second_memory, file_memory;
 
 static void *must(void *mapped)
 {
@@ -116,9 +118,10 @@ static size_t offset(const struct guarded *g, size_t length, int front)
 
 /* ---- what was reached ---- */
 
-enum function { BLOCK, LINE, START, READ, FUNCTIONS };
-enum { ANSWERS = 15 };
-static const char *const NAMES[FUNCTIONS] = {"trackline_block", "trackline_line", "trackline_start", "trackline_read"};
+enum function { BLOCK, LINE, START, READ, MERGE, FUNCTIONS };
+enum { ANSWERS = 18 };
+static const char *const NAMES[FUNCTIONS] = {"trackline_block", "trackline_line", "trackline_start", "trackline_read",
+                                             "trackline_merge"};
 static uint64_t reached[FUNCTIONS][ANSWERS];
 
 static void report(void)
@@ -547,6 +550,130 @@ static void raw_line(struct bytes *b)
     call_read(b->at, b->left < LONGEST_READ ? b->left : LONGEST_READ, &lent);
 }
 
+/* ---- two line files ---- */
+
+enum { ENDED = COLUMNS + 2, MOST_LINES = 30, LONGEST_FILE = 4096 };
+
+struct file {
+    uint8_t bytes[LONGEST_FILE];
+    size_t length;
+};
+
+static int by_keys(const void *line, const void *other)
+{
+    const uint8_t *a = line, *b = other;
+    int date = memcmp(a + 7, b + 7, 5), clock = memcmp(a + 13, b + 13, 6);
+    return date != 0 ? date : clock != 0 ? clock : memcmp(a, b, 3);
+}
+
+/* A line with its line end, of few dates, starts and satellites. */
+static void ended_line(uint8_t *line, struct bytes *b)
+{
+    char text[32];
+    uint32_t mjd = 50722 + (uint32_t)below(b, 3), minute = a_start(mjd, below(b, 4)) / 60;
+    written(line, b);
+    snprintf(text, sizeof text, "%05" PRIu32 " %02" PRIu32 "%02" PRIu32 "00", mjd, minute / 60, minute % 60);
+    memcpy(line + 7, text, 12);
+    line[1] = '0';
+    line[2] = (uint8_t)('1' + below(b, 3));
+    repair(line);
+    memcpy(line + COLUMNS, "\r\n", 2);
+}
+
+static void add(struct file *file, const uint8_t *line)
+{
+    memcpy(file->bytes + file->length, line, ENDED);
+    file->length += ENDED;
+}
+
+/* Lines in their order, each to one of two files or to both, to the second with another digit or as it is. */
+static void share(struct file *files, struct bytes *b)
+{
+    static uint8_t lines[MOST_LINES][ENDED];
+    size_t count = below(b, MOST_LINES + 1);
+    for (size_t i = 0; i < count; i++) {
+        ended_line(lines[i], b);
+    }
+    qsort(lines, count, ENDED, by_keys);
+    for (size_t i = 0; i < count; i++) {
+        size_t whose = take(b, 1);
+        if (i > 0 && by_keys(lines[i - 1], lines[i]) == 0 && whose > 0) {
+            continue;
+        }
+        if (whose % 4 != 1) {
+            add(&files[0], lines[i]);
+        }
+        if (whose % 16 == 15) {
+            lines[i][104] = lines[i][104] == '7' ? '8' : '7';
+            repair(lines[i]);
+        }
+        if (whose % 4 != 0) {
+            add(&files[1], lines[i]);
+        }
+    }
+}
+
+/* One change to a file. */
+static void edit_file(struct file *file, struct bytes *b)
+{
+    size_t count = file->length / ENDED, kind = take(b, 1) % 8;
+    uint8_t *line = file->bytes + ENDED * (count > 0 ? below(b, count) : 0), *other = file->bytes;
+    uint8_t kept[ENDED];
+    other += ENDED * (count > 0 ? below(b, count) : 0);
+    switch (count > 0 ? kind : 7) {
+    case 0: memcpy(kept, line, ENDED); memmove(line, other, ENDED); memcpy(other, kept, ENDED); break;
+    case 1: memmove(line, other, ENDED); break;
+    case 2: line[below(b, ENDED)] = (uint8_t)take(b, 1); break;
+    case 3: line[below(b, COLUMNS - 2)] = (uint8_t)"0123456789GRECJ"[below(b, 15)]; repair(line); break;
+    case 4: line[COLUMNS + below(b, 2)] = (uint8_t)take(b, 1); break;
+    case 5: set_clock(line, b); break;
+    case 6: edit_line(line, COLUMNS, b); break;
+    default: file->length = below(b, LONGEST_FILE + 1);
+    }
+}
+
+/* A file where the archive sees it. */
+static const uint8_t *lay(const struct guarded *memory, const struct file *file, size_t kind)
+{
+    size_t at = offset(memory, file->length, (kind & 1) != 0);
+    memmove(memory->own + at, file->bytes, file->length);
+    return file->length == 0 && (kind & 2) ? NULL : memory->lent + at;
+}
+
+static void call_merge(const struct file *files, struct bytes *b)
+{
+    static uint8_t wanted_file[2 * LONGEST_FILE];
+    const uint8_t *first = lay(&given_memory, &files[0], take(b, 1)), *second = lay(&second_memory, &files[1], take(b, 1));
+    size_t *written = (size_t *)(void *)(values_memory.lent + values_memory.size - sizeof *written), wanted_written = 77;
+    size_t kind = take(b, 1), room = kind & 1 ? 2 * LONGEST_FILE : kind & 2 ? ENDED * below(b, 71) : below(b, 2 * LONGEST_FILE);
+    uint8_t *got = file_memory.lent + offset(&file_memory, room, (kind & 4) != 0);
+    for (size_t i = 0; i < room; i++) {
+        got[i] = wanted_file[i] = (uint8_t)(kind + 7 * i);
+    }
+    *written = wanted_written;
+    uint32_t wanted = reference_merge(files[0].bytes, files[0].length, files[1].bytes, files[1].length, wanted_file, room,
+                                      &wanted_written);
+    judge(MERGE, trackline_merge(first, files[0].length, second, files[1].length, room == 0 && (kind & 8) ? NULL : got, room, written),
+          wanted);
+    if (*written != wanted_written || memcmp(got, wanted_file, room) != 0) {
+        printf("DIFFERENT files: %zu bytes written, should be %zu\n", *written, wanted_written);
+        abort();
+    }
+}
+
+static void edited_files(struct bytes *b)
+{
+    static struct file files[2];
+    struct bytes lent = {b->at, b->left < 8 ? b->left : 8};
+    take(b, 8);
+    memset(files, 0, sizeof files);
+    share(files, b);
+    for (int i = 0; i < 8 && b->left > 0; i++) {
+        edit_file(&files[take(b, 1) % 2], b);
+    }
+    call_merge(files, &lent);
+}
+
 int LLVMFuzzerInitialize(int *argc, char ***argv)
 {
     (void)argc;
@@ -554,6 +681,8 @@ int LLVMFuzzerInitialize(int *argc, char ***argv)
     given_memory = guard(LONGEST_BLOCK, PROT_READ);
     line_memory = guard(LONGEST_LINE, PROT_READ | PROT_WRITE);
     values_memory = guard(MOST_VALUES * sizeof(int64_t), PROT_READ | PROT_WRITE);
+    second_memory = guard(LONGEST_FILE, PROT_READ);
+    file_memory = guard(2 * LONGEST_FILE, PROT_READ | PROT_WRITE);
     setvbuf(stdout, NULL, _IOLBF, 0); /* abort does not write what is still held back */
     atexit(report);
     return 0;
@@ -562,7 +691,7 @@ int LLVMFuzzerInitialize(int *argc, char ***argv)
 int LLVMFuzzerTestOneInput(const uint8_t *data, size_t size)
 {
     struct bytes b = {data, size};
-    switch (take(&b, 1) % 12) {
+    switch (take(&b, 1) % 16) {
     case 0: raw_block(&b); break;
     case 1: start(&b); break;
     case 2:
@@ -571,6 +700,10 @@ int LLVMFuzzerTestOneInput(const uint8_t *data, size_t size)
     case 5:
     case 6:
     case 7: edited_line(&b); break;
+    case 12:
+    case 13:
+    case 14:
+    case 15: edited_files(&b); break;
     default: edited_block(&b);
     }
     return 0;

@@ -147,6 +147,10 @@ def beside(text, n=52):
     return '\n'.join([text, *rest])
 
 
+# how many seconds are over
+OVER = ', %s of 15 seconds and %d over: seconds over are left out, never made up'
+
+
 class Messages(unittest.TestCase):
     def refused(self, text, message, line, column):
         """The text, with the lists of a full track beside it, has this fault and no other."""
@@ -249,8 +253,11 @@ class Messages(unittest.TestCase):
     def test_lists(self):
         self.refused('geometry = 0', "geometry needs 52 numbers and has 1; write '0 x 52' to repeat it", 1, 12)
         self.refused('clock =', 'clock needs 52 numbers and has 0', 1, 8)
-        self.refused('measurements = 1 x 779', 'measurements needs 780 numbers and has 779', 1, 16)
+        self.refused('measurements = 1 x 779', 'measurements needs 780 numbers and has 779' + OVER % ('51 blocks', 14), 1, 16)
         self.refused('clock = 1 2\n  3 four (0) x 48', "'four' is no whole number", 2, 5)
+        for count in 0, 1, 3:
+            self.refused('sizes = ' + ' '.join(['300'] * count), 'sizes needs 2 numbers, 15n and n, and has %d; left out, they '
+                         'are what the lists have' % count, 1, 8 if count == 0 else 9)
         self.refused('sizes = 780 65536', '65536 does not fit: the block holds 0 to 65535', 1, 13)
         self.refused('clock = (1 2', "'(' without ')'", 1, 9)
         self.refused('clock = 1 )', "')' without '('", 1, 11)
@@ -286,7 +293,24 @@ class Messages(unittest.TestCase):
                      'this row has 27 numbers, the others 26: clock needs 52 numbers and has 53', 2, 1)
         self.refused('clock =\n' + '1 x 13\n' * 3,
                      'clock has 39 numbers, in 3 rows of 13, for 39 blocks, but the other lists are for 52', 2, 1)
-        self.refused('clock =\n' + '1 x 13\n' * 5, 'clock needs 52 numbers and has 65, in 5 rows of 13', 2, 1)
+        self.refused('clock =\n' + '1 x 13\n' * 5,
+                     'clock has 65 numbers, in 5 rows of 13, for 65 blocks, but a track has 52 at most, and the other lists are '
+                     'for 52', 2, 1)
+
+    def test_seconds_over(self):
+        """A satellite that sets after 307 seconds; and a row that is too short at the end."""
+        needs = 'measurements needs %d numbers and has %d'
+        for n, has, over in ((20, 307, ('20 blocks', 7)), (20, 299, ('19 blocks', 14)), (52, 790, ('52 blocks', 10)),
+                             (4, 16, ('1 block', 1)), (4, 59, ('3 blocks', 14))):
+            self.assertEqual(faults(beside('measurements = 0 x %d' % has, n)), [(1, 16, needs % (15 * n, has) + OVER % over)])
+        rows = [' '.join(['7'] * 15)] * 20
+        for count in 7, 14:
+            row = ' '.join(['7'] * count)
+            self.assertEqual(faults(beside('measurements =\n' + '\n'.join([*rows, row]), 20)),
+                             [(22, 1, 'this row has %d numbers, the others 15: ' % count + needs % (300, 300 + count)
+                               + OVER % ('20 blocks', count))])
+        self.assertEqual(faults(beside('measurements =\n' + '\n'.join(rows[:-1] + ['7 7']), 20)),
+                         [(21, 1, 'this row has 2 numbers, the others 15: ' + needs % (300, 287) + OVER % ('19 blocks', 2))])
 
     def test_numbers_of_blocks(self):
         """3 and 53 are none, whatever the lists agree on."""
@@ -299,7 +323,8 @@ class Messages(unittest.TestCase):
         for n in 4, 52:
             self.assertEqual(faults(sample_text(n)), [])
         self.assertEqual(faults('clock = 0 x 4'), [])
-        self.assertEqual(faults('measurements = 0 x 59'), [(1, 16, 'measurements needs 60 numbers and has 59')])
+        self.assertEqual(faults('measurements = 0 x 59'), [(1, 16, 'measurements needs 60 numbers and has 59'
+                                                           + OVER % ('3 blocks', 14))])
         self.assertEqual(faults('measurements = 0 x 52'), [
             (1, 16, 'measurements has 52 numbers; a track has 4 to 52 blocks, and 15 measurements for each')])
 
@@ -309,7 +334,12 @@ class Messages(unittest.TestCase):
                      'measurements has 300 numbers, for 20 blocks, but the other lists are for 52', 1, 16)
         self.assertEqual(faults(beside('measurements = 0 x 780', 20)),
                          [(1, 16, 'measurements has 780 numbers, for 52 blocks, but the other lists are for 20')])
-        self.refused('clock = 0 x 53', 'clock needs 52 numbers and has 53', 1, 9)
+        most = '%s has %d numbers, for %d blocks, but a track has 52 at most, and %s for %d'
+        self.refused('clock = 0 x 53', most % ('clock', 53, 53, 'the other lists are', 52), 1, 9)
+        self.refused('measurements = 0 x 795', most % ('measurements', 795, 53, 'the other lists are', 52), 1, 16)
+        # however many there are for 53, they are not reckoned in
+        self.assertEqual(faults(beside('measurements = 0 x 300', 53)), [
+            (k + 2, 15, most % (name, 53, 53, 'measurements is', 20)) for k, name in enumerate(hireblock.COLUMNS)])
         self.refused('clock = 0 x 3', 'clock needs 52 numbers and has 3', 1, 9)
         self.assertEqual(faults(beside('clock = 0 x 51\ngeometry = 0 x 20')), [
             (1, 9, 'clock has 51 numbers, for 51 blocks, but measurements, relativity, ionosphere and troposphere are '
@@ -396,9 +426,36 @@ class RoundTrip(unittest.TestCase):
             text = hireblock.show(hireblock.unpack(sample_bytes(n)))
             self.assertTrue(text.startswith('# A hire block: one track of %d s, %d blocks of 15 s.\n\ncons' % (15 * n, n)))
             wrong = struct.pack('<HH', 780, 51) + sample_bytes(n)[4:]
-            row = hireblock.show(hireblock.unpack(wrong)).splitlines()[1]
-            self.assertEqual(row, 'sizes         = 780 51         # but the lists have %d and %d' % (15 * n, n))
+            rows = hireblock.show(hireblock.unpack(wrong)).splitlines()
+            self.assertEqual(rows[0], '# A hire block: %d bytes, shown by their number as %d blocks, but the sizes, 780 and 51, '
+                             'are those of no track.' % (58 + 160 * n, n))
+            self.assertEqual(rows[1], 'sizes         = 780 51         # but the lists have %d and %d' % (15 * n, n))
             self.assertEqual(round_trip(wrong), wrong)
+
+    def first_row(self, data, text):
+        self.assertEqual(hireblock.show(hireblock.unpack(data)).splitlines()[0], '# A hire block: ' + text)
+
+    def test_a_cut_block_says_so(self):
+        """Cut or lengthened by whole blocks it has the length of another track."""
+        shown = '%d bytes, shown by their number as %d blocks, but the sizes, %d and %d, make %d: if it '
+        for n in 4, 20, 51:
+            cut = sample_bytes()[:58 + 160 * n]
+            self.first_row(cut, shown % (58 + 160 * n, n, 780, 52, 8378)
+                           + 'was cut, what stands as corrections begins with measurements.')
+            self.assertEqual(hireblock.unpack(cut)['clock'][:3], [1000] * 3)
+            self.assertEqual(round_trip(cut), cut)
+        longer = sample_bytes(20) + bytes(160)
+        self.first_row(longer, shown % (3418, 21, 300, 20, 3258)
+                       + 'is too long, what stands from measurement 300 on are corrections.')
+
+    def test_blocks_that_no_track_has(self):
+        """They are shown where sizes and length agree, and can't be packed again."""
+        for n, track in (1, '15 s, 1 block'), (3, '45 s, 3 blocks'), (53, '795 s, 53 blocks'), (60, '900 s, 60 blocks'):
+            data = sample_bytes(n)
+            self.first_row(data, 'one track of %s of 15 s; it will be refused: a track has 4 to 52 blocks.' % track)
+            self.assertEqual(hireblock.unpack(data)['measurements'], [1000] * (15 * n))
+            with self.assertRaises(hireblock.Bad):
+                round_trip(data)
 
     def wrong_length(self, data, message):
         with self.assertRaises(hireblock.Bad) as caught:
@@ -413,8 +470,10 @@ class RoundTrip(unittest.TestCase):
         for length in 4, 538, 697, 699, 8377, 8379, 8538:
             self.wrong_length(bytes(length), '%d bytes; %s, and the sizes 0 and 0 are of none' % (length, general))
         for n in (3, 53):
-            self.wrong_length(sample_bytes(n), '%d bytes; %s, and the sizes %d and %d are of none' % (
-                58 + 160 * n, general, 15 * n, n))
+            for data in sample_bytes(n)[:-1], sample_bytes(n) + b'\0', b'\1' + sample_bytes(n)[1:]:
+                self.wrong_length(data, '%d bytes; %s, and the sizes %d and %d are of none' % (
+                    len(data), general, *struct.unpack_from('<2H', data)))
+        self.wrong_length(bytes(58), '58 bytes; %s, and the sizes 0 and 0 are of none' % general)
         for n in (4, 20, 52):
             for data in sample_bytes(n)[:-1], sample_bytes(n) + b'\0', sample_bytes(n)[:4]:
                 self.wrong_length(data, '%d bytes, but a hire block of the sizes %d and %d has %d' % (
@@ -503,6 +562,17 @@ class CommandLine(unittest.TestCase):
         self.ends(self.run_tool('pack', '-', '-o', block, data=text), 0, remark)
         self.assertEqual(block.read_bytes(), struct.pack('<HH', 780, 52) + sample_bytes(20)[4:])
         self.ends(self.run_tool('pack', '-', '-o', block, data=text.replace(b'780 52', b'300 20')), 0)
+
+    def test_a_doubtful_block_is_shown_with_a_remark(self):
+        cut, text = sample_bytes()[:3258], self.folder / 'a.txt'
+        result = self.run_tool('show', '-', data=cut)
+        self.ends(result, 0, '-: 3258 bytes, shown by their number as 20 blocks, but the sizes, 780 and 52, make 8378: '
+                  'if it was cut, what stands as corrections begins with measurements')
+        self.assertEqual(result.stdout.decode(), hireblock.show(hireblock.unpack(cut)))
+        few = '-: it will be refused: a track has 4 to 52 blocks'
+        self.ends(self.run_tool('show', '-', '-o', text, data=sample_bytes(3)), 0, few)
+        self.assertTrue(text.exists())
+        self.ends(self.run_tool('show', '-', data=sample_bytes(4)), 0)
 
     def test_unreadable_is_2(self):
         self.ends(self.run_tool('show', '/no/such/file'), 2, "can't read /no/such/file: No such file or directory")

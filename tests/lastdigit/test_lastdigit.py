@@ -224,6 +224,10 @@ class Blocks(unittest.TestCase):
         self.assertEqual((result.returncode, result.stderr), (2, 'lastdigit: block 20: the track has 20, 0 to 19\n'))
         for arguments in ('-j', '52'), ('-j', '-1'), ('-j', 'x'), ('a.blk', '--check', DOCUMENT), ('a.blk', '--svg', 'a.svg'):
             self.assertEqual(run_tool(*arguments).returncode, 2)
+        own = 'lastdigit: error: the picture is of the worked track alone, the document of the worked and the short track\n'
+        for option in '--check', '--svg':
+            self.assertTrue(run_tool('a.blk', option, 'a').stderr.endswith(own))
+        self.assertIn('on the worked and the short track', ' '.join(run_tool('--help').stdout.split()))
 
 
 class Streams(unittest.TestCase):

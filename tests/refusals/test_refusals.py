@@ -26,6 +26,8 @@ LOADER.exec_module(hireblock)
 WORKED = hireblock.unpack((ROOT / 'examples' / 'worked.blk').read_bytes())
 COLUMNS, DELAYS = hireblock.COLUMNS, hireblock.DELAYS
 SECOND = 10 ** 12
+# the longest track in which measurements that are ten seconds late are noticed
+LATE_IS_SEEN = 13
 
 
 def answer(data):
@@ -85,6 +87,28 @@ def cut(first, last, **parts):
                            **parts})
 
 
+def without(gap):
+    """The worked track without some of its blocks, as if what follows had come before."""
+    kept = [j for j in range(52) if j not in gap]
+    lists = {name: [WORKED[name][j] for j in kept] for name in COLUMNS}
+    measurements = [WORKED['measurements'][15 * j + k] for j in kept for k in range(15)]
+    return hireblock.pack({**WORKED, **lists, 'measurements': measurements, 'sizes': [15 * len(kept), len(kept)]})
+
+
+def short(n, change):
+    """The answer to the first n blocks of the worked track with other measurements."""
+    return answer(cut(0, n, measurements=[change(i, value) for i, value in enumerate(WORKED['measurements'][:15 * n])]))
+
+
+def short_jump(n, ps, first):
+    return short(n, lambda second, value: value + ps * (second >= first))
+
+
+def fields(data):
+    """What is printed, by the places of the line's fields."""
+    return subprocess.run([PROGRAM], input=data, stdout=subprocess.PIPE, check=True).stdout.decode().split()
+
+
 class Card(unittest.TestCase):
     def all_are(self, number, answers):
         self.assertEqual(set(answers), {number})
@@ -115,6 +139,46 @@ class Card(unittest.TestCase):
         self.all_are(0, [answer(cut(n, 52)) for n in range(49)])
         line = subprocess.run([PROGRAM], input=cut(30, 52), stdout=subprocess.PIPE, check=True).stdout.split()
         self.assertEqual(line[2:5], [b'60600', b'133000', b'0330'])
+
+    def test_blocks_missing_in_mid_track(self):
+        """A gap makes the slopes steep; what follows it is taken for earlier."""
+        full, gap = fields(hireblock.pack(WORKED)), fields(without(range(10, 40)))
+        self.assertEqual((full[4], full[10], gap[4], gap[10]), ('0780', '-00041', '0330', '-00123'))
+        self.assertEqual(gap[:4], full[:4])
+        self.all_are(0, [answer(without(range(first, first + count))) for first in (1, 20, 47) for count in (1, 4)])
+
+    def test_blocks_missing_at_the_ends(self):
+        """The same TRKL and start; REFSYS falls by 4.1 ps/s, so that 450 s later it is lower by 1.8 or 1.9 ns."""
+        first, last = fields(without(range(22, 52))), fields(without(range(30)))
+        self.assertEqual((first[:5], first[4]), (last[:5], '0330'))
+        self.assertIn(int(first[9]) - int(last[9]), (18, 19))
+        self.assertEqual(without(range(22, 52)), cut(0, 22))
+
+    def test_jumps_in_short_tracks(self):
+        """In mid-track a 4 from about n x 0.1 us on, and nothing below; a 6 takes 3.5 us, whatever n is."""
+        for n in range(4, 41):
+            middle = 15 * n // 2
+            self.all_are(4, [short_jump(n, sign * n * 105000, middle) for sign in (1, -1)])
+            self.all_are(0, [short_jump(n, sign * n * 90000, middle) for sign in (1, -1)])
+        self.all_are(4, [short_jump(n, sign * ps, 15 * n // 2) for n, ps in ((4, 400000), (20, 2000000)) for sign in (1, -1)])
+        for n in (4, 13, 20, 40):
+            self.assertNotIn(6, {short_jump(n, 3400000, second) for second in range(1, 15 * n, 1 + n // 13)})
+        for n in (20, 40):
+            self.assertIn(6, {short_jump(n, 3500000, second) for second in range(1, 15 * n, 1 + n // 13)})
+
+    def test_ten_seconds_late_in_short_tracks(self):
+        numbers = WORKED['measurements']
+        for n in range(4, 53):
+            late = short(n, lambda second, _: numbers[max(second - 10, 0)])
+            self.assertEqual(late, 4 if n <= LATE_IS_SEEN else 0, n)
+
+    def test_cut_block_with_sizes_by_its_length(self):
+        """Its corrections are measurements then: a 2 here, but it need not be."""
+        worked = hireblock.pack(WORKED)
+        for n in (4, 20, 38):
+            data = hireblock.HEAD.pack(15 * n, n, *hireblock.HEAD.unpack_from(worked)[2:]) + worked[58:58 + 160 * n]
+            self.assertEqual(hireblock.unpack(data)['geometry'][0], WORKED['measurements'][15 * n])
+            self.assertEqual(answer(data), 2)
 
     def test_2(self):
         self.all_are(2, [marked(9999999999999, [second]) for second in (0, 400, 779)])

@@ -14,12 +14,20 @@ use Rattle.labels.specs.declared.Labels.{Labels}
 use Rattle.limits.specs.declared.Numbers.{Numbers}
 use Rattle.columns.specs.Columns.{readLabels, readNumbers}
 use Rattle.reader.specs.Read.{readNumber}
-use Rattle.boundary.specs.Values.{rowAfter, valuesOf, readAnswer, readAfter}
+use Rattle.boundary.specs.Values.{rowAfter, placeAfter, valuesOf, readAnswer, readAfter}
 
 -- a refusal leaves the row as it was lent
 pub row-kept : (answer : ℕ) (values lent : List ℤ) → 0 < answer → rowAfter answer values lent ≡ lent
 unfolding rowAfter
 row-kept answer values lent h = simp (ne-eqb answer 0 some)
+  where
+    some : answer ≡ 0 → ⊥
+    some e = omega arith
+
+-- and a single place too
+pub place-kept : (answer value lent : ℕ) → 0 < answer → lent ≡ placeAfter answer value lent
+unfolding placeAfter
+place-kept answer value lent h = simp (ne-eqb answer 0 some)
   where
     some : answer ≡ 0 → ⊥
     some e = omega arith

@@ -1,2 +1,2 @@
--- What must be believed: what a C caller finds in a row of numbers that it lent.
+-- What must be believed: what a C caller finds in the places that it lent for numbers.
 pub mod Values

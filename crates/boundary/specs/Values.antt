@@ -1,4 +1,4 @@
--- The rows of numbers that a C caller lends, and what stands in them afterwards (include/trackline.h).
+-- The places that a C caller lends for numbers, and what stands in them afterwards (include/trackline.h).
 -- Assumes nothing.
 use Prim.Native.Nat.{ℕ}
 use mathlib.Core.Bool.{cond}
@@ -15,6 +15,10 @@ use Rattle.reader.specs.Read.{readNumber}
 -- A lent row afterwards: the values in its first places where the answer is 0, and else as it was lent.
 unfoldable pub rowAfter : (answer : ℕ) (values lent : List ℤ) → List ℤ
 rowAfter answer values lent = cond (eqb answer 0) (values ++ drop (length values) lent) lent
+
+-- A lent place afterwards: the value where the answer is 0, and else what it held.
+unfoldable pub placeAfter : (answer value lent : ℕ) → ℕ
+placeAfter answer value lent = cond (eqb answer 0) value lent
 
 -- The 23 values of a line: its labels, in the order of the hire block, and its ten numbers.
 abbrev pub valuesOf : Labels → Numbers → List ℤ

@@ -1,6 +1,6 @@
-// Every function that C calls, with numbers and slices of them, and nothing else: the start test, Line, Block and the reader. Each is one
-// call, and its contract is that call's; what the reader hands back goes to a lent row. include/trackline.h declares them; the archive is
-// made of this crate.
+// Every function that C calls, with numbers and slices of them, and nothing else: the start test, Line, Block, the reader and merge. Each is
+// one call, and its contract is that call's; what the reader hands back goes to a lent row, and a length to a lent place.
+// include/trackline.h declares them; the archive is made of this crate.
 ghost use mathlib.Core.Path.{_≡_};
 ghost use lib.ListN.{length};
 ghost use Rattle.schedule.specs.Schedule.{startRule};
@@ -11,7 +11,9 @@ ghost use Rattle.hire.specs.Hire.{blocksIn, blockGiven};
 ghost use Rattle.line.specs.Block.{blockAnswer, blockAfter};
 ghost use Rattle.labels.specs.Given.{labelsOf, numbersOf};
 ghost use Rattle.reader.specs.Read.{commentOffset};
-ghost use Rattle.boundary.specs.Values.{readAnswer, readAfter};
+ghost use Rattle.files.specs.Merge.{mergedFile, mergeNumber, mergeAfter};
+ghost use Rattle.boundary.specs.Values.{placeAfter, readAnswer, readAfter};
+use files::Merged;
 use line::Labels;
 use line::Numbers;
 use reader::Reading;
@@ -111,7 +113,7 @@ pub extern "C" fn trackline_read(line: &[u8], lent: &mut [i64]) -> u32
 {
     let reading = reader::read(line);
     let Reading::Line { labels, numbers } = reading else {
-        return values::reading_number(reading);
+        return reader::reading_number(reading);
     };
     let row = values::values(labels, numbers);
     values::put(&row, lent)
@@ -124,4 +126,25 @@ pub extern "C" fn trackline_comment(line: &[u8]) -> usize
 {
     let comment = reader::comment(line);
     line.len() - comment.len()
+}
+
+// The lines of both files go to the lent file, and their length to the lent place.
+#[no_mangle]
+pub extern "C" fn trackline_merge(
+    first: &[u8],
+    second: &[u8],
+    file: &mut [u8],
+    written: &mut usize,
+) -> u32
+    ensures answer { λ r. ⌜ r ≡ mergeNumber (now (first .entry)) (now (second .entry)) (length (now (file .entry))) ⌝ }
+    ensures file { λ _. ⌜ now (file .exit) ≡ mergeAfter (now (first .entry)) (now (second .entry)) (now (file .entry)) ⌝ }
+    ensures written { λ r. ⌜
+        now (written .exit) ≡ placeAfter r (length (mergedFile (now (first .entry)) (now (second .entry)))) (now (written .entry)) ⌝ }
+{
+    let merged = files::merge(first, second, file);
+    let Merged::Bytes(bytes) = merged else {
+        return files::merged_number(merged);
+    };
+    *written = bytes;
+    0
 }

@@ -5,24 +5,9 @@ ghost use mathlib.Core.List.{_++_};
 ghost use lib.Dec.{ltb};
 ghost use lib.ListN.{length, drop};
 ghost use Rattle.limits.specs.Refusal.{_when_};
-ghost use Rattle.reader.specs.Answers.{readReply};
 ghost use Rattle.boundary.specs.Values.{rowAfter, valuesOf};
 use limits::Numbers;
 use line::Labels;
-use reader::Reading;
-
-// The number of a reading: that of the refusal, 0 where there is none.
-pub fn reading_number(reading: Reading) -> u32
-    ensures { λ r. ⌜ r ≡ readReply reading .number ⌝ }
-{
-    match reading {
-        Reading::Line {
-            labels: _,
-            numbers: _,
-        } => 0,
-        Reading::Refused(number) => number,
-    }
-}
 
 // The values of a line in the order in which C finds them.
 pub fn values(labels: Labels, numbers: Numbers) -> [i64; 23]

@@ -94,3 +94,11 @@ read-all low high [] e = read-empty low high
 read-all low high (z ∷ l) e =
     let o = or-false (outside low high z) (anyOutside low high l) e in
     read-cons low high z l ∙ rw (o .0, read-all low high l (o .1))
+
+-- and the first index outside is the length
+pub none-outside : (low high : ℤ) (l : List ℤ) → anyOutside low high l ≡ false → firstOutside low high l ≡ length l
+unfolding anyOutside firstOutside
+none-outside low high [] e = refl
+none-outside low high (z ∷ l) e =
+    let o = or-false (outside low high z) (anyOutside low high l) e in
+    rw (o .0, none-outside low high l (o .1))

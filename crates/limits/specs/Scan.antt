@@ -9,7 +9,8 @@ use Rattle.limits.specs.Limits.{outside}
 use Rattle.limits.specs.Lists.{anyOutside}
 use Rattle.limits.specs.declared.Scanned.{Scanned}
 
--- The index of the first number outside low to high; the length where none is outside.
+-- The index of the first number outside low to high; the length where none is outside. Law `first-outside` of proofs/Scans.antt says that it is the
+-- first: that number is outside, and none before it is.
 unfoldable pub firstOutside : ℤ → ℤ → List ℤ → ℕ
 firstOutside low high [] = 0
 firstOutside low high (z ∷ l) = cond (outside low high z) 0 (suc (firstOutside low high l))

@@ -55,6 +55,19 @@ pub fn read(line: &[u8]) -> Reading
     Reading::Line { labels, numbers }
 }
 
+// The number of a reading: that of the refusal, 0 where there is none.
+pub fn reading_number(reading: Reading) -> u32
+    ensures { λ r. ⌜ r ≡ readReply reading .number ⌝ }
+{
+    match reading {
+        Reading::Line {
+            labels: _,
+            numbers: _,
+        } => 0,
+        Reading::Refused(number) => number,
+    }
+}
+
 // The comment: the part of the line from column 114 on, or the empty part at its end where the line is refused.
 pub fn comment(line: &[u8]) -> &[u8]
     ensures { λ r. ⌜ PartFrom (commentOffset (now (line .entry))) (line .entry) r ⌝ }

@@ -35,6 +35,16 @@ extern "C" {
     fn trackline_start(mjd: u32, second: u32) -> u32;
     fn trackline_read(line: *const u8, line_len: usize, values: *mut i64, values_len: usize) -> u32;
     fn trackline_comment(line: *const u8, line_len: usize) -> usize;
+    #[rustfmt::skip]
+    fn trackline_merge(
+        first: *const u8,
+        first_len: usize,
+        second: *const u8,
+        second_len: usize,
+        file: *mut u8,
+        file_len: usize,
+        written: *mut usize,
+    ) -> u32;
 }
 
 /// A slice, or NULL with length 0.
@@ -88,4 +98,12 @@ pub fn comment(line: Bytes) -> usize {
     let (line, line_len) = as_c(line);
     // SAFETY: a live slice, or NULL with length 0, which the interface allows.
     unsafe { trackline_comment(line, line_len) }
+}
+
+pub fn merge(first: Bytes, second: Bytes, lent: LentBytes, written: &mut usize) -> u32 {
+    let (first, first_len) = as_c(first);
+    let (second, second_len) = as_c(second);
+    let (file, file_len) = lent_as_c(lent);
+    // SAFETY: live slices, or NULL with length 0, which the interface allows, and a live number.
+    unsafe { trackline_merge(first, first_len, second, second_len, file, file_len, written) }
 }

@@ -1,4 +1,5 @@
-//! Compares the archive's C functions with the plain Rust implementation on seeded blocks, lines, readings and starts.
+//! Compares the archive's C functions with the plain Rust implementation on seeded blocks, lines, readings, starts
+//! and pairs of line files.
 //!
 //!     boundary [SEED [SCALE]]
 //!
@@ -12,6 +13,8 @@ mod edges;
 mod faults;
 mod library;
 mod lines;
+mod merge_faults;
+mod merges;
 mod reading_faults;
 mod readings;
 mod starts;
@@ -33,7 +36,9 @@ fn main() -> ExitCode {
     readings::run(&mut compare, &mut Seeded::new(seed + 4), scale);
     starts::run(&mut compare, &mut Seeded::new(seed + 3), scale);
     readings::dates(&mut compare, &mut Seeded::new(seed + 5));
-    let missing = report(&compare);
+    let merged = merges::run(&mut compare, &mut Seeded::new(seed + 6), scale);
+    let mut missing = report(&compare);
+    missing.extend(merges::report(&compare, &merged));
     missing.iter().for_each(|what| eprintln!("MISSING: {what}"));
     if compare.agreed() && missing.is_empty() {
         println!("boundary: no difference");

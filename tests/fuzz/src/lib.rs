@@ -70,3 +70,24 @@ pub unsafe extern "C" fn reference_comment(line: *const u8, line_len: usize) -> 
     let line = bytes(line, line_len);
     line.len() - reference::comment(line).len()
 }
+
+/// # Safety
+/// As reference_block, and written points at one number.
+#[no_mangle]
+pub unsafe extern "C" fn reference_merge(
+    first: *const u8,
+    first_len: usize,
+    second: *const u8,
+    second_len: usize,
+    file: *mut u8,
+    file_len: usize,
+    written: *mut usize,
+) -> u32 {
+    match reference::merge(bytes(first, first_len), bytes(second, second_len), lent(file, file_len)) {
+        Ok(length) => {
+            *written = length;
+            0
+        }
+        Err(refusal) => refusal,
+    }
+}

@@ -1,5 +1,5 @@
-//! Track lines in plain Rust: smoothing, correcting, fitting, the start test, the data line, the hire block, and a line
-//! read back.
+//! Track lines in plain Rust: smoothing, correcting, fitting, the start test, the data line, the hire block, a line
+//! read back, and line files.
 //!
 //! Written from the papers alone and not from the proved program, so that the two can be compared. Every operation
 //! answers with the papers' refusal numbers, in their order.
@@ -8,8 +8,10 @@
 //! of squares is 128-bit. Build with overflow checks, as `cargo test` and the boundary test do, and an overflow panics.
 
 mod block;
+mod files;
 mod fit;
 pub mod good;
+pub mod good_files;
 mod line;
 pub mod published;
 mod reader;
@@ -20,6 +22,7 @@ pub mod waves;
 pub mod worst;
 
 pub use block::{block, block_bytes};
+pub use files::{file_lines, keys, merge, FileLine, Keys, FILE_LINE_BYTES};
 pub use fit::{fit, scatter, smooth, Fitted, LEAST_BLOCKS, MOST_BLOCKS, WEIGHTS};
 pub use line::{line, Labels, LINE_BYTES};
 pub use reader::{comment, read, read_values, values, LONGEST_LINE, VALUES};

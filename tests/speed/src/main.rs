@@ -5,12 +5,14 @@
 //!
 //! First full blocks that are accepted, 10,000 unless another number is given, and as many blocks of the shortest tracks, then ten
 //! lines for each block, read back. Each time the same blocks and lines follow, spoilt so that they are refused at one stage: what
-//! one stage costs more than the stage before it is the cost of the work between them. No time fails this program; a
-//! different answer, line or value does.
+//! one stage costs more than the stage before it is the cost of the work between them. Last, pairs of line files of as
+//! many lines as there were blocks, and of twice as many, are merged. No time fails this program; a different answer, line or
+//! value does.
 
 #[allow(dead_code)]
 #[path = "../../boundary/src/case.rs"]
 mod case;
+mod files;
 #[allow(dead_code)]
 #[path = "../../boundary/src/library.rs"]
 mod library;
@@ -111,4 +113,6 @@ fn main() {
     READ.split(4 * count, &lines, &READ_STAGES);
     COMMENT.agree(&lines, Some(LINE_BYTES as u32));
     COMMENT.whole(count, &lines);
+    drop(lines);
+    files::run(count, number as usize, &mut seeded);
 }

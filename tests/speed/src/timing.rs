@@ -86,16 +86,18 @@ impl<T: Clone + Default + PartialEq + Debug> Pair<T> {
         }
     }
 
-    /// The time of all inputs.
-    pub fn whole(&self, count: usize, inputs: &[Vec<u8>]) {
+    /// The time of all inputs. Gives the archive's median for one.
+    pub fn whole(&self, count: usize, inputs: &[Vec<u8>]) -> f64 {
         let times = self.rounds(count, inputs);
         println!("{} times a {}, {count} rounds: least, median, greatest", inputs.len(), self.input);
         let (proved, plain) = (spread(times.iter().map(|t| t.0)), spread(times.iter().map(|t| t.1)));
+        let median = proved.median;
         for (name, s) in [("proved", proved), ("plain Rust", plain)] {
             println!("  {name:22} {:8.0} {:8.0} {:8.0}  ns", s.least, s.median, s.most);
         }
         let ratio = spread(times.iter().map(|t| t.0 / t.1));
         println!("  {:22} {:8.3} {:8.3} {:8.3}", "proved / plain Rust", ratio.least, ratio.median, ratio.most);
+        median
     }
 
     /// The least pass of each over inputs that are refused at each stage.

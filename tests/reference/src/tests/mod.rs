@@ -1,5 +1,6 @@
 mod document_cases;
 mod exact;
+mod merging;
 mod numbers;
 mod published;
 mod reading;

@@ -1,0 +1,153 @@
+-- The lines of a file and its bytes (specs/Files.antt, specs/Merge.antt).
+-- Assumes nothing.
+use mathlib.Core.Path.{_≡_, refl, sym, ap, ap₂, _∙_}
+use mathlib.Core.List.{List, [], _∷_, _++_}
+use Prim.Native.Nat.{ℕ, zero, suc, _+_, _-_, _*_, _/_, _%_, _≤_, _<_}
+use native.Mathlib.Nat.{not-suc-le-zero, le-of-suc-le-suc, mul-div-cancel-left, le-of-eq}
+use native.Mathlib.Omega.{arith}
+use lib.Dec.{lit<}
+use lib.ListN.{length, take, drop, getD, length-append, length-drop, take-append-drop}
+use lib.Seq.{length-take-le, take-all, take-at, drop-at, drop-nil, drop-append-add, drop-drop}
+use borrow.Author.Tests.{eqb-true, eq-eqb, not-false}
+use Rattle.limits.specs.Refusal.{_when_, _then_}
+use Rattle.limits.proofs.Laws.{then-zero, when-zero}
+use Rattle.files.specs.Files.{endedLength, linesIn, lines, fileNumber}
+use Rattle.files.specs.Merge.{joined}
+use Rattle.files.proofs.Ascending.{Ascending, All, Accepted, lines-accepted, accepted-lines}
+
+-- A line with its end.
+abbrev pub Long : List ℕ → Type 0
+Long line = length line ≡ endedLength
+
+-- ---- lines out of bytes
+
+length-in : (n : ℕ) (bytes : List ℕ) → length (linesIn n bytes) ≡ n
+unfolding linesIn
+length-in zero bytes = refl
+length-in (suc n) bytes = ap suc (length-in n (drop endedLength bytes))
+
+pub length-lines : (file : List ℕ) → length (lines file) ≡ length file / endedLength
+unfolding lines
+length-lines file = length-in (length file / endedLength) file
+
+line-in : (n : ℕ) (bytes : List ℕ) (i : ℕ) → i < n → getD (linesIn n bytes) i [] ≡ take endedLength (drop (endedLength * i) bytes)
+unfolding linesIn
+line-in zero bytes i h = absurd (not-suc-le-zero h)
+line-in (suc n) bytes zero h = refl
+line-in (suc n) bytes (suc i) h =
+    line-in n (drop endedLength bytes) i (le-of-suc-le-suc h)
+    ∙ ap (take endedLength) (drop-drop (endedLength * i) endedLength bytes ∙ ap (λ (k : ℕ). drop k bytes) (next i))
+  where
+    next : (i : ℕ) → endedLength + endedLength * i ≡ endedLength * suc i
+    next i = omega arith
+
+pub line-at : (file : List ℕ) (i : ℕ) → i < length file / endedLength → getD (lines file) i [] ≡ take endedLength (drop (endedLength * i) file)
+unfolding lines
+line-at file i h = line-in (length file / endedLength) file i h
+
+-- the same as the part of the file that is lent
+pub line-part : (file : List ℕ) (i : ℕ) → i < length file / endedLength
+    → take (endedLength * i + endedLength - endedLength * i) (drop (endedLength * i) file) ≡ getD (lines file) i []
+line-part file i h = ap (λ (n : ℕ). take n (drop (endedLength * i) file)) (width i) ∙ sym (line-at file i h)
+  where
+    width : (i : ℕ) → endedLength * i + endedLength - endedLength * i ≡ endedLength
+    width i = omega arith
+
+pub rest-part : (file : List ℕ) (at : ℕ) → take (length file - at) (drop at file) ≡ drop at file
+rest-part file at = take-all (length file - at) (drop at file) (le-of-eq (length-drop at file))
+
+long-in : (n : ℕ) (bytes : List ℕ) → endedLength * n ≤ length bytes → All Long (linesIn n bytes)
+unfolding linesIn
+long-in zero bytes h = tt
+long-in (suc n) bytes h = (
+  length-take-le endedLength bytes (omega arith),
+  long-in n (drop endedLength bytes) (rw length-drop (omega arith)),
+)
+
+pub lines-long : (file : List ℕ) → All Long (lines file)
+unfolding lines
+lines-long file = long-in (length file / endedLength) file (omega arith)
+
+-- ---- bytes out of lines
+
+pub length-joined : (ls : List (List ℕ)) → All Long ls → length (joined ls) ≡ endedLength * length ls
+unfolding joined
+length-joined [] a = refl
+length-joined (l ∷ ls) a =
+    length-append l (joined ls) ∙ longer (length l) (length (joined ls)) (length ls) (a .0) (length-joined ls (a .1))
+  where
+    longer : (m n k : ℕ) → m ≡ endedLength → n ≡ endedLength * k → m + n ≡ endedLength * suc k
+    longer m n k e f = omega arith
+
+pub joined-drop : (m : ℕ) (ls : List (List ℕ)) → All Long ls → joined (drop m ls) ≡ drop (endedLength * m) (joined ls)
+unfolding joined
+joined-drop zero ls a = refl
+joined-drop (suc m) [] a = sym (drop-nil (endedLength * suc m))
+joined-drop (suc m) (l ∷ ls) a =
+    joined-drop m ls (a .1)
+    ∙ sym (ap (λ (k : ℕ). drop k (l ++ joined ls)) (further (length l) (a .0)) ∙ drop-append-add l (joined ls) (endedLength * m))
+  where
+    further : (n : ℕ) → n ≡ endedLength → endedLength * suc m ≡ n + endedLength * m
+    further n e = omega arith
+
+joined-in : (n : ℕ) (bytes : List ℕ) → length bytes ≡ endedLength * n → joined (linesIn n bytes) ≡ bytes
+unfolding linesIn joined
+joined-in zero [] e = refl
+joined-in zero (b ∷ bytes) e = absurd (none (length bytes) e)
+  where
+    none : (n : ℕ) → suc n ≡ endedLength * 0 → ⊥
+    none n e = omega arith
+joined-in (suc n) bytes e =
+    ap (λ (t : List ℕ). take endedLength bytes ++ t) (joined-in n (drop endedLength bytes) (rw length-drop (omega arith)))
+    ∙ take-append-drop endedLength bytes
+
+in-joined : (ls : List (List ℕ)) → All Long ls → linesIn (length ls) (joined ls) ≡ ls
+unfolding linesIn joined
+in-joined [] a = refl
+in-joined (l ∷ ls) a =
+    ap₂ (λ (t u : List ℕ). t ∷ linesIn (length ls) u) (take-at l (joined ls) endedLength (a .0)) (drop-at l (joined ls) endedLength (a .0))
+    ∙ ap (λ (t : List (List ℕ)). l ∷ t) (in-joined ls (a .1))
+
+pub lines-joined : (ls : List (List ℕ)) → All Long ls → lines (joined ls) ≡ ls
+unfolding lines
+lines-joined ls a =
+    ap (λ (n : ℕ). linesIn n (joined ls)) (ap (λ (n : ℕ). n / endedLength) (length-joined ls a) ∙ mul-div-cancel-left (length ls) (lit< tt)) ∙ in-joined ls a
+
+-- ---- a line file
+
+pub record LineFile (file : List ℕ) : Type 0 where
+  pub whole : length file ≡ endedLength * (length file / endedLength)
+  pub ascends : Ascending [] (lines file)
+  pub accepted : All Accepted (lines file)
+
+pub line-file : (file : List ℕ) → fileNumber file ≡ 0 → LineFile file
+unfolding fileNumber
+line-file file e =
+    let z = then-zero _ _ e in
+    let l = lines-accepted [] (lines file) (z .0) in
+    record {
+      whole = no-tail (eqb-true _ 0 (not-false _ (when-zero 11 _ (z .1))));
+      ascends = l .0;
+      accepted = l .1;
+    }
+  where
+    no-tail : length file % endedLength ≡ 0 → length file ≡ endedLength * (length file / endedLength)
+    no-tail h = omega arith
+
+pub line-file-zero : (file : List ℕ) → LineFile file → fileNumber file ≡ 0
+unfolding fileNumber _when_ _then_
+line-file-zero file f =
+    simp (accepted-lines [] (lines file) (f .ascends) (f .accepted), eq-eqb (length file % endedLength) 0 (no-tail (f .whole)))
+  where
+    no-tail : length file ≡ endedLength * (length file / endedLength) → length file % endedLength ≡ 0
+    no-tail h = omega arith
+
+-- a file is its lines one behind the other
+pub joined-lines : (file : List ℕ) → LineFile file → joined (lines file) ≡ file
+unfolding lines
+joined-lines file f = joined-in (length file / endedLength) file (f .whole)
+
+-- the bytes from a line on
+pub rest-lines : (file : List ℕ) → LineFile file → (m : ℕ) → joined (drop m (lines file)) ≡ drop (endedLength * m) file
+rest-lines file f m =
+    joined-drop m (lines file) (lines-long file) ∙ ap (drop (endedLength * m)) (joined-lines file f)

@@ -1,0 +1,69 @@
+//! Lines for line files, by a seed: few dates, starts and satellites, so that two lines often share some of their keys.
+
+use crate::files::{keys, Keys, FILE_LINE_BYTES};
+use crate::good::{good_labels, good_numbers, track_start};
+use crate::line::{line, LINE_BYTES};
+use crate::seeded::Seeded;
+use crate::{Labels, FIRST_MJD};
+use std::collections::BTreeMap;
+
+/// A line as it stands in a file.
+pub type Ended = [u8; FILE_LINE_BYTES];
+
+/// Dates, tracks and satellites from which lines are drawn.
+#[derive(Clone, Copy, Debug)]
+pub struct Span {
+    pub first_mjd: u32,
+    pub days: i64,
+    pub tracks: i64,
+    pub satellites: i64,
+}
+
+impl Span {
+    /// A few of each, anywhere in the schedule.
+    pub fn narrow(seeded: &mut Seeded) -> Span {
+        let first_mjd = seeded.range(FIRST_MJD.into(), 99_990) as u32;
+        Span { first_mjd, days: seeded.range(1, 3), tracks: seeded.range(1, 4), satellites: seeded.range(1, 3) }
+    }
+}
+
+fn labels_in(span: Span, seeded: &mut Seeded) -> Labels {
+    let mjd = span.first_mjd + seeded.below(span.days as u64) as u32;
+    // tracks from anywhere in the day: of two dates the later one's start is often the earlier
+    let track = 1 + seeded.below(span.tracks as u64) as i64 * 89 / span.tracks;
+    let satellite = 1 + seeded.below(span.satellites as u64) as i64 * 99 / span.satellites;
+    Labels { mjd, start: track_start(mjd, track), satellite: satellite as u8, ..good_labels(seeded) }
+}
+
+/// The line of these labels and of numbers by the seed, with its line end.
+pub fn ended_line(labels: &Labels, seeded: &mut Seeded) -> Ended {
+    let mut ended = [0; FILE_LINE_BYTES];
+    assert_eq!(line(labels, &good_numbers(seeded), &mut ended[..LINE_BYTES]), 0);
+    ended[LINE_BYTES..].copy_from_slice(b"\r\n");
+    ended
+}
+
+/// Up to so many lines, with different keys; a narrow span may have fewer.
+pub fn lines_in(span: Span, most: usize, seeded: &mut Seeded) -> BTreeMap<Keys, (Labels, Ended)> {
+    let mut lines = BTreeMap::new();
+    for _ in 0..most {
+        let labels = labels_in(span, seeded);
+        let ended = ended_line(&labels, seeded);
+        lines.insert(keys(&labels), (labels, ended));
+    }
+    lines
+}
+
+/// A file of exactly so many lines in a row: all tracks of all days from a date on, each with several satellites.
+pub fn long_file(first_mjd: u32, count: usize, seeded: &mut Seeded) -> Vec<u8> {
+    let mut file = Vec::with_capacity(FILE_LINE_BYTES * count);
+    let span = Span { first_mjd, days: 1, tracks: 89, satellites: 99 };
+    let mut day = 0;
+    while file.len() < FILE_LINE_BYTES * count {
+        let lines = lines_in(Span { first_mjd: span.first_mjd + day, ..span }, 1500, seeded);
+        let wanted = count - file.len() / FILE_LINE_BYTES;
+        lines.values().take(wanted).for_each(|(_, ended)| file.extend(ended));
+        day += 1;
+    }
+    file
+}
