@@ -16,9 +16,10 @@ abbrev pub Ascending : (last : List ℕ) → List (List ℕ) → Type 0
 Ascending last [] = Unit {0}
 Ascending last (line ∷ rest) = (before last (keys line) ≡ true) × Ascending (keys line) rest
 
-abbrev pub All : (P : List ℕ → Type 0) → List (List ℕ) → Type 0
+-- What holds of each member of a list.
+abbrev pub All : {A : Type 0} (P : A → Type 0) → List A → Type 0
 All P [] = Unit {0}
-All P (line ∷ rest) = P line × All P rest
+All P (a ∷ rest) = P a × All P rest
 
 -- A line that is not refused by itself.
 abbrev pub Accepted : List ℕ → Type 0

@@ -72,10 +72,13 @@ module _ (line : List ℕ) (e : Accepted line) where
   pub columns : Columns (columnsOf line)
   columns = columns-of (columnsOf line) (accepted (columnsOf line) read-zero .0 .columns)
 
+  pub columns-long : lineLength ≤ length (columnsOf line)
+  columns-long = accepted (columnsOf line) read-zero .0 .least
+
   -- the digits in its columns from an offset on
   pub digits-raw : (n at : ℕ) → at + n ≤ lineLength → allowed (digits n) (drop at (columnsOf line)) ≡ true
       → rawAfter 0 (row n at line) ≡ readDecimal (take n (drop at (columnsOf line))) + excess n 0
   unfolding readDecimal
   digits-raw n at h a =
-      ap (rawAfter 0) (sym (row-is n at (columnsOf line) (le-trans h (accepted (columnsOf line) read-zero .0 .least)) ∙ row-take n at lineLength line h))
+      ap (rawAfter 0) (sym (row-is n at (columnsOf line) (le-trans h columns-long) ∙ row-take n at lineLength line h))
       ∙ raw-is n 0 0 (drop at (columnsOf line)) a

@@ -10,3 +10,9 @@ pub mod Walking
 pub mod Replies
 pub mod Merging
 pub mod MergedFiles
+pub mod Figures
+pub mod Gathering
+pub mod Reports
+pub mod Extremes
+pub mod Pairing
+pub mod CommonView

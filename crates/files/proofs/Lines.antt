@@ -1,19 +1,19 @@
 -- The lines of a file and its bytes (specs/Files.antt, specs/Merge.antt).
 -- Assumes nothing.
-use mathlib.Core.Path.{_≡_, refl, sym, ap, ap₂, _∙_}
+use mathlib.Core.Path.{_≡_, refl, sym, ap, ap₂, subst, _∙_}
 use mathlib.Core.List.{List, [], _∷_, _++_}
 use Prim.Native.Nat.{ℕ, zero, suc, _+_, _-_, _*_, _/_, _%_, _≤_, _<_}
 use native.Mathlib.Nat.{not-suc-le-zero, le-of-suc-le-suc, mul-div-cancel-left, le-of-eq}
 use native.Mathlib.Omega.{arith}
 use lib.Dec.{lit<}
 use lib.ListN.{length, take, drop, getD, length-append, length-drop, take-append-drop}
-use lib.Seq.{length-take-le, take-all, take-at, drop-at, drop-nil, drop-append-add, drop-drop}
+use lib.Seq.{length-take-le, take-all, take-at, drop-at, drop-nil, drop-append-add, drop-cons, drop-drop}
 use borrow.Author.Tests.{eqb-true, eq-eqb, not-false}
 use Rattle.limits.specs.Refusal.{_when_, _then_}
 use Rattle.limits.proofs.Laws.{then-zero, when-zero}
 use Rattle.files.specs.Files.{endedLength, linesIn, lines, fileNumber}
 use Rattle.files.specs.Merge.{joined}
-use Rattle.files.proofs.Ascending.{Ascending, All, Accepted, lines-accepted, accepted-lines}
+use Rattle.files.proofs.Ascending.{Ascending, All, Accepted, all-drop, lines-accepted, accepted-lines}
 
 -- A line with its end.
 abbrev pub Long : List ℕ → Type 0
@@ -151,3 +151,8 @@ joined-lines file f = joined-in (length file / endedLength) file (f .whole)
 pub rest-lines : (file : List ℕ) → LineFile file → (m : ℕ) → joined (drop m (lines file)) ≡ drop (endedLength * m) file
 rest-lines file f m =
     joined-drop m (lines file) (lines-long file) ∙ ap (drop (endedLength * m)) (joined-lines file f)
+
+-- each of its lines is accepted
+pub line-accepted : (file : List ℕ) → LineFile file → (i : ℕ) → i < length file / endedLength → Accepted (getD (lines file) i [])
+line-accepted file f i h =
+    subst (All Accepted) (drop-cons (lines file) i [] (subst (λ (n : ℕ). i < n) (sym (length-lines file)) h)) (all-drop Accepted i (lines file) (f .accepted)) .0

@@ -75,7 +75,7 @@ merged-under y (x ∷ xs) ys a =
 abbrev Apart : (y x : List ℕ) → Type 0
 Apart y x = same (keys x) (keys y) ≡ false
 
-partners-none : (x : List ℕ) (ys : List (List ℕ)) → All (Behind (keys x)) ys → partnersOf x ys ≡ []
+pub partners-none : (x : List ℕ) (ys : List (List ℕ)) → All (Behind (keys x)) ys → partnersOf x ys ≡ []
 unfolding partnersOf
 partners-none x [] a = refl
 partners-none x (y ∷ ys) a = rw (before-apart (keys x) (keys y) (a .0)) (partners-none x ys (a .1))
@@ -115,12 +115,12 @@ module _ (x y : List ℕ) (xs ys : List (List ℕ)) (ax : Ascending (keys x) xs)
   level-merged e p q =
       ap (inserted x) (merged-under y xs ys (subst (λ (k : List ℕ). Ascending k xs) e ax)) ∙ rw (p, q)
 
-  below-partners : before (keys x) (keys y) ≡ true → partners (x ∷ xs) (y ∷ ys) ≡ partners xs (y ∷ ys)
+  pub below-partners : before (keys x) (keys y) ≡ true → partners (x ∷ xs) (y ∷ ys) ≡ partners xs (y ∷ ys)
   unfolding partners
   below-partners h =
       ap (λ (t : List (List ℕ × List ℕ)). t ++ partners xs (y ∷ ys)) (partners-none x (y ∷ ys) (all-behind (keys x) (y ∷ ys) (h, ay)))
 
-  above-partners : before (keys y) (keys x) ≡ true → partners (x ∷ xs) (y ∷ ys) ≡ partners (x ∷ xs) ys
+  pub above-partners : before (keys y) (keys x) ≡ true → partners (x ∷ xs) (y ∷ ys) ≡ partners (x ∷ xs) ys
   above-partners h = partners-under y (x ∷ xs) ys (apart-behind y (x ∷ xs) (h, ax))
 
   pub level-partners : keys x ≡ keys y → same (keys x) (keys y) ≡ true → partners (x ∷ xs) (y ∷ ys) ≡ (x, y) ∷ partners xs ys

@@ -1,17 +1,23 @@
 // Line files: lines of 115 bytes, each 113 columns and a line end, that ascend strictly by MJD, start, constellation letter and satellite
-// number. Two of them become one. A file is refused by the numbers and in the order of document 02, Job 5; the first file before the
-// second, then 15 for two lines of the same keys that differ, then 17 for a lent file that is too short. Nothing is written before all of
-// that is accepted, and nothing behind the result.
+// number. Two of them become one, or are reported on in common view. A file is refused by the numbers and in the order of document 02, Job 5;
+// the first file before the second. Merge then refuses two lines of the same keys that differ (15) and a lent file that is too short (17): nothing
+// is written before all of that is accepted, and nothing behind the result. Common view refuses a file of more than 10000 lines (19) before it
+// reads any, and files without a pair (18) in the end.
 ghost use mathlib.Core.Path.{_≡_};
 ghost use lib.ListN.{length};
 ghost use Rattle.files.specs.Merge.{mergeRule, mergeAfter};
-ghost use Rattle.files.specs.Answers.{mergeReply, mergeNumbered};
+ghost use Rattle.files.specs.View.{viewRule};
+ghost use Rattle.files.specs.Answers.{mergeReply, mergeNumbered, viewReply, viewNumbered};
 use limits::then;
 use limits::when;
 
 mod judge;
+mod pairs;
 mod rank;
 mod walk;
+
+// The bytes of 10000 lines.
+const LONGEST: usize = 1150000;
 
 // What merge answers: how many bytes it wrote, or the number of the refusal.
 pub enum Merged {
@@ -46,5 +52,56 @@ pub fn merged_number(merged: Merged) -> u32
     match merged {
         Merged::Bytes(_) => 0,
         Merged::Refused(number) => number,
+    }
+}
+
+// What common view answers: how many pairs there are, the sum of first REFSYS minus second REFSYS, the smallest and the largest of these
+// differences, in 0.1 ns; or the number of the refusal.
+pub enum View {
+    Report {
+        pairs: i64,
+        sum: i64,
+        smallest: i64,
+        largest: i64,
+    },
+    Refused(u32),
+}
+
+// Reports on the lines that are in both files by MJD, start, constellation letter, satellite and TRKL.
+pub fn common_view(first: &[u8], second: &[u8]) -> View
+    ensures answer { λ r. ⌜ viewReply r ≡ viewRule (now (first .entry)) (now (second .entry)) ⌝ }
+    ensures variant { λ r. ⌜ viewNumbered r ⌝ }
+{
+    if (LONGEST < first.len()) | (LONGEST < second.len()) {
+        return View::Refused(19);
+    }
+    let refusal = then(judge::refusal(first), judge::refusal(second));
+    if refusal != 0 {
+        return View::Refused(refusal);
+    }
+    let gathered = pairs::gather(first, second);
+    if gathered.pairs < 1 {
+        return View::Refused(18);
+    }
+    View::Report {
+        pairs: gathered.pairs,
+        sum: gathered.sum,
+        smallest: gathered.smallest,
+        largest: gathered.largest,
+    }
+}
+
+// The number of an answer: that of the refusal, 0 where there is none.
+pub fn view_number(view: View) -> u32
+    ensures { λ r. ⌜ r ≡ viewReply view .number ⌝ }
+{
+    match view {
+        View::Report {
+            pairs: _,
+            sum: _,
+            smallest: _,
+            largest: _,
+        } => 0,
+        View::Refused(number) => number,
     }
 }

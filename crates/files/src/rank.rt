@@ -14,7 +14,7 @@ fn wide(b: u8) -> u64
 }
 
 // Two bytes, as if they were digits and '0' were 0.
-fn pair(line: &[u8], at: usize) -> u64
+pub fn pair(line: &[u8], at: usize) -> u64
     requires { ⌜ at + 1 < length (now line) ⌝ }
     ensures { λ r. ⌜ (r ≡ pairAt at (now (line .entry))) × (r ≤ 2805) ⌝ }
 {

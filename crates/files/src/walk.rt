@@ -1,5 +1,5 @@
-// The walk over two line files, line by line, always at the earlier of the two lines. It is made once to measure the result, and once more to
-// write it.
+// The walk over two line files, line by line, always at the earlier of the two lines. It is made once to measure what merge makes of them, and once
+// more to write it.
 ghost use mathlib.Core.Path.{_≡_};
 ghost use mathlib.Core.Bool.{cond, not, _&&_};
 ghost use Prim.Native.Nat.{_+_, _*_, _≤_, _<_, _/_};
@@ -34,7 +34,7 @@ fn unit(b: bool) -> usize
 }
 
 // The step from line m of the first file and line n of the second.
-fn step(first: &[u8], m: usize, second: &[u8], n: usize) -> Next
+pub fn step(first: &[u8], m: usize, second: &[u8], n: usize) -> Next
     requires { ⌜ fileNumber (now first) ≡ 0 ⌝ }
     requires { ⌜ fileNumber (now second) ≡ 0 ⌝ }
     requires { ⌜ m < length (now first) / endedLength ⌝ }
