@@ -4,7 +4,6 @@
  */
 #include "cggtts.h"
 
-#include <stdio.h>
 #include <string.h>
 
 #ifndef VERSION
@@ -28,9 +27,7 @@ enum { COUNT = sizeof COMMANDS / sizeof COMMANDS[0] };
 
 static void print_usage(const struct command *command)
 {
-    char text[256];
-    snprintf(text, sizeof text, "    cggtts %s %s\n        %s\n", command->name, command->arguments, command->purpose);
-    print_text(text);
+    print_form("    cggtts %s %s\n        %s\n", command->name, command->arguments, command->purpose);
 }
 
 static int print_help(const struct command *only)
