@@ -20,8 +20,8 @@ static const struct command {
     {"check", "FILE..", "say whether each hire block is accepted, and what is to blame if not", check_command},
     {"read", "[FILE..]", "show what stands in each data line, and what is to blame if it is refused", read_command},
     {"merge", "FIRST SECOND [-o OUT]", "print the lines of two line files as one file, or write it to OUT", merge_command},
-    {"view", "FIRST SECOND [--pairs] [--svg FILE]",
-     "report how REFSYS of FIRST and of SECOND differ in the tracks of both, or print each pair; draw them", view_command},
+    {"view", "FIRST SECOND [--pairs] [--svg PICTURE]",
+     "report REFSYS of FIRST minus REFSYS of SECOND over the tracks of both, or print each pair; draw them", view_command},
     {"starts", "MJD", "print the starts of that date's 89 tracks as hhmmss, in order", starts_command},
 };
 

@@ -463,7 +463,7 @@ class Use(Scratch):
                 self.assertEqual(run(command, 'a', option), (2, b'', told))
 
     def test_help(self):
-        usage = b'cggtts view FIRST SECOND [--pairs] [--svg FILE]'
+        usage = b'cggtts view FIRST SECOND [--pairs] [--svg PICTURE]'
         status, output, errors = run('view', '--help')
         self.assertEqual((status, errors), (0, ''))
         self.assertIn(usage, output)
