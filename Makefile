@@ -15,7 +15,7 @@
 # make install       the programs, the libraries, the header, the manual pages: make install PREFIX=/usr/local DESTDIR=
 # make uninstall     remove what install put there, with the same PREFIX and DESTDIR; folders stay
 # make clean         remove target/, which holds everything that was built
-VERSION := 1.2.0
+VERSION := 1.3.0
 BLOCK ?= examples/sample.blk
 PREFIX ?= /usr/local
 SECONDS ?= 120
@@ -43,8 +43,8 @@ PROGRAM_SOURCES := $(shell find crates -name must-fail -prune -o -path 'crates/t
 # What install puts below the prefix, and uninstall removes.
 PROGRAMS := $(PROGRAM) $(CGGTTS) tools/hireblock
 PAGES := $(wildcard man/*.[1-8])
-DOCUMENTS := docs/REFUSALS.md docs/HIRE-BLOCK.md
-EXAMPLES := examples/receiver.c examples/sample.txt examples/sample.blk examples/short.txt examples/short.blk examples/first.cggtts examples/second.cggtts examples/week.cggtts
+DOCUMENTS := docs/REFUSALS.md docs/HIRE-BLOCK.md docs/COMMON-VIEW.md docs/common-view.svg
+EXAMPLES := examples/receiver.c examples/sample.txt examples/sample.blk examples/short.txt examples/short.blk examples/first.cggtts examples/second.cggtts examples/week.cggtts examples/roof-a.cggtts examples/roof-b.cggtts
 INSTALLS := $(addprefix bin/,$(notdir $(PROGRAMS))) include/trackline.h lib/libtrackline.a lib/$(SONAME) \
 	lib/libtrackline.so lib/pkgconfig/trackline.pc \
 	$(foreach page,$(PAGES),share/man/man$(subst .,,$(suffix $(page)))/$(notdir $(page))) \
@@ -102,6 +102,7 @@ beside: archive programs cggtts
 	python3 tests/trackline/test_trackline.py
 	python3 tests/cggtts/test_cggtts.py
 	python3 tests/cggtts/test_merge.py
+	python3 tests/cggtts/test_view.py
 	tools/hireblock pack examples/sample.txt | cmp - examples/sample.blk
 	tools/worked | cmp - examples/worked.txt
 	tools/hireblock pack examples/worked.txt | cmp - examples/worked.blk
@@ -110,6 +111,10 @@ beside: archive programs cggtts
 	tools/week first | cmp - examples/first.cggtts
 	tools/week second | cmp - examples/second.cggtts
 	tools/week both | cmp - examples/week.cggtts
+	tools/roof a | cmp - examples/roof-a.cggtts
+	tools/roof b | cmp - examples/roof-b.cggtts
+	tools/roof program $(CGGTTS)
+	tools/roof check docs/COMMON-VIEW.md
 	tools/lastdigit --check docs/LAST-DIGIT.md
 	tools/lastdigit --program target/bin/trackline
 	tools/lastdigit examples/short.blk --program target/bin/trackline
