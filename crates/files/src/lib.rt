@@ -75,9 +75,9 @@ pub fn common_view(first: &[u8], second: &[u8]) -> View
     if (LONGEST < first.len()) | (LONGEST < second.len()) {
         return View::Refused(19);
     }
-    let refusal = then(judge::refusal(first), judge::refusal(second));
-    if refusal != 0 {
-        return View::Refused(refusal);
+    let number = then(judge::refusal(first), judge::refusal(second));
+    if number != 0 {
+        return View::Refused(number);
     }
     let gathered = pairs::gather(first, second);
     if gathered.pairs < 1 {
