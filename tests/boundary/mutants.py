@@ -5,7 +5,7 @@
 
 For each mutant the plain Rust implementation is copied, made wrong in one way, built as an archive with the C
 functions, and put in the place of the proved one. The boundary test must then fail. The first archive is made without
-an edit, and must pass. Everything is built in a folder of its own. It takes about ten minutes and is no part of
+an edit, and must pass. Everything is built in a folder of its own. It takes about forty minutes and is no part of
 `make test`.
 """
 import os
