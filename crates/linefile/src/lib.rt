@@ -48,7 +48,10 @@ pub fn pair(line: &[u8], at: usize) -> u64
     if line.len() <= at {
         return 0;
     }
-    10 * rank::byte(line, at) + rank::byte(line, at + 1)
+    if line.len() - at < 2 {
+        return 10 * rank::wide(line[at]);
+    }
+    rank::pair(line, at)
 }
 
 // Where a walk goes on: behind the earlier of two lines, or behind both where they have the same keys.
