@@ -27,7 +27,9 @@ pub fn refusal(file: &[u8]) -> u32
         let at = LINE * i;
         let line = &file[at..at + LINE];
         let place = rank::rank(line);
-        number = then(judge::line_refusal(line), when(16, place <= last));
+        let own = judge::line_refusal(line);
+        let order = when(16, place <= last);
+        number = then(own, order);
         last = place;
         i += 1;
     }
