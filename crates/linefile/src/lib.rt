@@ -27,7 +27,9 @@ pub fn refusal(file: &[u8]) -> u32
         let at = LINE * i;
         let line = &file[at..at + LINE];
         let place = rank::rank(line);
-        number = then(judge::line_refusal(line), when(16, place <= last));
+        let own = judge::line_refusal(line);
+        let order = when(16, place <= last);
+        number = then(own, order);
         last = place;
         i += 1;
     }
@@ -48,7 +50,10 @@ pub fn pair(line: &[u8], at: usize) -> u64
     if line.len() <= at {
         return 0;
     }
-    10 * rank::byte(line, at) + rank::byte(line, at + 1)
+    if line.len() - at < 2 {
+        return 10 * rank::wide(line[at]);
+    }
+    rank::pair(line, at)
 }
 
 // Where a walk goes on: behind the earlier of two lines, or behind both where they have the same keys.

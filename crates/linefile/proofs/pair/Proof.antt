@@ -1,4 +1,4 @@
--- `linefile::pair` meets its contract: past the end both bytes count as 0.
+-- `linefile::pair` meets its contract: past the end of a list its elements count as 0.
 -- Assumes nothing.
 use Prim.Native.Nat.{_+_}
 use native.Mathlib.Omega.{arith}
@@ -13,25 +13,39 @@ returns c =
     let at = c .before .before .args .at in
     (omega (arith, List·getD-eq-default line 0 {n = at} (c .if1 .taken), List·getD-eq-default line 0 {n = at + 1} (omega (arith, c .if1 .taken))), omega arith)
 
-byte-requires : tie.Need-byte-requires
-byte-requires c κs = search needs
+sub-if2 : tie.Need-sub-if2
+sub-if2 c = search needs
+
+shared-slice-read-wide : tie.Need-shared-slice-read-wide
+shared-slice-read-wide c = search needs
+
+wide-requires : tie.Need-wide-requires
+wide-requires c κs = search needs
 
 mul-result : tie.Need-mul-result
 mul-result c = search needs
 
-add-byte : tie.Need-add-byte
-add-byte c = search needs
-
-byte-requires-2 : tie.Need-byte-requires-2
-byte-requires-2 c κs = search needs
-
-add-result : tie.Need-add-result
-add-result c = search needs
-
 returns-2 : tie.Need-returns-2
-returns-2 c = search needs
+returns-2 c =
+    let a = c .before .before .before .before .before .args in
+    let none = List·getD-eq-default (a .line .now) 0 {n = a .at + 1} (omega arith) in
+    (omega (arith, c .wide .ensures .0, none), omega (arith, c .wide .ensures .1))
+
+pair-requires : tie.Need-pair-requires
+pair-requires c κs = search needs
+
+returns-3 : tie.Need-returns-3
+returns-3 c = search needs
 
 pub pair-spec : {M : Type 1} → statement M
 pair-spec =
     tie.close
-    (tie.spec returns byte-requires mul-result add-byte byte-requires-2 add-result returns-2)
+    (tie.spec
+    returns
+    sub-if2
+    shared-slice-read-wide
+    wide-requires
+    mul-result
+    returns-2
+    pair-requires
+    returns-3)

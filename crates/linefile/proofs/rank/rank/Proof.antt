@@ -20,8 +20,11 @@ mul-mjd-2 c = search needs
 add-mjd : tie.Need-add-mjd
 add-mjd c = search needs
 
-byte-requires : tie.Need-byte-requires
-byte-requires c κs = search needs
+shared-slice-read-wide : tie.Need-shared-slice-read-wide
+shared-slice-read-wide c = search needs
+
+wide-requires : tie.Need-wide-requires
+wide-requires c κs = search needs
 
 add-mjd-2 : tie.Need-add-mjd-2
 add-mjd-2 c = search needs
@@ -47,8 +50,11 @@ pair-requires-5 c κs = search needs
 add-start-2 : tie.Need-add-start-2
 add-start-2 c = search needs
 
-byte-requires-2 : tie.Need-byte-requires-2
-byte-requires-2 c κs = search needs
+shared-slice-read-wide-2 : tie.Need-shared-slice-read-wide-2
+shared-slice-read-wide-2 c = search needs
+
+wide-requires-2 : tie.Need-wide-requires-2
+wide-requires-2 c κs = search needs
 
 pair-requires-6 : tie.Need-pair-requires-6
 pair-requires-6 c κs = search needs
@@ -84,7 +90,8 @@ rank-spec =
     pair-requires-2
     mul-mjd-2
     add-mjd
-    byte-requires
+    shared-slice-read-wide
+    wide-requires
     add-mjd-2
     pair-requires-3
     mul-start
@@ -93,7 +100,8 @@ rank-spec =
     add-start
     pair-requires-5
     add-start-2
-    byte-requires-2
+    shared-slice-read-wide-2
+    wide-requires-2
     pair-requires-6
     mul-result
     add-result
