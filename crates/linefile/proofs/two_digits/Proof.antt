@@ -1,11 +1,11 @@
--- `linefile::pair` meets its contract: past the end of a list its elements count as 0.
+-- `linefile::two_digits` meets its contract: past the end of a list its elements count as 0.
 -- Assumes nothing.
 use Prim.Native.Nat.{_+_}
 use native.Mathlib.Omega.{arith}
 use lib.ListN.{List·getD-eq-default}
 use borrow.Author.Needs.{needs}
-use Rattle.linefile.proofs.pair.Statement.{statement}
-use Rattle.linefile.proofs.pair.Tie as tie
+use Rattle.linefile.proofs.two_digits.Statement.{statement}
+use Rattle.linefile.proofs.two_digits.Tie as tie
 
 returns : tie.Need-returns
 returns c =
@@ -31,14 +31,14 @@ returns-2 c =
     let none = List·getD-eq-default (a .line .now) 0 {n = a .at + 1} (omega arith) in
     (omega (arith, c .wide .ensures .0, none), omega (arith, c .wide .ensures .1))
 
-pair-requires : tie.Need-pair-requires
-pair-requires c κs = search needs
+two-digits-requires : tie.Need-two-digits-requires
+two-digits-requires c κs = search needs
 
 returns-3 : tie.Need-returns-3
 returns-3 c = search needs
 
-pub pair-spec : {M : Type 1} → statement M
-pair-spec =
+pub two-digits-spec : {M : Type 1} → statement M
+two-digits-spec =
     tie.close
     (tie.spec
     returns
@@ -47,5 +47,5 @@ pair-spec =
     wide-requires
     mul-result
     returns-2
-    pair-requires
+    two-digits-requires
     returns-3)
