@@ -15,7 +15,7 @@
 # make install       the programs, the libraries, the header, the manual pages: make install PREFIX=/usr/local DESTDIR=
 # make uninstall     remove what install put there, with the same PREFIX and DESTDIR; folders stay
 # make clean         remove target/, which holds everything that was built
-VERSION := 1.2.0
+VERSION := 1.3.0
 BLOCK ?= examples/sample.blk
 PREFIX ?= /usr/local
 SECONDS ?= 120
@@ -33,6 +33,8 @@ STRICT := -std=c11 -Wall -Wextra -Werror -pedantic
 export CARGO_TARGET_DIR := $(CURDIR)/target/cargo
 export LINE_ARCHIVE := $(CURDIR)/$(ARCHIVE)
 CARGO := cargo --offline
+# How many crates or must-fail edits rt takes at once: with three, bench is proved beside the reader, and on two cores none waits for long.
+export RT_JOBS ?= 3
 INSTALLED := $(DESTDIR)$(abspath $(PREFIX))
 # What the archive is made of: every crate but the programs.
 SOURCES := crates.txt $(shell find crates -name must-fail -prune -o -path crates/trackline -prune -o -path crates/bench -prune -o -type f -print)
@@ -43,8 +45,8 @@ PROGRAM_SOURCES := $(shell find crates -name must-fail -prune -o -path 'crates/t
 # What install puts below the prefix, and uninstall removes.
 PROGRAMS := $(PROGRAM) $(CGGTTS) tools/hireblock
 PAGES := $(wildcard man/*.[1-8])
-DOCUMENTS := docs/REFUSALS.md docs/HIRE-BLOCK.md
-EXAMPLES := examples/receiver.c examples/sample.txt examples/sample.blk examples/short.txt examples/short.blk examples/first.cggtts examples/second.cggtts examples/week.cggtts
+DOCUMENTS := docs/REFUSALS.md docs/HIRE-BLOCK.md docs/COMMON-VIEW.md docs/common-view.svg
+EXAMPLES := examples/receiver.c examples/sample.txt examples/sample.blk examples/short.txt examples/short.blk examples/first.cggtts examples/second.cggtts examples/week.cggtts examples/roof-a.cggtts examples/roof-b.cggtts
 INSTALLS := $(addprefix bin/,$(notdir $(PROGRAMS))) include/trackline.h lib/libtrackline.a lib/$(SONAME) \
 	lib/libtrackline.so lib/pkgconfig/trackline.pc \
 	$(foreach page,$(PAGES),share/man/man$(subst .,,$(suffix $(page)))/$(notdir $(page))) \
@@ -53,7 +55,7 @@ INSTALLS := $(addprefix bin/,$(notdir $(PROGRAMS))) include/trackline.h lib/libt
 .PHONY: help run test beside proofs bench speed instructions fuzz program programs cggtts archive shared install uninstall clean
 # rt ci clears target/, where everything else is built.
 .NOTPARALLEL:
-.PHONY: one-prefix
+.PHONY: one-prefix side-by-side
 
 help:
 	@sed -n 's/^# make /make /p' Makefile
@@ -79,7 +81,11 @@ test: beside proofs
 proofs:
 	rt ci
 
-beside: archive programs cggtts
+# What the tests are of is proved at once, and not crate by crate for the archive and the programs.
+side-by-side:
+	rt check boundary trackline bench
+
+beside: side-by-side archive programs cggtts
 	rt fmt --check
 	tests/make.sh
 	python3 tests/hireblock/test_hireblock.py
@@ -93,6 +99,8 @@ beside: archive programs cggtts
 	target/boundary_test
 	$(CC) $(CFLAGS) $(STRICT) -Iinclude tests/c/files_test.c $(ARCHIVE) -o target/files_test
 	target/files_test
+	$(CC) $(CFLAGS) $(STRICT) -Iinclude tests/c/view_test.c $(ARCHIVE) -o target/view_test
+	target/view_test
 	$(CC) $(CFLAGS) $(STRICT) -Iinclude examples/receiver.c $(ARCHIVE) -o target/receiver
 	target/receiver | cmp - crates/trackline/stdout
 	python3 tests/c/receiver.py target/receiver
@@ -102,6 +110,7 @@ beside: archive programs cggtts
 	python3 tests/trackline/test_trackline.py
 	python3 tests/cggtts/test_cggtts.py
 	python3 tests/cggtts/test_merge.py
+	python3 tests/cggtts/test_view.py
 	tools/hireblock pack examples/sample.txt | cmp - examples/sample.blk
 	tools/worked | cmp - examples/worked.txt
 	tools/hireblock pack examples/worked.txt | cmp - examples/worked.blk
@@ -110,6 +119,10 @@ beside: archive programs cggtts
 	tools/week first | cmp - examples/first.cggtts
 	tools/week second | cmp - examples/second.cggtts
 	tools/week both | cmp - examples/week.cggtts
+	tools/roof a | cmp - examples/roof-a.cggtts
+	tools/roof b | cmp - examples/roof-b.cggtts
+	tools/roof program $(CGGTTS)
+	tools/roof check docs/COMMON-VIEW.md
 	tools/lastdigit --check docs/LAST-DIGIT.md
 	tools/lastdigit --program target/bin/trackline
 	tools/lastdigit examples/short.blk --program target/bin/trackline

@@ -12,14 +12,6 @@ enum { MOST = TRACKLINE_GROUPS, SPAN = TRACKLINE_MEASUREMENTS_OF(1) };
 
 static const int64_t WEIGHTS[SPAN] = {-78, -13, 42, 87, 122, 147, 162, 167, 162, 147, 122, 87, 42, -13, -78};
 
-/* The nearest whole number to numerator / divisor, a tie going up. */
-static int64_t nearest(int64_t numerator, int64_t divisor)
-{
-    int64_t doubled = 2 * numerator + divisor;
-    int64_t quotient = doubled / (2 * divisor);
-    return quotient - (doubled % (2 * divisor) < 0);
-}
-
 static int64_t smoothed(const uint8_t *block, size_t j)
 {
     int64_t sum = 0;

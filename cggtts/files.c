@@ -101,20 +101,30 @@ int looks_like_text(const struct bytes *bytes)
         && memchr(bytes->at, '=', bytes->length) != NULL;
 }
 
-/* Whether two names are of one file that stands. */
-int same_file(const char *one, const char *other)
+/* What is known of a file that is read, by its name or as standard input. Answers whether it stands. */
+static int input_stands(const char *name, struct stat *state)
 {
-    struct stat a, b;
-    return stat(one, &a) == 0 && stat(other, &b) == 0 && a.st_dev == b.st_dev && a.st_ino == b.st_ino;
+    return (strcmp(name, "-") == 0 ? fstat(STDIN_FILENO, state) : stat(name, state)) == 0;
 }
 
-/* Whether a file to be read, by its name or as standard input, is the one that standard output goes to. */
+/* Whether two are one file. Devices and pipes do not count: what is written to them takes nothing from what is read. */
+static int one_file(const struct stat *one, const struct stat *other)
+{
+    return S_ISREG(one->st_mode) && one->st_dev == other->st_dev && one->st_ino == other->st_ino;
+}
+
+/* Whether a file to be written is one that is read. */
+int is_input(const char *output, const char *input)
+{
+    struct stat out, in;
+    return strcmp(output, "-") != 0 && stat(output, &out) == 0 && input_stands(input, &in) && one_file(&out, &in);
+}
+
+/* Whether a file that is read is the one that standard output goes to. */
 int is_standard_output(const char *name)
 {
     struct stat in, out;
-    int stands = strcmp(name, "-") == 0 ? fstat(STDIN_FILENO, &in) == 0 : stat(name, &in) == 0;
-    return stands && fstat(STDOUT_FILENO, &out) == 0 && S_ISREG(out.st_mode) && in.st_dev == out.st_dev
-        && in.st_ino == out.st_ino;
+    return input_stands(name, &in) && fstat(STDOUT_FILENO, &out) == 0 && one_file(&out, &in);
 }
 
 /* Writes all of it and closes the file, whatever happens. */

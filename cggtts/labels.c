@@ -20,15 +20,27 @@ static const struct range RANGES[] = {
     RANGE(AZTH, 0, 3599),
 };
 
-/* The letters, and the ranges that go by them. */
+/* The letters, their names and the ranges that go by them. */
 static const struct constellation {
     uint8_t letter;
+    const char *name;
     struct range ioe, fr;
 } CONSTELLATIONS[] = {
-    {'G', RANGE(IOE, 0, 255), RANGE(FR, 0, 0)}, {'R', RANGE(IOE, 1, 96), RANGE(FR, 1, 24)},
-    {'E', RANGE(IOE, 0, 999), RANGE(FR, 0, 0)}, {'C', RANGE(IOE, 0, 23), RANGE(FR, 0, 0)},
-    {'J', RANGE(IOE, 0, 255), RANGE(FR, 0, 0)},
+    {'G', "GPS", RANGE(IOE, 0, 255), RANGE(FR, 0, 0)},     {'R', "GLONASS", RANGE(IOE, 1, 96), RANGE(FR, 1, 24)},
+    {'E', "Galileo", RANGE(IOE, 0, 999), RANGE(FR, 0, 0)}, {'C', "BeiDou", RANGE(IOE, 0, 23), RANGE(FR, 0, 0)},
+    {'J', "QZSS", RANGE(IOE, 0, 255), RANGE(FR, 0, 0)},
 };
+enum { LETTERS = sizeof CONSTELLATIONS / sizeof CONSTELLATIONS[0] };
+
+/* By its letter, which is that of an accepted line. */
+const char *constellation_name(uint8_t letter)
+{
+    const struct constellation *of = CONSTELLATIONS;
+    while (of < CONSTELLATIONS + LETTERS - 1 && of->letter != letter) {
+        of++;
+    }
+    return of->name;
+}
 
 /* `of` ends the message: what the range goes by. */
 static void explain_range(const uint8_t *block, const struct range *range, const char *of)
@@ -56,7 +68,7 @@ static void explain_constellation(const uint8_t *block)
 {
     uint8_t letter = block[TRACKLINE_AT_CONSTELLATION];
     char room[8], of[] = " for ?";
-    for (size_t i = 0; i < sizeof CONSTELLATIONS / sizeof CONSTELLATIONS[0]; i++) {
+    for (size_t i = 0; i < LETTERS; i++) {
         if (CONSTELLATIONS[i].letter == letter) {
             of[5] = (char)letter;
             explain_range(block, &CONSTELLATIONS[i].fr, of);

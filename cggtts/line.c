@@ -65,11 +65,6 @@ int line_command(int argc, char **argv)
     if (read_arguments(argc, argv, WITH_OUTPUT, &given) != ACCEPTED) {
         return FAILED;
     }
-    for (int i = 0; given.output != NULL && i < given.count; i++) {
-        if (same_file(given.output, given.names[i])) {
-            return wrong_use("line: a block would be overwritten");
-        }
-    }
     return given.output == NULL ? print_lines(given.count, given.names)
                                 : write_lines(given.output, given.count, given.names);
 }

@@ -4,7 +4,6 @@
  */
 #include "cggtts.h"
 
-#include <stdio.h>
 #include <string.h>
 
 #ifndef VERSION
@@ -21,6 +20,8 @@ static const struct command {
     {"check", "FILE..", "say whether each hire block is accepted, and what is to blame if not", check_command},
     {"read", "[FILE..]", "show what stands in each data line, and what is to blame if it is refused", read_command},
     {"merge", "FIRST SECOND [-o OUT]", "print the lines of two line files as one file, or write it to OUT", merge_command},
+    {"view", "FIRST SECOND [--pairs] [--svg PICTURE]",
+     "report REFSYS of FIRST minus REFSYS of SECOND over the tracks of both, or print each pair; draw them", view_command},
     {"starts", "MJD", "print the starts of that date's 89 tracks as hhmmss, in order", starts_command},
 };
 
@@ -28,9 +29,7 @@ enum { COUNT = sizeof COMMANDS / sizeof COMMANDS[0] };
 
 static void print_usage(const struct command *command)
 {
-    char text[256];
-    snprintf(text, sizeof text, "    cggtts %s %s\n        %s\n", command->name, command->arguments, command->purpose);
-    print_text(text);
+    print_form("    cggtts %s %s\n        %s\n", command->name, command->arguments, command->purpose);
 }
 
 static int print_help(const struct command *only)

@@ -2,6 +2,7 @@
 #include "cggtts.h"
 
 #include <errno.h>
+#include <stdarg.h>
 #include <stdio.h>
 #include <string.h>
 
@@ -23,6 +24,15 @@ void print_bytes(const void *bytes, size_t length)
 void print_text(const char *text)
 {
     print_bytes(text, strlen(text));
+}
+
+void print_form(const char *form, ...)
+{
+    va_list given;
+    va_start(given, form);
+    errno = 0;
+    note(vprintf(form, given) < 0);
+    va_end(given);
 }
 
 /* What is on its way goes out now: a failure counts as one of a later byte would. */

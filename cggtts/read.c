@@ -5,26 +5,16 @@
 #include <stdio.h>
 #include <string.h>
 
-static const char *constellation(int64_t letter)
-{
-    switch (letter) {
-    case 'G': return "GPS";
-    case 'R': return "GLONASS";
-    case 'E': return "Galileo";
-    case 'C': return "BeiDou";
-    default: return "QZSS";
-    }
-}
-
 /* The value as people say it. */
 static void put_value(const struct field *field, const int64_t *values, char *text, size_t size)
 {
     int64_t value = field->place < TRACKLINE_VALUES ? values[field->place] : 0;
     uint64_t magnitude = value < 0 ? -(uint64_t)value : (uint64_t)value;
     const char *gap = field->unit[0] != '\0' ? " " : "";
+    char tenths[DECIMAL_ROOM];
     switch (field->form) {
     case LETTER:
-        snprintf(text, size, "%s", constellation(value));
+        snprintf(text, size, "%s", constellation_name((uint8_t)value));
         break;
     case WHOLE:
         snprintf(text, size, "%" PRId64 "%s%s", value, gap, field->unit);
@@ -33,7 +23,7 @@ static void put_value(const struct field *field, const int64_t *values, char *te
         snprintf(text, size, "%02" PRIX64, magnitude);
         break;
     case TENTHS:
-        snprintf(text, size, "%s%" PRIu64 ".%" PRIu64 "%s%s", value < 0 ? "-" : "", magnitude / 10, magnitude % 10, gap, field->unit);
+        snprintf(text, size, "%s%s%s", decimal_text(value, 1, tenths), gap, field->unit);
         break;
     case CLOCK:
         snprintf(text, size, "%02" PRIu64 ":%02" PRIu64 ":%02" PRIu64 ", second %" PRIu64, magnitude / 3600, magnitude / 60 % 60,
@@ -91,7 +81,7 @@ static int read_lines(const char *name)
     int status = read_file(name, &file);
     size_t from = 0, number = 0;
     while (status != FAILED && (from < file.length || number == 0)) {
-        char place[4200];
+        char place[NAME_ROOM];
         const uint8_t *line = file.at + from, *end = memchr(line, '\n', file.length - from);
         size_t length = end != NULL ? (size_t)(end - line) : file.length - from;
         from += length + (end != NULL);

@@ -4,7 +4,7 @@
 #include <inttypes.h>
 #include <stdio.h>
 
-enum { DAY = 86400, MINUTE = 60, NONE = -1 };
+enum { MINUTE = 60, NONE = -1 };
 
 /* The first start from a second on, in steps of 1 or -1, within the day. */
 static int64_t nearest_start(uint32_t mjd, int64_t second, int step)

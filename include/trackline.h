@@ -1,12 +1,12 @@
 /*
- * trackline: one CGGTTS data line of 113 columns from a satellite track of 1 to 13 minutes, what stands in such a line, and
- * one file of lines from two.
+ * trackline: one CGGTTS data line of 113 columns from a satellite track of 1 to 13 minutes, what stands in such a line,
+ * one file of lines from two, and the common view of two.
  *
  * Each function but trackline_comment answers 0 when it accepts and the number of its refusal otherwise. A slice is a
  * pointer and a length; NULL with length 0 is an empty slice. A function that accepts writes the first 113 bytes of the
- * lent line, with no byte of zero after them, the first 23 of the lent values, or the first *written bytes of
- * the lent file; one that refuses writes nothing. What is written to must not overlap anything else of the call. Nothing is
- * kept between calls, so that threads may call at once on lines of their own.
+ * lent line, with no byte of zero after them, the first 23 of the lent values, the first *written bytes of the lent file,
+ * or the first 4 numbers of the lent report; one that refuses writes nothing. What is written to must not overlap
+ * anything else of the call. Nothing is kept between calls, so that threads may call at once on lines of their own.
  */
 #ifndef TRACKLINE_H
 #define TRACKLINE_H
@@ -85,28 +85,30 @@ extern "C" {
  * below the folder of the installation says what to do about each. 10 does not arise, as the other limits leave no room
  * for it.
  */
-#define TRACKLINE_REFUSALS(X)                                                                                 \
-    X(1, TRACKLINE_COUNT, "the block's two sizes are not 15 n and n, n from 4 to 52")                         \
-    X(2, TRACKLINE_LIMIT, "a measurement, a correction or a delay is beyond its limit")                       \
-    X(3, TRACKLINE_MIDPOINT, "REFSV or REFSYS has more than ten digits")                                      \
-    X(4, TRACKLINE_SLOPE, "SRSV or SRSYS has more than five digits, or SMDT or SMDI more than three")         \
-    X(5, TRACKLINE_DELAY, "MDTR or MDIO is below 0 or has more than four digits")                             \
-    X(6, TRACKLINE_SCATTER, "DSG is below 0 or has more than four digits")                                    \
-    X(7, TRACKLINE_LABEL, "a label is out of its range, or the track length is not 15 n, n from 4 to 52")     \
-    X(8, TRACKLINE_START, "no track of that day starts at that second")                                       \
-    X(9, TRACKLINE_LENT, "the lent line is under 113 bytes, or fewer than 23 values are lent")                \
-    X(10, TRACKLINE_CORRECTED, "a corrected value is beyond its limit")                                       \
-    X(11, TRACKLINE_LENGTH, "the block is under 4 bytes or not as long as its sizes make it")                 \
-    X(12, TRACKLINE_LINE_LENGTH, "the line is not 113 to 140 bytes long, or a file's last line is under 115") \
-    X(13, TRACKLINE_CHARACTER, "a character is not allowed in its column or line end")                        \
-    X(14, TRACKLINE_CHECKSUM, "CK is not the two capital digits of the sum of the columns before it")         \
-    X(15, TRACKLINE_DIFFER, "two lines have the same MJD, start, letter and satellite, and differ")           \
-    X(16, TRACKLINE_ORDER, "the lines do not ascend by MJD, start, letter and satellite")                     \
-    X(17, TRACKLINE_ROOM, "the lent file is shorter than the result")
+#define TRACKLINE_REFUSALS(X)                                                                                          \
+    X(1, TRACKLINE_COUNT, "the block's two sizes are not 15 n and n, n from 4 to 52")                                  \
+    X(2, TRACKLINE_LIMIT, "a measurement, a correction or a delay is beyond its limit")                                \
+    X(3, TRACKLINE_MIDPOINT, "REFSV or REFSYS has more than ten digits")                                               \
+    X(4, TRACKLINE_SLOPE, "SRSV or SRSYS has more than five digits, or SMDT or SMDI more than three")                  \
+    X(5, TRACKLINE_DELAY, "MDTR or MDIO is below 0 or has more than four digits")                                      \
+    X(6, TRACKLINE_SCATTER, "DSG is below 0 or has more than four digits")                                             \
+    X(7, TRACKLINE_LABEL, "a label is out of its range, or the track length is not 15 n, n from 4 to 52")              \
+    X(8, TRACKLINE_START, "no track of that day starts at that second")                                                \
+    X(9, TRACKLINE_LENT, "the lent line is under 113 bytes, the lent values are under 23, or the lent report under 4") \
+    X(10, TRACKLINE_CORRECTED, "a corrected value is beyond its limit")                                                \
+    X(11, TRACKLINE_LENGTH, "the block is under 4 bytes or not as long as its sizes make it")                          \
+    X(12, TRACKLINE_LINE_LENGTH, "the line is not 113 to 140 bytes long, or a file's last line is under 115")          \
+    X(13, TRACKLINE_CHARACTER, "a character is not allowed in its column or line end")                                 \
+    X(14, TRACKLINE_CHECKSUM, "CK is not the two capital digits of the sum of the columns before it")                  \
+    X(15, TRACKLINE_DIFFER, "two lines have the same MJD, start, letter and satellite, and differ")                    \
+    X(16, TRACKLINE_ORDER, "the lines do not ascend by MJD, start, letter and satellite")                              \
+    X(17, TRACKLINE_ROOM, "the lent file is shorter than the result")                                                  \
+    X(18, TRACKLINE_NO_PAIR, "no two lines, one of each file, have the same MJD, start, letter, satellite and TRKL")   \
+    X(19, TRACKLINE_FILE_LENGTH, "a file is longer than 1150000 bytes, which are 10000 lines")
 
 #define TRACKLINE_NUMBER(number, name, text) name = number,
 enum trackline_refusal {
-    TRACKLINE_ACCEPTED = 0, /* the line is written, or its values are, or the file is */
+    TRACKLINE_ACCEPTED = 0, /* the line is written, or its values are, or the file or the report is */
     TRACKLINE_REFUSALS(TRACKLINE_NUMBER)
 };
 #undef TRACKLINE_NUMBER
@@ -202,6 +204,35 @@ size_t trackline_comment(const uint8_t *line, size_t line_len);
  */
 uint32_t trackline_merge(const uint8_t *first, size_t first_len, const uint8_t *second, size_t second_len,
                          uint8_t *file, size_t file_len, size_t *written);
+
+/* As many lines as a file may have whose common view is taken. */
+#define TRACKLINE_FILE_MOST_LINES 10000
+
+/*
+ * The places of a common view's report. A pair is a line of each file, both with the same four keys and the same TRKL;
+ * its difference is REFSYS of the first file less REFSYS of the second, in 0.1 ns. The mean is SUM over PAIRS: it is not
+ * divided, so nothing is rounded, and the reports of two weeks join to one: PAIRS and SUM are added, the lesser SMALLEST and
+ * the greater LARGEST taken.
+ */
+enum trackline_report {
+    TRACKLINE_REPORT_PAIRS,    /* how many pairs there are, from 1 up */
+    TRACKLINE_REPORT_SUM,      /* of their differences, 0.1 ns */
+    TRACKLINE_REPORT_SMALLEST, /* difference, 0.1 ns */
+    TRACKLINE_REPORT_LARGEST,  /* difference, 0.1 ns */
+    TRACKLINE_REPORT_NUMBERS   /* how many there are: 4 */
+};
+
+/*
+ * The common view of two line files: its report is written to the first 4 of the lent numbers.
+ *
+ * Tried in this order: 19 if either file has more than TRACKLINE_FILE_MOST_LINES * TRACKLINE_FILE_LINE_BYTES bytes,
+ * whatever stands in it; the first file, then the second, each as trackline_merge tries it; 18 if there is no pair, as
+ * with an empty file; 9 if fewer than 4 numbers are lent. Lines of the same keys may differ: with another TRKL they are
+ * no pair, and the other columns are not compared. first and second may be the same. Which of them a number is of, each
+ * handed alone to trackline_merge tells.
+ */
+uint32_t trackline_view(const uint8_t *first, size_t first_len, const uint8_t *second, size_t second_len,
+                        int64_t *report, size_t report_len);
 
 #ifdef __cplusplus
 }

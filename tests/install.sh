@@ -31,6 +31,10 @@ CGGTTS=$prefix/bin/cggtts python3 tests/cggtts/test_merge.py >"$scratch/log" 2>&
     cat "$scratch/log" >&2
     fail 'the installed cggtts merge'
 }
+CGGTTS=$prefix/bin/cggtts python3 tests/cggtts/test_view.py >"$scratch/log" 2>&1 || {
+    cat "$scratch/log" >&2
+    fail 'the installed cggtts view'
+}
 
 # the README's merge, as it is written, among the installed examples
 sed -n 's/^    \$ \(cggtts merge\|cmp\) /\1 /p' README.md >"$scratch/commands"
@@ -41,6 +45,17 @@ sed -n 's/^    \$ \(cggtts merge\|cmp\) /\1 /p' README.md >"$scratch/commands"
     rm merged.cggtts
 ) || fail "the README's merge"
 cmp examples/week.cggtts "$prefix/share/trackline/examples/week.cggtts"
+
+# the installed paper's run on the installed examples, and its picture
+(
+    cd "$prefix/share/trackline/examples"
+    sed -n 's/^    \$ \(cggtts view .*\)/\1/p' "$prefix/share/doc/trackline/COMMON-VIEW.md" >"$scratch/commands"
+    [ "$(wc -l <"$scratch/commands")" -eq 1 ]
+    PATH=$prefix/bin:$PATH bash -eu "$scratch/commands" >"$scratch/report"
+    sed -n '/^    \$ cggtts view/,/^$/ s/^    \([^$].*\)/\1/p' "$prefix/share/doc/trackline/COMMON-VIEW.md" | cmp - "$scratch/report"
+    cmp common-view.svg "$prefix/share/doc/trackline/common-view.svg"
+    rm common-view.svg
+) || fail "the run in COMMON-VIEW.md"
 cmp docs/REFUSALS.md "$prefix/share/doc/trackline/REFUSALS.md"
 cmp docs/HIRE-BLOCK.md "$prefix/share/doc/trackline/HIRE-BLOCK.md"
 
@@ -103,7 +118,7 @@ pkg-config --exact-version "$(sed -n 's/^VERSION := //p' Makefile)" trackline ||
 
 # what the shared library exports and needs
 exports=$(nm -D --defined-only "$prefix/lib/libtrackline.so" | awk '{print $3}' | sort | xargs)
-[ "$exports" = 'trackline_block trackline_comment trackline_line trackline_merge trackline_read trackline_start' ] || fail "the shared library exports: $exports"
+[ "$exports" = 'trackline_block trackline_comment trackline_line trackline_merge trackline_read trackline_start trackline_view' ] || fail "the shared library exports: $exports"
 needs=$(ldd "$prefix/lib/libtrackline.so" | awk '{print $1}' | grep -vE '^(linux-vdso|libc|/lib.*/ld-linux|statically)' || true)
 [ -z "$needs" ] || fail "the shared library needs: $needs"
 

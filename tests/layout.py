@@ -4,7 +4,7 @@
     python3 tests/layout.py
 
 tests/blocks.py has it from the paper; include/trackline.h, docs/HIRE-BLOCK.md and man/hireblock.5 must say the same. The
-header's places of a line's values are those of what trackline_line is given.
+header's places of a line's values are those of what trackline_line is given, and those of a report document 02's.
 """
 import pathlib
 import re
@@ -13,6 +13,8 @@ import sys
 from blocks import AT, COLUMNS, DELAYS, LENGTH, OF
 
 ROOT = pathlib.Path(__file__).resolve().parent.parent
+# the numbers of a common view's report, as document 02 names them in order
+REPORT = ['PAIRS', 'SUM', 'SMALLEST', 'LARGEST']
 
 
 def paper(n=52):
@@ -35,7 +37,8 @@ def wrong_in_header(text):
     wanted.update({'IN_GROUP_' + name: at for name, (at, _) in in_group().items()})
     wanted.update({'WIDTH_' + name: width for name, (at, width) in paper().items() if at < 26})
     wanted.update({'WIDTH_PS': 8, 'WIDTH_GROUP': 40, 'MEASUREMENTS': 780, 'LEAST_GROUPS': 4, 'GROUPS': 52,
-                   'BLOCK_BYTES': LENGTH, 'LINE_BYTES': 113, 'LONGEST_LINE': 140, 'FILE_LINE_BYTES': 115})
+                   'BLOCK_BYTES': LENGTH, 'LINE_BYTES': 113, 'LONGEST_LINE': 140, 'FILE_LINE_BYTES': 115,
+                   'FILE_MOST_LINES': 10000})
     return sorted(set(wanted.items()) ^ set(found.items())) + wrong_by_blocks(text, found)
 
 
@@ -55,7 +58,9 @@ def wrong_in_values(text):
     given = re.search(r'trackline_line\((.*?)\);', text, re.S).group(1)
     names = [name.upper() for name in re.findall(r' (\w+)(?:,|$)', given)][:23]
     found = re.findall(r'(?m)^    TRACKLINE_VALUE_(\w+),$', text)
-    return [] if found == names and len(found) == 23 else [('values', found)]
+    report = re.findall(r'(?m)^    TRACKLINE_REPORT_(\w+)\b', text)
+    wrong = [] if found == names and len(found) == 23 else [('values', found)]
+    return wrong + ([] if report == REPORT + ['NUMBERS'] else [('report', report)])
 
 
 def number(text, n):

@@ -41,7 +41,9 @@ MEANINGS = {1: "the block's two sizes are not 15 n and n, n from 4 to 52",
             13: 'a character is not allowed in its column or line end',
             14: 'CK is not the two capital digits of the sum of the columns before it',
             15: 'two lines have the same MJD, start, letter and satellite, and differ',
-            16: 'the lines do not ascend by MJD, start, letter and satellite'}
+            16: 'the lines do not ascend by MJD, start, letter and satellite',
+            18: 'no two lines, one of each file, have the same MJD, start, letter, satellite and TRKL',
+            19: 'a file is longer than 1150000 bytes, which are 10000 lines'}
 OWN = ' (worked out by cggtts, not by the library)'
 ONE_TOO_MANY = "starts: '50723' is one word too many"
 
@@ -224,10 +226,47 @@ class LineToFile(Scratch):
         self.assertEqual(os.listdir(self.folder), [])
 
     def test_a_block_is_not_overwritten(self):
-        path = self.kept('a.blk', block())
-        self.assertEqual(run('line', '-o', path, path),
-                         (2, b'', 'cggtts: line: a block would be overwritten; try cggtts --help\n'))
+        path, link = self.kept('a.blk', block()), self.folder / 'link'
+        link.symlink_to('a.blk')
+        for out in (path, link):
+            told = 'cggtts: line: %s is read, and would be overwritten; try cggtts --help\n' % out
+            self.assertEqual(run('line', '-o', out, path), (2, b'', told))
+            self.assertEqual(run('line', SAMPLE, path, '-o', out), (2, b'', told))
+            with path.open('rb') as read:
+                done = subprocess.run([PROGRAM, 'line', '-', '-o', out], stdin=read, capture_output=True, check=False)
+            self.assertEqual((done.returncode, done.stdout, done.stderr.decode()), (2, b'', told))
         self.assertEqual(path.read_bytes(), block())
+
+
+class StandardOutput(Scratch):
+    """What is read is not what is written to, which the shell would have emptied."""
+
+    def test_a_file_that_is_read(self):
+        path, link = self.kept('a', WORKED_LINE), self.folder / 'link'
+        link.symlink_to('a')
+        for command in ('line', 'check', 'read'):
+            for files in ([path], [link], [SAMPLE, path], ['--', path]):
+                with path.open('ab') as behind:
+                    told = 'cggtts: %s: is also standard output\n' % files[-1]
+                    self.assertEqual(run(command, *files, stdout=behind), (2, None, told))
+            with path.open('rb') as read, path.open('ab') as behind:
+                done = subprocess.run([PROGRAM, command, '-'], stdin=read, stdout=behind, stderr=subprocess.PIPE, check=False)
+            self.assertEqual((done.returncode, done.stderr), (2, b'cggtts: -: is also standard output\n'))
+        with path.open('rb') as read, path.open('ab') as behind:
+            done = subprocess.run([PROGRAM, 'read'], stdin=read, stdout=behind, stderr=subprocess.PIPE, check=False)
+        self.assertEqual((done.returncode, done.stderr), (2, b'cggtts: -: is also standard output\n'))
+        self.assertEqual(path.read_bytes(), WORKED_LINE)
+
+    def test_the_shell_s_own_way(self):
+        path = self.kept('a.blk', block())
+        done = subprocess.run(['/bin/sh', '-c', '"$0" line "$1" >"$1"', PROGRAM, path], capture_output=True, check=False)
+        self.assertEqual((done.returncode, done.stderr.decode()), (2, 'cggtts: %s: is also standard output\n' % path))
+
+    def test_devices_are_no_files(self):
+        with open('/dev/null', 'r+b') as nothing:
+            done = subprocess.run([PROGRAM, 'read', '/dev/null'], stdin=nothing, stdout=nothing, stderr=subprocess.PIPE, check=False)
+        self.assertEqual((done.returncode, done.stderr.decode()), (1, '/dev/null:1: refused 12: %s\n  it has 0 bytes\n' % MEANINGS[12]))
+        self.assertEqual(run('line', SAMPLE, '-o', '/dev/null'), (0, b'', ''))
 
 
 # A close that fails, as on a network disk: put before the system's own.

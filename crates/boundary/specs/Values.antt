@@ -11,6 +11,8 @@ use Rattle.labels.specs.declared.Labels.{Labels}
 use Rattle.limits.specs.declared.Numbers.{Numbers}
 use Rattle.columns.specs.Columns.{readLabels, readNumbers}
 use Rattle.reader.specs.Read.{readNumber}
+use Rattle.viewing.specs.declared.Figures.{Figures}
+use Rattle.viewing.specs.View.{figures, viewed, viewNumber}
 
 -- A lent row afterwards: the values in its first places where the answer is 0, and else as it was lent.
 unfoldable pub rowAfter : (answer : ℕ) (values lent : List ℤ) → List ℤ
@@ -36,3 +38,16 @@ readAnswer line room = readNumber line then 9 when ltb room 23
 unfoldable pub readAfter : (line : List ℕ) (lent : List ℤ) → List ℤ
 readAfter line lent =
     rowAfter (readAnswer line (length lent)) (valuesOf (readLabels line) (readNumbers line)) lent
+
+-- The four values of a common view report.
+abbrev pub reportOf : Figures → List ℤ
+reportOf f = f .pairs ∷ f .sum ∷ f .smallest ∷ f .largest ∷ []
+
+-- Common view's refusals, then 9 where fewer than 4 places are lent. `room` is their number.
+unfoldable pub viewAnswer : (first second : List ℕ) (room : ℕ) → ℕ
+viewAnswer first second room = viewNumber first second then 9 when ltb room 4
+
+-- The lent places afterwards.
+unfoldable pub viewAfter : (first second : List ℕ) (lent : List ℤ) → List ℤ
+viewAfter first second lent =
+    rowAfter (viewAnswer first second (length lent)) (reportOf (figures (viewed first second))) lent

@@ -1,5 +1,5 @@
-// Every function that C calls, with numbers and slices of them, and nothing else: the start test, Line, Block, the reader and merge. Each is
-// one call, and its contract is that call's; what the reader hands back goes to a lent row, and a length to a lent place.
+// Every function that C calls, with numbers and slices of them, and nothing else: the start test, Line, Block, the reader, merge and common view.
+// Each is one call, and its contract is that call's; what the reader or common view hands back goes to a lent row, and a length to a lent place.
 // include/trackline.h declares them; the archive is made of this crate.
 ghost use mathlib.Core.Path.{_≡_};
 ghost use lib.ListN.{length};
@@ -11,9 +11,10 @@ ghost use Rattle.hire.specs.Hire.{blocksIn, blockGiven};
 ghost use Rattle.line.specs.Block.{blockAnswer, blockAfter};
 ghost use Rattle.labels.specs.Given.{labelsOf, numbersOf};
 ghost use Rattle.reader.specs.Read.{commentOffset};
-ghost use Rattle.files.specs.Merge.{mergedFile, mergeNumber, mergeAfter};
-ghost use Rattle.boundary.specs.Values.{placeAfter, readAnswer, readAfter};
+ghost use Rattle.merging.specs.Merge.{mergedFile, mergeNumber, mergeAfter};
+ghost use Rattle.boundary.specs.Values.{placeAfter, readAnswer, readAfter, viewAnswer, viewAfter};
 use files::Merged;
+use files::View;
 use line::Labels;
 use line::Numbers;
 use reader::Reading;
@@ -147,4 +148,24 @@ pub extern "C" fn trackline_merge(
     };
     *written = bytes;
     0
+}
+
+// The report on two files goes to the first four of the lent places.
+#[no_mangle]
+pub extern "C" fn trackline_view(first: &[u8], second: &[u8], lent: &mut [i64]) -> u32
+    ensures answer { λ r. ⌜ r ≡ viewAnswer (now (first .entry)) (now (second .entry)) (length (now (lent .entry))) ⌝ }
+    ensures written { λ _. ⌜ now (lent .exit) ≡ viewAfter (now (first .entry)) (now (second .entry)) (now (lent .entry)) ⌝ }
+{
+    let view = files::common_view(first, second);
+    let View::Report {
+        pairs,
+        sum,
+        smallest,
+        largest,
+    } = view
+    else {
+        return files::view_number(view);
+    };
+    let row = [pairs, sum, smallest, largest];
+    values::put(&row, lent)
 }

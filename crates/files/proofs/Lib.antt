@@ -1,12 +1,2 @@
-pub mod Keys
-pub mod Ascending
-pub mod Steps
-pub mod Lines
-pub mod Digits
-pub mod Ranks
-pub mod Judging
-pub mod Written
-pub mod Walking
 pub mod Replies
-pub mod Merging
-pub mod MergedFiles
+pub mod Reports

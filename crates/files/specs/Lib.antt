@@ -1,6 +1,2 @@
--- What must be believed: what a line file is, what it is refused for, and what two files make together.
-pub mod Files
-pub mod Merge
+-- What must be believed: what the cases of an answer mean. What is answered stands in crates merging and viewing.
 pub mod Answers
--- What the functions that walk the files promise each other.
-pub mod Walk

@@ -1,11 +1,14 @@
 -- `boundary::trackline_read` meets its contract: the case of the reading tells the answer and what is put.
 -- Assumes nothing.
-use mathlib.Core.Path.{ap, _∙_}
+use mathlib.Core.Path.{ap, ap₂, _∙_}
 use native.Mathlib.Omega.{arith}
 use Rattle.reader.specs.declared.Reading.{Reading}
 use Rattle.reader.specs.Answers.{readReply}
 use Rattle.reader.proofs.Refusals.{accepted-case, accepted-values, refused-case, refused-number}
-use Rattle.boundary.proofs.Rows.{refused-is, read-is}
+use Rattle.columns.specs.Columns.{readLabels, readNumbers}
+use Rattle.reader.specs.Read.{readNumber}
+use Rattle.boundary.specs.Values.{valuesOf, readAnswer, readAfter}
+use Rattle.boundary.proofs.Rows.{row-refused, row-put}
 use borrow.Author.Needs.{needs}
 use Rattle.boundary.proofs.trackline_read.Statement.{statement}
 use Rattle.boundary.proofs.trackline_read.Tie as tie
@@ -32,18 +35,20 @@ put-requires : tie.Need-put-requires
 put-requires c κs = search needs
 
 returns : tie.Need-returns
+unfolding readAnswer readAfter
 returns c =
     let at = c .before .before .before in
     let a = at .before .before .args in
     let e = c .before .enum-told .given .1 in
     let number = c .reading-number .ensures ∙ ap (λ (r : Reading). readReply r .number) e ∙ refused-number (a .line .now) e (at .read .ensures .0) in
     let some = refused-case (a .line .now) e (at .read .ensures .0) (at .read .ensures .1) in
-    refused-is (a .line .now) (a .lent .now) number (omega arith)
+    row-refused (readNumber (a .line .now)) (valuesOf (readLabels (a .line .now)) (readNumbers (a .line .now))) (a .lent .now) number (omega arith)
 
 same-length : tie.Need-same-length
 same-length c = search needs
 
 returns-2 : tie.Need-returns-2
+unfolding readAnswer readAfter
 returns-2 c =
     let put = c .before .put in
     let values = c .before .before .before .before in
@@ -52,8 +57,8 @@ returns-2 c =
     let a = at .before .before .args in
     let e = told .before .reading .given .1 in
     let v = accepted-values (a .line .now) e (at .read .ensures .0) in
-    read-is (a .line .now) (a .lent .now) (accepted-case (a .line .now) e (at .read .ensures .0)) (v .0) (v .1)
-    (values .values .ensures) (put .ensures .0) (put .ensures .1)
+    row-put (readNumber (a .line .now)) _ (a .lent .now) (accepted-case (a .line .now) e (at .read .ensures .0))
+    (values .values .ensures ∙ ap₂ valuesOf (v .0) (v .1)) (put .ensures .0) (put .ensures .1)
 
 pub trackline-read-spec : {M : Type 1} → statement M
 trackline-read-spec =

@@ -1,0 +1,268 @@
+/*
+ * The picture of a common view: the differences over time, with their mean, the smallest and the largest. Coordinates are
+ * whole tenths of a pixel, so that the same files give the same bytes everywhere.
+ */
+#include "cggtts.h"
+
+#include <inttypes.h>
+#include <stdarg.h>
+#include <stdio.h>
+#include <string.h>
+
+/* In pixels; the frame in tenths of one, with room on the left for two thousand million. */
+enum { WIDTH = 960, HEIGHT = 525, LEFT = 1320, RIGHT = 9300, TOP = 960, BOTTOM = 4660 };
+/* So many ticks at most, and the longest name of a file, whose end is shown. */
+enum { TICKS = 8, LONGEST_NAME = 36 };
+/* The least room beside the first and the last point: 0.05 days, and 0.5 ns. */
+enum { TIME_ROOM = DAY / 20, DIFFERENCE_ROOM = 5 };
+
+static const char STYLE[] = "text{font-family:Helvetica,Arial,\"Liberation Sans\",\"DejaVu Sans\",sans-serif;font-size:14px}"
+                            ".head{font-size:16px;font-weight:bold}";
+static const char BLACK[] = "#000", GREY[] = "#767676", PALE[] = "#e4e4e4", RED[] = "#c8400a";
+
+static const struct {
+    uint8_t letter;
+    const char *colour;
+} COLOURS[] = {{'C', "#b35900"}, {'E', "#0057a8"}, {'G', "#00805c"}, {'J', "#a8528c"}, {'R', "#5a4fcf"}};
+enum { LETTERS = sizeof COLOURS / sizeof COLOURS[0] };
+
+/* What is drawn so far; after a failure nothing more is. */
+struct drawing {
+    struct bytes *bytes;
+    int status;
+};
+
+static void put(struct drawing *drawing, const char *form, ...)
+{
+    char text[512];
+    va_list given;
+    va_start(given, form);
+    vsnprintf(text, sizeof text, form, given);
+    va_end(given);
+    if (drawing->status == ACCEPTED) {
+        drawing->status = append_bytes(drawing->bytes, text, strlen(text));
+    }
+}
+
+/* Values from low to high over coordinates from one to another, and ticks at multiples of a step. */
+struct axis {
+    int64_t low, high, step, unit; /* unit: what the last decimal of a label stands for */
+    int places;                    /* how many decimals a unit has */
+    int from, to;
+};
+
+/* The smallest of 1, 2, 5, 10 .. units that parts the span at most so often. */
+static int64_t step_of(int64_t unit, int64_t span)
+{
+    int64_t step = unit;
+    for (int k = 0; span / step > TICKS; k++) {
+        step = k % 3 == 1 ? step / 2 * 5 : 2 * step;
+    }
+    return step;
+}
+
+/* An axis over these values with some room on both sides. */
+static struct axis axis_over(int64_t first, int64_t last, int64_t room, int64_t unit, int places)
+{
+    int64_t share = (last - first) / 24;
+    room = share > room ? share : room;
+    struct axis axis = {first - room, last + room, step_of(unit, last - first + 2 * room), unit, places, 0, 0};
+    return axis;
+}
+
+/* Where a fraction, over a divisor, lies on the axis. */
+static int place_of(const struct axis *axis, int64_t numerator, int64_t divisor)
+{
+    int64_t above = numerator - axis->low * divisor;
+    return axis->from + (int)nearest(above * (axis->to - axis->from), (axis->high - axis->low) * divisor);
+}
+
+static int64_t first_tick(const struct axis *axis)
+{
+    int64_t tick = axis->low / axis->step * axis->step;
+    return tick < axis->low ? tick + axis->step : tick;
+}
+
+/* With as many decimals as the step has. */
+static const char *tick_text(const struct axis *axis, int64_t tick, char *room)
+{
+    int64_t units = tick / axis->unit, step = axis->step / axis->unit;
+    int places = axis->places;
+    for (; places > 0 && step % 10 == 0; places--) {
+        units /= 10;
+        step /= 10;
+    }
+    return decimal_text(units, places, room);
+}
+
+static void put_stroke(struct drawing *drawing, const int *ends, const char *colour, const char *more)
+{
+    char room[4][DECIMAL_ROOM];
+    for (int i = 0; i < 4; i++) {
+        decimal_text(ends[i], 1, room[i]);
+    }
+    put(drawing, "<line x1=\"%s\" y1=\"%s\" x2=\"%s\" y2=\"%s\" stroke=\"%s\"%s/>\n", room[0], room[1], room[2], room[3],
+        colour, more);
+}
+
+/* A line through the frame at a height. */
+static void put_level(struct drawing *drawing, int y, const char *colour, const char *more)
+{
+    const int ends[] = {LEFT, y, RIGHT, y};
+    put_stroke(drawing, ends, colour, more);
+}
+
+static void put_words(struct drawing *drawing, int x, int y, const char *anchor, const char *words)
+{
+    char across[DECIMAL_ROOM], down[DECIMAL_ROOM];
+    put(drawing, "<text x=\"%s\" y=\"%s\" text-anchor=\"%s\">%s</text>\n", decimal_text(x, 1, across),
+        decimal_text(y, 1, down), anchor, words);
+}
+
+/* A character as SVG has it: what is neither a blank nor visible ASCII as \x and two digits. */
+static const char *marked_up(char character, char *room)
+{
+    switch (character) {
+    case '&': return "&amp;";
+    case '<': return "&lt;";
+    case '>': return "&gt;";
+    case ' ': return " ";
+    default: return shown((uint8_t)character, room);
+    }
+}
+
+/* The end of a file's name. */
+static void put_name(struct drawing *drawing, const char *name)
+{
+    const char *slash = strrchr(name, '/');
+    const char *tail = slash != NULL ? slash + 1 : name;
+    int cut = strlen(tail) > LONGEST_NAME;
+    put(drawing, cut ? "..." : "");
+    for (tail += cut ? strlen(tail) - LONGEST_NAME : 0; *tail != '\0'; tail++) {
+        char room[8];
+        put(drawing, "%s", marked_up(*tail, room));
+    }
+}
+
+static void put_title(struct drawing *drawing, const struct view *view)
+{
+    put(drawing, "REFSYS of ");
+    put_name(drawing, view->first->name);
+    put(drawing, " minus REFSYS of ");
+    put_name(drawing, view->second->name);
+}
+
+static void put_head(struct drawing *drawing, const struct view *view)
+{
+    const int64_t *report = view->report;
+    char smallest[DECIMAL_ROOM], largest[DECIMAL_ROOM], mean[DECIMAL_ROOM];
+    int rounded = mean_text(report, mean);
+    put(drawing, "<svg xmlns=\"http://www.w3.org/2000/svg\" width=\"%d\" height=\"%d\" viewBox=\"0 0 %d %d\">\n<title>", WIDTH,
+        HEIGHT, WIDTH, HEIGHT);
+    put_title(drawing, view);
+    put(drawing, "</title>\n<style>%s</style>\n<rect width=\"%d\" height=\"%d\" fill=\"#fff\"/>\n", STYLE, WIDTH, HEIGHT);
+    put(drawing, "<text x=\"%d\" y=\"28\" class=\"head\">", LEFT / 10);
+    put_title(drawing, view);
+    put(drawing, "</text>\n<text x=\"%d\" y=\"52\">%" PRId64 " pair%s: smallest %s ns and largest %s ns (dashed), ", LEFT / 10,
+        report[TRACKLINE_REPORT_PAIRS], report[TRACKLINE_REPORT_PAIRS] == 1 ? "" : "s",
+        decimal_text(report[TRACKLINE_REPORT_SMALLEST], 1, smallest), decimal_text(report[TRACKLINE_REPORT_LARGEST], 1, largest));
+    put(drawing, "mean %s%s ns (red)</text>\n", rounded ? "about " : "", mean);
+}
+
+static void put_times(struct drawing *drawing, const struct axis *times)
+{
+    char room[DECIMAL_ROOM];
+    for (int64_t tick = first_tick(times); tick <= times->high; tick += times->step) {
+        int x = place_of(times, tick, 1);
+        const int ends[] = {x, BOTTOM, x, BOTTOM + 50};
+        put_stroke(drawing, ends, BLACK, "");
+        put_words(drawing, x, BOTTOM + 200, "middle", tick_text(times, tick, room));
+    }
+    put_words(drawing, (LEFT + RIGHT) / 2, BOTTOM + 430, "middle", "MJD at the start of the track");
+}
+
+/* The name of the axis stands left of the longest label. */
+static void put_differences(struct drawing *drawing, const struct axis *differences)
+{
+    char room[DECIMAL_ROOM];
+    int longest = 0;
+    for (int64_t tick = first_tick(differences); tick <= differences->high; tick += differences->step) {
+        int y = place_of(differences, tick, 1);
+        const int ends[] = {LEFT - 50, y, LEFT, y};
+        put_level(drawing, y, tick == 0 ? BLACK : PALE, "");
+        put_stroke(drawing, ends, BLACK, "");
+        put_words(drawing, LEFT - 90, y + 50, "end", tick_text(differences, tick, room));
+        longest = (int)strlen(room) > longest ? (int)strlen(room) : longest;
+    }
+    int x = LEFT / 10 - 18 - 9 * longest;
+    put(drawing, "<text x=\"%d\" y=\"%d\" text-anchor=\"middle\" transform=\"rotate(-90 %d %d)\">difference in ns</text>\n", x,
+        (TOP + BOTTOM) / 20, x, (TOP + BOTTOM) / 20);
+}
+
+static void put_levels(struct drawing *drawing, const struct axis *differences, const int64_t *report)
+{
+    static const char DASHED[] = " stroke-dasharray=\"6 4\"", THICK[] = " stroke-width=\"1.6\"";
+    put_level(drawing, place_of(differences, report[TRACKLINE_REPORT_SMALLEST], 1), GREY, DASHED);
+    put_level(drawing, place_of(differences, report[TRACKLINE_REPORT_LARGEST], 1), GREY, DASHED);
+    put_level(drawing, place_of(differences, report[TRACKLINE_REPORT_SUM], report[TRACKLINE_REPORT_PAIRS]), RED, THICK);
+}
+
+static int64_t time_of(const struct pair *pair)
+{
+    return (int64_t)DAY * pair->mjd + pair->start;
+}
+
+static void put_point(struct drawing *drawing, int x, int y, const char *radius)
+{
+    char across[DECIMAL_ROOM], down[DECIMAL_ROOM];
+    put(drawing, "<circle cx=\"%s\" cy=\"%s\" r=\"%s\"/>\n", decimal_text(x, 1, across), decimal_text(y, 1, down), radius);
+}
+
+/* The pairs of one constellation, and its name in the legend. Answers how far the legend has come. */
+static int put_constellation(struct drawing *drawing, const struct view *view, const struct axis *axes, int which, int legend)
+{
+    int64_t pairs = view->report[TRACKLINE_REPORT_PAIRS], count = 0;
+    const char *radius = pairs <= 300 ? "3.2" : pairs <= 2000 ? "2.2" : "1.4";
+    char words[64];
+    put(drawing, "<g fill=\"%s\" fill-opacity=\"0.75\">\n", COLOURS[which].colour);
+    for (int64_t i = 0; i < pairs; i++) {
+        const struct pair *pair = &view->pairs[i];
+        if (*pair->line == COLOURS[which].letter) {
+            put_point(drawing, place_of(&axes[0], time_of(pair), 1), place_of(&axes[1], pair->difference, 1), radius);
+            count++;
+        }
+    }
+    if (count > 0) {
+        put_point(drawing, legend, 720, "4");
+    }
+    put(drawing, "</g>\n");
+    if (count > 0) {
+        snprintf(words, sizeof words, "%s %" PRId64, constellation_name(COLOURS[which].letter), count);
+        put_words(drawing, legend + 100, 770, "start", words);
+    }
+    return count > 0 ? legend + 1400 : legend;
+}
+
+/* The first pair is the earliest, as lines ascend by their dates. */
+int draw_view(const struct view *view, struct bytes *picture)
+{
+    struct drawing drawing = {picture, ACCEPTED};
+    const int64_t *report = view->report;
+    struct axis axes[] = {
+        axis_over(time_of(&view->pairs[0]), time_of(&view->pairs[report[TRACKLINE_REPORT_PAIRS] - 1]), TIME_ROOM, DAY / 100, 2),
+        axis_over(report[TRACKLINE_REPORT_SMALLEST], report[TRACKLINE_REPORT_LARGEST], DIFFERENCE_ROOM, 1, 1)};
+    axes[0].from = LEFT;
+    axes[0].to = RIGHT;
+    axes[1].from = BOTTOM;
+    axes[1].to = TOP;
+    put_head(&drawing, view);
+    put_differences(&drawing, &axes[1]);
+    put_times(&drawing, &axes[0]);
+    put_levels(&drawing, &axes[1], report);
+    for (int which = 0, legend = LEFT + 40; which < LETTERS; which++) {
+        legend = put_constellation(&drawing, view, axes, which, legend);
+    }
+    put(&drawing, "<rect x=\"%d\" y=\"%d\" width=\"%d\" height=\"%d\" fill=\"none\" stroke=\"%s\"/>\n</svg>\n", LEFT / 10, TOP / 10,
+        (RIGHT - LEFT) / 10, (BOTTOM - TOP) / 10, BLACK);
+    return drawing.status;
+}
