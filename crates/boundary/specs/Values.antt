@@ -11,8 +11,8 @@ use Rattle.labels.specs.declared.Labels.{Labels}
 use Rattle.limits.specs.declared.Numbers.{Numbers}
 use Rattle.columns.specs.Columns.{readLabels, readNumbers}
 use Rattle.reader.specs.Read.{readNumber}
-use Rattle.files.specs.declared.pairs.Figures.{Figures}
-use Rattle.files.specs.View.{figures, viewed, viewNumber}
+use Rattle.viewing.specs.declared.Figures.{Figures}
+use Rattle.viewing.specs.View.{figures, viewed, viewNumber}
 
 -- A lent row afterwards: the values in its first places where the answer is 0, and else as it was lent.
 unfoldable pub rowAfter : (answer : ℕ) (values lent : List ℤ) → List ℤ

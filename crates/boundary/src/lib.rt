@@ -11,7 +11,7 @@ ghost use Rattle.hire.specs.Hire.{blocksIn, blockGiven};
 ghost use Rattle.line.specs.Block.{blockAnswer, blockAfter};
 ghost use Rattle.labels.specs.Given.{labelsOf, numbersOf};
 ghost use Rattle.reader.specs.Read.{commentOffset};
-ghost use Rattle.files.specs.Merge.{mergedFile, mergeNumber, mergeAfter};
+ghost use Rattle.merging.specs.Merge.{mergedFile, mergeNumber, mergeAfter};
 ghost use Rattle.boundary.specs.Values.{placeAfter, readAnswer, readAfter, viewAnswer, viewAfter};
 use files::Merged;
 use files::View;

@@ -1,69 +1,44 @@
--- What merge answers, and what stands in the lent file afterwards (specs/Merge.antt), where it is refused and where it is not.
+-- What merge answers (specs/Answers.antt): the case that its number makes of it, and what the case tells.
 -- Assumes nothing.
 use mathlib.Core.Path.{_≡_, sym, ap, subst, _∙_}
-use mathlib.Core.List.{List, _++_}
-use Prim.Native.Nat.{ℕ, _≤_, _<_}
+use mathlib.Core.List.{List}
+use Prim.Native.Nat.{ℕ, _<_}
 use native.Mathlib.Omega.{arith}
-use lib.Dec.{ltb}
-use lib.ListN.{length, drop}
-use borrow.Author.Tests.{eq-eqb, ne-eqb, ltb-false}
-use Rattle.limits.specs.Refusal.{_when_, _then_}
+use lib.ListN.{length}
 use Rattle.limits.specs.Reply.{Reply, reply}
-use Rattle.limits.proofs.Laws.{then-zero, then-refused, then-passed, then-assoc, when-zero}
 use Rattle.limits.proofs.Replies.{reply-accepted, reply-refused, reply-number, reply-values}
-use Rattle.files.specs.Files.{lines, fileNumber}
-use Rattle.files.specs.Merge.{partners, anyDiffer, mergedFile, mergeNumber, mergeRule, mergeAfter}
+use Rattle.merging.specs.declared.Made.{Made}
+use Rattle.merging.specs.Merge.{mergedFile, mergeNumber, mergeRule, madeOf}
 use Rattle.files.specs.declared.Merged.{Merged}
 use Rattle.files.specs.Answers.{mergeReply, mergeNumbered}
 
--- 15 and 17, which are tried where both files are accepted
-abbrev pub resultNumber : (first second : List ℕ) (room : ℕ) → ℕ
-resultNumber first second room =
-    15 when anyDiffer (partners (lines first) (lines second)) then 17 when ltb room (length (mergedFile first second))
+-- ---- a reply in two parts, its number and its values
 
-pub number-is : (first second : List ℕ) (room : ℕ) → fileNumber first then fileNumber second ≡ 0
-    → mergeNumber first second room ≡ resultNumber first second room
-unfolding mergeNumber
-number-is first second room z =
-    sym (then-assoc (fileNumber first) (fileNumber second) (resultNumber first second room)) ∙ then-passed _ (resultNumber first second room) z
-
-module _ (first second lent : List ℕ) where
-  -- the answer and the lent file of a refusal
-  refused : {number : ℕ} → number ≡ mergeNumber first second (length lent) → 0 < number
-      → (record { number = number; values = 0 } ≡ mergeRule first second (length lent)) × ((0 < number) × (lent ≡ mergeAfter first second lent))
-  unfolding mergeRule mergeAfter
-  refused {number} e h = (
-    sym (ap (λ (n : ℕ). reply 0 n (length (mergedFile first second))) (sym e) ∙ reply-refused 0 (length (mergedFile first second)) h),
-    (h, sym (simp (ne-eqb (mergeNumber first second (length lent)) 0 (other e h)))),
-  )
+module _ {A : Type 0} (zeros values : A) (n : ℕ) {number : ℕ} (e : number ≡ reply zeros n values .number) where
+  pub part-refused : (number ≡ 0 → ⊥) → (record { number = number; values = zeros } ≡ reply zeros n values) × (0 < number)
+  part-refused h =
+      let is = e ∙ reply-number zeros values n in (
+        ap (λ (m : ℕ). record { number = m; values = zeros }) is ∙ sym (reply-refused zeros values (some is h)),
+        omega arith,
+      )
     where
-      other : {m n : ℕ} → m ≡ n → 0 < m → n ≡ 0 → ⊥
-      other e h z = omega arith
+      some : {m n : ℕ} → m ≡ n → (m ≡ 0 → ⊥) → 0 < n
+      some e h = omega arith
 
-  pub files-refused : {number : ℕ} → number ≡ fileNumber first then fileNumber second → 0 < number
-      → (record { number = number; values = 0 } ≡ mergeRule first second (length lent)) × ((0 < number) × (lent ≡ mergeAfter first second lent))
-  unfolding mergeNumber
-  files-refused {number} e h =
-      refused
-      (sym (sym (then-assoc (fileNumber first) (fileNumber second) (resultNumber first second (length lent))) ∙ ap (λ (n : ℕ). n then resultNumber first second (length lent)) (sym e) ∙ then-refused number (resultNumber first second (length lent)) h))
-      h
+  pub part-accepted : {v : A} → v ≡ reply zeros n values .values → number ≡ 0 → record { number = 0; values = v } ≡ reply zeros n values
+  part-accepted {v} p z =
+      let accepted = reply-accepted zeros values (sym (reply-number zeros values n) ∙ sym e ∙ z) in
+      ap (λ (x : A). record { number = 0; values = x }) (p ∙ ap (λ (t : Reply A). t .values) accepted) ∙ sym accepted
 
-  module _ (z : fileNumber first then fileNumber second ≡ 0) where
-    pub result-refused : {number : ℕ} → number ≡ resultNumber first second (length lent) → 0 < number
-        → (record { number = number; values = 0 } ≡ mergeRule first second (length lent)) × ((0 < number) × (lent ≡ mergeAfter first second lent))
-    result-refused e h = refused (e ∙ sym (number-is first second (length lent) z)) h
+module _ (first second : List ℕ) (room : ℕ) {made : Made} (e : made ≡ madeOf (mergeRule first second room)) where
+  pub made-refused : (made .number ≡ 0 → ⊥) → (record { number = made .number; values = 0 } ≡ mergeRule first second room) × (0 < made .number)
+  unfolding mergeRule
+  made-refused = part-refused 0 (length (mergedFile first second)) (mergeNumber first second room) (ap (λ (m : Made). m .number) e)
 
-    pub result-fits : resultNumber first second (length lent) ≡ 0 → length (mergedFile first second) ≤ length lent
-    result-fits e = ltb-false (length lent) (length (mergedFile first second)) (when-zero 16 _ (then-zero _ _ e .1))
-
-    pub result-written : {bytes : ℕ} {after : List ℕ} → resultNumber first second (length lent) ≡ 0 → bytes ≡ length (mergedFile first second)
-        → after ≡ mergedFile first second ++ drop (length (mergedFile first second)) lent
-        → (record { number = 0; values = bytes } ≡ mergeRule first second (length lent)) × (Unit {0} × (after ≡ mergeAfter first second lent))
-    unfolding mergeRule mergeAfter
-    result-written e b w = (
-      ap (λ (n : ℕ). record { number = 0; values = n }) b ∙ sym (reply-accepted 0 (length (mergedFile first second)) (number-is first second (length lent) z ∙ e)),
-      (tt, w ∙ sym (simp (eq-eqb (mergeNumber first second (length lent)) 0 (number-is first second (length lent) z ∙ e)))),
-    )
+  pub made-accepted : made .number ≡ 0 → record { number = 0; values = made .bytes } ≡ mergeRule first second room
+  unfolding mergeRule
+  made-accepted =
+      part-accepted 0 (length (mergedFile first second)) (mergeNumber first second room) (ap (λ (m : Made). m .number) e) (ap (λ (m : Made). m .bytes) e)
 
 -- ---- what the case of an answer tells
 

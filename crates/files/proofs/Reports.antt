@@ -1,88 +1,28 @@
--- What common view answers (specs/View.antt), where it is refused and where it is not.
+-- What common view answers (specs/Answers.antt): the case that its number makes of it, and what the case tells.
 -- Assumes nothing.
-use mathlib.Core.Path.{_≡_, refl, sym, ap, subst, _∙_}
-use mathlib.Core.Bool.{Bool, true, false, _||_}
+use mathlib.Core.Path.{_≡_, sym, ap, subst, _∙_}
 use mathlib.Core.List.{List, []}
-use Prim.Native.Nat.{ℕ, _≤_, _<_}
-use native.Mathlib.Omega.{arith}
-use lib.Dec.{ltb, eqb, lit<}
-use lib.IntN.{ℤ, pos}
-use lib.Signed.{ltZ}
-use lib.ListN.{length}
-use borrow.Author.Tests.{ltb-true, ltb-false, eq-eqb, ne-eqb}
-use Rattle.limits.specs.Refusal.{_when_, _then_}
-use Rattle.limits.specs.Reply.{Reply, reply}
-use Rattle.limits.proofs.Laws.{then-refused, then-passed, then-assoc, or-false}
-use Rattle.limits.proofs.Replies.{reply-accepted, reply-refused, reply-number, reply-values}
-use Rattle.files.specs.declared.pairs.Figures.{Figures}
+use Prim.Native.Nat.{ℕ, _<_}
+use lib.IntN.{ℤ}
+use Rattle.limits.specs.Reply.{Reply}
+use Rattle.limits.proofs.Replies.{reply-number, reply-values}
+use Rattle.viewing.specs.declared.Figures.{Figures}
+use Rattle.viewing.specs.declared.Viewed.{Viewed}
+use Rattle.viewing.specs.View.{figures, viewed, viewNumber, viewRule, viewedOf}
 use Rattle.files.specs.declared.View.{View}
-use Rattle.files.specs.Files.{fileNumber}
-use Rattle.files.specs.View.{figures, viewed, longest, viewNumber, viewRule}
 use Rattle.files.specs.Answers.{viewReply, viewNumbered}
+use Rattle.files.proofs.Replies.{part-refused, part-accepted}
 
 module _ (first second : List ℕ) where
-  -- the answer of a refusal
-  refused : {number : ℕ} → number ≡ viewNumber first second → 0 < number
-      → (record { number = number; values = figures [] } ≡ viewRule first second) × (0 < number)
-  unfolding viewRule
-  refused {number} e h = (
-    sym (ap (λ (n : ℕ). reply (figures []) n (figures (viewed first second))) (sym e) ∙ reply-refused (figures []) (figures (viewed first second)) h),
-    h,
-  )
+  module _ {made : Viewed} (e : made ≡ viewedOf (viewRule first second)) where
+    pub view-refused : (made .number ≡ 0 → ⊥) → (record { number = made .number; values = figures [] } ≡ viewRule first second) × (0 < made .number)
+    unfolding viewRule
+    view-refused = part-refused (figures []) (figures (viewed first second)) (viewNumber first second) (ap (λ (m : Viewed). m .number) e)
 
-  -- a file that is longer than it may be
-  abbrev long : Bool
-  long = ltb longest (length first) || ltb longest (length second)
-
-  pub long-refused : long ≡ true → (record { number = 19; values = figures [] } ≡ viewRule first second) × (0 < 19)
-  unfolding viewNumber _when_
-  long-refused e =
-      refused (sym (ap (λ (b : Bool). 19 when b then fileNumber first then fileNumber second then 18 when eqb (length (viewed first second)) 0) e ∙ then-refused 19 _ (lit< tt)))
-      (lit< tt)
-
-  module _ (short : long ≡ false) where
-    pub lengths : (length first ≤ longest) × (length second ≤ longest)
-    lengths = let s = or-false (ltb longest (length first)) _ short in (ltb-false _ _ (s .0), ltb-false _ _ (s .1))
-
-    -- what is left of the number
-    rest : viewNumber first second ≡ (fileNumber first then fileNumber second) then 18 when eqb (length (viewed first second)) 0
-    unfolding viewNumber _when_
-    rest =
-        ap (λ (b : Bool). 19 when b then fileNumber first then fileNumber second then 18 when eqb (length (viewed first second)) 0) short
-        ∙ then-passed 0 _ refl
-        ∙ sym (then-assoc (fileNumber first) (fileNumber second) (18 when eqb (length (viewed first second)) 0))
-
-    pub files-refused : {number : ℕ} → number ≡ fileNumber first then fileNumber second → 0 < number
-        → (record { number = number; values = figures [] } ≡ viewRule first second) × (0 < number)
-    files-refused {number} e h =
-        refused (sym (rest ∙ ap (λ (n : ℕ). n then 18 when eqb (length (viewed first second)) 0) (sym e) ∙ then-refused number _ h)) h
-
-    module _ (z : fileNumber first then fileNumber second ≡ 0) (f : Figures) (e : f ≡ figures (viewed first second)) where
-      -- the count tells whether there is a pair
-      count-is : ltZ (f .pairs) (pos 1) ≡ ltb (length (viewed first second)) 1
-      unfolding figures
-      count-is = ap (λ (x : Figures). ltZ (x .pairs) (pos 1)) e
-
-      number-is : {b : Bool} → eqb (length (viewed first second)) 0 ≡ b → viewNumber first second ≡ 18 when b
-      number-is p = rest ∙ then-passed _ _ z ∙ ap (λ (b : Bool). 18 when b) p
-
-      pub no-pair : ltZ (f .pairs) (pos 1) ≡ true → (record { number = 18; values = figures [] } ≡ viewRule first second) × (0 < 18)
-      unfolding _when_
-      no-pair t = refused (sym (number-is (eq-eqb (length (viewed first second)) 0 (none (ltb-true (length (viewed first second)) 1 (sym count-is ∙ t)))))) (lit< tt)
-        where
-          none : {n : ℕ} → n < 1 → n ≡ 0
-          none h = omega arith
-
-      pub reported : {g : Figures} → ltZ (f .pairs) (pos 1) ≡ false → g ≡ f → (record { number = 0; values = g } ≡ viewRule first second) × Unit {0}
-      unfolding viewRule _when_
-      reported t p = (
-        ap (λ (x : Figures). record { number = 0; values = x }) (p ∙ e)
-            ∙ sym (reply-accepted (figures []) (figures (viewed first second)) (number-is (ne-eqb (length (viewed first second)) 0 (some (ltb-false (length (viewed first second)) 1 (sym count-is ∙ t)))))),
-        tt,
-      )
-        where
-          some : {n : ℕ} → 1 ≤ n → n ≡ 0 → ⊥
-          some h e = omega arith
+    pub view-accepted : {f : Figures} → f ≡ made .figures → made .number ≡ 0 → record { number = 0; values = f } ≡ viewRule first second
+    unfolding viewRule
+    view-accepted p =
+        part-accepted (figures []) (figures (viewed first second)) (viewNumber first second) (ap (λ (m : Viewed). m .number) e) (p ∙ ap (λ (m : Viewed). m .figures) e)
 
   -- ---- what the case of an answer tells
 

@@ -6,8 +6,8 @@ use mathlib.Core.List.{[]}
 use Rattle.limits.specs.Reply.{Reply}
 use Rattle.files.specs.declared.Merged.{Merged}
 use Rattle.files.specs.declared.View.{View}
-use Rattle.files.specs.declared.pairs.Figures.{Figures}
-use Rattle.files.specs.View.{figures}
+use Rattle.viewing.specs.declared.Figures.{Figures}
+use Rattle.viewing.specs.View.{figures}
 
 abbrev pub mergeReply : Merged → Reply ℕ
 mergeReply (Merged.Bytes bytes) = record { number = 0; values = bytes }

@@ -2,22 +2,12 @@
 // number. Two of them become one, or are reported on in common view. A file is refused by the numbers and in the order of document 02, Job 5;
 // the first file before the second. Merge then refuses two lines of the same keys that differ (15) and a lent file that is too short (17): nothing
 // is written before all of that is accepted, and nothing behind the result. Common view refuses a file of more than 10000 lines (19) before it
-// reads any, and files without a pair (18) in the end.
+// reads any, and files without a pair (18) in the end. Crates merging and viewing do the work; here each answer gets its case.
 ghost use mathlib.Core.Path.{_≡_};
 ghost use lib.ListN.{length};
-ghost use Rattle.files.specs.Merge.{mergeRule, mergeAfter};
-ghost use Rattle.files.specs.View.{viewRule};
+ghost use Rattle.merging.specs.Merge.{mergeRule, mergeAfter};
+ghost use Rattle.viewing.specs.View.{viewRule};
 ghost use Rattle.files.specs.Answers.{mergeReply, mergeNumbered, viewReply, viewNumbered};
-use limits::then;
-use limits::when;
-
-mod judge;
-mod pairs;
-mod rank;
-mod walk;
-
-// The bytes of 10000 lines.
-const LONGEST: usize = 1150000;
 
 // What merge answers: how many bytes it wrote, or the number of the refusal.
 pub enum Merged {
@@ -31,18 +21,12 @@ pub fn merge(first: &[u8], second: &[u8], file: &mut [u8]) -> Merged
     ensures variant { λ r. ⌜ mergeNumbered r ⌝ }
     ensures written { λ _. ⌜ now (file .exit) ≡ mergeAfter (now (first .entry)) (now (second .entry)) (now (file .entry)) ⌝ }
 {
-    let refusal = then(judge::refusal(first), judge::refusal(second));
-    if refusal != 0 {
-        return Merged::Refused(refusal);
-    }
-    let measured = walk::measure(first, second);
-    let bytes = measured.bytes;
-    let number = then(when(15, measured.differ), when(17, file.len() < bytes));
+    let made = merging::make(first, second, file);
+    let number = made.number;
     if number != 0 {
         return Merged::Refused(number);
     }
-    walk::write(first, second, file);
-    Merged::Bytes(bytes)
+    Merged::Bytes(made.bytes)
 }
 
 // The number of an answer: that of the refusal, 0 where there is none.
@@ -72,22 +56,17 @@ pub fn common_view(first: &[u8], second: &[u8]) -> View
     ensures answer { λ r. ⌜ viewReply r ≡ viewRule (now (first .entry)) (now (second .entry)) ⌝ }
     ensures variant { λ r. ⌜ viewNumbered r ⌝ }
 {
-    if (LONGEST < first.len()) | (LONGEST < second.len()) {
-        return View::Refused(19);
-    }
-    let number = then(judge::refusal(first), judge::refusal(second));
+    let viewed = viewing::view(first, second);
+    let number = viewed.number;
     if number != 0 {
         return View::Refused(number);
     }
-    let gathered = pairs::gather(first, second);
-    if gathered.pairs < 1 {
-        return View::Refused(18);
-    }
+    let figures = viewed.figures;
     View::Report {
-        pairs: gathered.pairs,
-        sum: gathered.sum,
-        smallest: gathered.smallest,
-        largest: gathered.largest,
+        pairs: figures.pairs,
+        sum: figures.sum,
+        smallest: figures.smallest,
+        largest: figures.largest,
     }
 }
 

@@ -26,11 +26,12 @@ use Rattle.line.specs.Block.{blockNumbers, blockLine}
 use Rattle.reader.specs.Kinds.{printable}
 use Rattle.reader.specs.Read.{readNumber, noLabels, noNumbers, readRule}
 use Rattle.reader.proofs.WrittenLine.{text-reads-back}
-use Rattle.files.specs.Files.{endedLength, lines, columnsOf, same, ended, keysOf, keys, before, lineNumber, linesNumber, fileNumber}
-use Rattle.files.specs.Merge.{partnersOf, partners, joined}
-use Rattle.files.specs.View.{trklOf, refsysOf, sameTrkl, pairsOf, differences, viewed, figures, longest, viewNumber, viewRule}
-use Rattle.files.proofs.Ascending.{All}
-use Rattle.files.proofs.Lines.{Long, lines-joined, length-joined}
+use Rattle.linefile.specs.Files.{endedLength, lines, columnsOf, same, ended, keysOf, keys, before, lineNumber, linesNumber, fileNumber}
+use Rattle.linefile.specs.Partners.{partnersOf, partners}
+use Rattle.viewing.specs.View.{trklOf, refsysOf, sameTrkl, pairsOf, differences, viewed, figures, longest, viewNumber, viewRule}
+use Rattle.linefile.proofs.Ascending.{All}
+use Rattle.linefile.proofs.Lines.{Long}
+use Rattle.merging.proofs.Joined.{lines-joined, length-joined}
 use Rattle.offset.specs.Shifted.{shifted, AcceptedBlock, ShiftedPair, fileOf}
 use Rattle.offset.proofs.Tracks.{results-move, drops}
 use Rattle.offset.proofs.Blocks.{track-accepts, line-accepts}

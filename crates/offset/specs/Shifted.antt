@@ -10,7 +10,7 @@ use Rattle.hire.specs.Hire.{blockLabels, blockGiven}
 use Rattle.exact.specs.Corrected.{Given}
 use Rattle.columns.specs.Text.{lineLength}
 use Rattle.line.specs.Block.{blockLine, blockAnswer}
-use Rattle.files.specs.Merge.{joined}
+use Rattle.merging.specs.Merge.{joined}
 
 -- c added to each number of a list.
 unfoldable pub raised : ℤ → List ℤ → List ℤ

@@ -5,7 +5,7 @@ use native.Mathlib.Omega.{arith}
 use lib.ListN.{length}
 use Rattle.files.specs.declared.Merged.{Merged}
 use Rattle.files.specs.Answers.{mergeReply}
-use Rattle.files.specs.Merge.{mergedFile}
+use Rattle.merging.specs.Merge.{mergedFile}
 use Rattle.files.proofs.Replies.{accepted-case, refused-case}
 use Rattle.boundary.specs.Values.{placeAfter}
 use Rattle.boundary.proofs.Rows.{place-kept}

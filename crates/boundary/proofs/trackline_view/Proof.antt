@@ -6,11 +6,11 @@ use native.Mathlib.Omega.{arith}
 use mir.Syntax.{w64}
 use mir.Val.{toZ, ofZ}
 use mir.Facts.{toZ-ofZ}
-use Rattle.files.specs.declared.pairs.Figures.{Figures}
+use Rattle.viewing.specs.declared.Figures.{Figures}
 use Rattle.files.specs.declared.View.{View}
-use Rattle.files.specs.View.{figures, viewed, viewNumber}
+use Rattle.viewing.specs.View.{figures, viewed, viewNumber}
 use Rattle.files.specs.Answers.{viewReply}
-use Rattle.files.proofs.Gathering.{Fits}
+use Rattle.viewing.proofs.Gathering.{Fits}
 use Rattle.files.proofs.Reports.{refused-case, reported-case}
 use Rattle.boundary.specs.Values.{reportOf, viewAnswer, viewAfter}
 use Rattle.boundary.proofs.Rows.{row-refused, row-put}

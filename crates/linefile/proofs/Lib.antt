@@ -1,0 +1,9 @@
+pub mod Keys
+pub mod Ascending
+pub mod Holding
+pub mod Lines
+pub mod Digits
+pub mod Ranks
+pub mod Judging
+pub mod Partners
+pub mod Steps

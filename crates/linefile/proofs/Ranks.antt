@@ -1,0 +1,122 @@
+-- Accepted lines ascend by their rank (specs/Walk.antt) as they do by their keys.
+-- Assumes nothing.
+use mathlib.Core.Path.{_≡_, sym, ap, ap₂, _∙_}
+use mathlib.Core.Bool.{true}
+use mathlib.Core.List.{List, [], _∷_}
+use Prim.Native.Nat.{ℕ, _+_, _*_, _≤_, _<_}
+use native.Mathlib.Omega.{arith}
+use lib.Dec.{ltb, eqb, lit<, lit≤}
+use lib.ListN.{getD}
+use lib.Seq.{getD-take}
+use borrow.Author.Tests.{lt-ltb, le-ltb, eqb-true}
+use Rattle.fields.specs.Read.{readDecimal}
+use Rattle.columns.specs.Columns.{byteIn, field, readLabels}
+use Rattle.reader.specs.Kinds.{letterFits}
+use Rattle.reader.proofs.Allowed.{either, letter-is}
+use Rattle.reader.proofs.Columns.{field-bound, holds-at}
+use Rattle.linefile.specs.Files.{columnsOf, keysOf, keys, before}
+use Rattle.linefile.specs.Walk.{pairAt, rank}
+use Rattle.linefile.proofs.Keys.{Heads, less, equal, more, heads, before-below, before-above, before-level, before-irrefl}
+use Rattle.linefile.proofs.Ascending.{Accepted}
+use Rattle.linefile.proofs.Digits.{rawAfter, excess, row, columns, digits-raw}
+
+-- the letter is that of a constellation
+letter-bound : (b : ℕ) → letterFits b ≡ true → b < 256
+unfolding letterFits
+letter-bound b e =
+    either _ (eqb b 74) e
+    (λ f. either _ (eqb b 67) f
+    (λ g. either _ (eqb b 69) g
+    (λ h. either (eqb b 71) (eqb b 82) h (is 71 (lit< tt)) (is 82 (lit< tt)))
+    (is 69 (lit< tt)))
+    (is 67 (lit< tt)))
+    (is 74 (lit< tt))
+  where
+    is : (n : ℕ) → n < 256 → eqb b n ≡ true → b < 256
+    is n h e = omega (arith, eqb-true b n e)
+
+-- ---- the keys as one number
+
+-- The rank by the keys themselves, which are less than their digits as they stand by as much for each line.
+abbrev value : (mjd start letter satellite : ℕ) → ℕ
+value m s c t = (((m + 533328) * 4000000 + (s + 1933008)) * 256 + c) * 1000 + (t + 528)
+
+record Inside (s c t : ℕ) : Type 0 where
+  pub start : s < 400000
+  pub letter : c < 256
+  pub satellite : t < 100
+
+-- by the first of two keys, where the others decide if it is the same
+by-first : (m n : ℕ) (a b : List ℕ) (v w : ℕ) → (m < n → v < w) → (n < m → w < v) → (m ≡ n → before a b ≡ ltb v w)
+    → before (m ∷ a) (n ∷ b) ≡ ltb v w
+by-first m n a b v w f g h = by-heads (heads m n)
+  where
+    weak : w < v → w ≤ v
+    weak k = omega arith
+
+    by-heads : Heads m n → before (m ∷ a) (n ∷ b) ≡ ltb v w
+    by-heads (less k) = before-below m n a b k ∙ sym (lt-ltb v w (f k))
+    by-heads (equal e) = ap (λ (l : ℕ). before (l ∷ a) (n ∷ b)) e ∙ before-level n a b ∙ h e
+    by-heads (more k) = before-above m n a b k ∙ sym (le-ltb v w (weak (g k)))
+
+value-before : (m s c t m′ s′ c′ t′ : ℕ) → Inside s c t → Inside s′ c′ t′
+    → before (m ∷ s ∷ c ∷ t ∷ []) (m′ ∷ s′ ∷ c′ ∷ t′ ∷ []) ≡ ltb (value m s c t) (value m′ s′ c′ t′)
+value-before m s c t m′ s′ c′ t′ i j =
+    by-first m m′ (s ∷ c ∷ t ∷ []) (s′ ∷ c′ ∷ t′ ∷ []) v w (λ h. omega arith) (λ h. omega arith)
+    (λ e. by-first s s′ (c ∷ t ∷ []) (c′ ∷ t′ ∷ []) v w (λ h. omega arith) (λ h. omega arith)
+    (λ f. by-first c c′ (t ∷ []) (t′ ∷ []) v w (λ h. omega arith) (λ h. omega arith)
+    (λ g. by-first t t′ [] [] v w (λ h. omega arith) (λ h. omega arith) (λ h. before-irrefl [] ∙ sym (le-ltb v w (omega arith))))))
+  where
+    v : ℕ
+    v = value m s c t
+
+    w : ℕ
+    w = value m′ s′ c′ t′
+
+-- ---- an accepted line
+
+module _ (x : List ℕ) (e : Accepted x) where
+  letter-is-first : getD x 0 0 ≡ getD (columnsOf x) 0 0
+  letter-is-first = sym (getD-take 113 x 0 0 (lit< tt))
+
+  mjd-is : 1000 * pairAt 7 x + 10 * pairAt 9 x + getD x 11 0 ≡ readDecimal (field 8 12 (columnsOf x)) + 533328
+  unfolding field rawAfter excess row
+  mjd-is = omega (arith, digits-raw x e 5 7 (lit≤ tt) (columns x e .mjd .holds))
+
+  start-is : 3600 * pairAt 13 x + 60 * pairAt 15 x + pairAt 17 x ≡ readLabels (columnsOf x) .start + 1933008
+  unfolding readLabels field rawAfter excess row
+  start-is =
+      omega (
+        arith,
+        digits-raw x e 2 13 (lit≤ tt) (columns x e .hour .holds),
+        digits-raw x e 2 15 (lit≤ tt) (columns x e .minute .holds),
+        digits-raw x e 2 17 (lit≤ tt) (columns x e .second .holds),
+      )
+
+  satellite-is : pairAt 1 x ≡ readDecimal (field 2 3 (columnsOf x)) + 528
+  unfolding field rawAfter excess row
+  satellite-is = omega (arith, digits-raw x e 2 1 (lit≤ tt) (columns x e .satellite .holds))
+
+  rank-is : rank x ≡ value (readLabels (columnsOf x) .mjd) (readLabels (columnsOf x) .start) (readLabels (columnsOf x) .constellation) (readLabels (columnsOf x) .satellite)
+  unfolding rank readLabels byteIn field
+  rank-is =
+      λ i. ((mjd-is i * 4000000 + start-is i) * 256 + letter-is-first i) * 1000 + satellite-is i
+
+  inside : Inside (readLabels (columnsOf x) .start) (readLabels (columnsOf x) .constellation) (readLabels (columnsOf x) .satellite)
+  unfolding readLabels byteIn
+  inside =
+      record {
+        start = omega (arith, field-bound (columns x e .hour), field-bound (columns x e .minute), field-bound (columns x e .second));
+        letter = letter-bound _ (sym (letter-is _) ∙ holds-at 1 (76 ∷ []) (columnsOf x) (columns x e .letter) 0 (lit< tt));
+        satellite = field-bound (columns x e .satellite);
+      }
+
+pub rank-before : (x y : List ℕ) → Accepted x → Accepted y → before (keys x) (keys y) ≡ ltb (rank x) (rank y)
+unfolding keys keysOf
+rank-before x y e f =
+    value-before _ _ _ _ _ _ _ _ (inside x e) (inside y f)
+    ∙ ap₂ ltb (sym (rank-is x e)) (sym (rank-is y f))
+
+-- the rank of an accepted line is not 0
+pub rank-some : (x : List ℕ) → Accepted x → 0 < rank x
+rank-some x e = omega (arith, rank-is x e)

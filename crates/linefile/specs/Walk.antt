@@ -1,0 +1,39 @@
+-- What the functions that walk the files promise each other: how lines are ranked by one number, and how a walk goes on by it.
+-- Assumes nothing.
+use Prim.Native.Nat.{ℕ, _+_, _*_, _/_}
+use mathlib.Core.Bool.{false, cond, _&&_}
+use mathlib.Core.List.{List, []}
+use lib.Dec.{ltb, leb, eqb}
+use lib.ListN.{length, getD}
+use Rattle.linefile.specs.Files.{endedLength, lines}
+use Rattle.linefile.specs.declared.Next.{Next}
+
+-- Two bytes that stand for the digits of a number: 48 · 11 more than it.
+abbrev pub pairAt : ℕ → List ℕ → ℕ
+pairAt at line = 10 * getD line at 0 + getD line (at + 1) 0
+
+-- One number for the four keys of an accepted line, each with a radix beyond what it reaches: so lines ascend by it as they do by their keys.
+unfoldable pub rank : List ℕ → ℕ
+rank line =
+    (((1000 * pairAt 7 line + 10 * pairAt 9 line + getD line 11 0) * 4000000
+    + (3600 * pairAt 13 line + 60 * pairAt 15 line + pairAt 17 line))
+    * 256
+    + getD line 0 0)
+    * 1000
+    + pairAt 1 line
+
+-- Line i of a file, counted from 0.
+abbrev pub lineAt : List ℕ → ℕ → List ℕ
+lineAt file i = getD (lines file) i []
+
+-- A step of a walk at lines m and n, of the ranks p and q: it passes the line of the lesser rank, and both where the ranks are the same.
+abbrev pub passing : (p q m n : ℕ) → Next
+passing p q m n =
+    record { earlier = leb p q; level = eqb p q; m = m + cond (leb p q) 1 0; n = n + cond (leb q p) 1 0 }
+
+-- The step from line m of the first file and line n of the second. Where one of them has no such line the walk stays.
+unfoldable pub stepOf : (first second : List ℕ) (m n : ℕ) → Next
+stepOf first second m n =
+    cond (ltb m (length first / endedLength) && ltb n (length second / endedLength))
+    (passing (rank (lineAt first m)) (rank (lineAt second n)) m n)
+    (record { earlier = false; level = false; m = m; n = n })

@@ -1,0 +1,7 @@
+pub mod Joined
+pub mod Steps
+pub mod Written
+pub mod Walking
+pub mod Replies
+pub mod Merging
+pub mod MergedFiles
