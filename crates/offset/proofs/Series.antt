@@ -17,6 +17,7 @@ use Rattle.exact.specs.Places.{sum-place}
 use Rattle.series.specs.Smooth.{smoothed}
 use Rattle.series.specs.Fit.{total, moment, midpoint, slope}
 use Rattle.series.specs.Scatter.{residual, squares}
+use Rattle.offset.specs.Shifted.{unit}
 
 -- fifteen measurements moved by c: their smoothed value moves by c, as the weights add up to 1105
 weights-sum : sum 15 (at weights) ≡ pos 1105
@@ -80,13 +81,13 @@ module _ (n : ℕ) (h : 1 ≤ n) (c : ℤ) (v moved : ℕ → ℤ) (e : (j : ℕ
   squares-stay = sum-cong n (λ j k. ap squared (residual-stays j k))
 
 -- and the midpoint moves by k where they are moved by k × 100 ps
-pub midpoint-moves : (n : ℕ) → 1 ≤ n → (k : ℤ) (v moved : ℕ → ℤ) → ((j : ℕ) → j < n → moved j ≡ v j +ℤ pos 100 *ℤ k)
+pub midpoint-moves : (n : ℕ) → 1 ≤ n → (k : ℤ) (v moved : ℕ → ℤ) → ((j : ℕ) → j < n → moved j ≡ v j +ℤ unit *ℤ k)
     → midpoint 1 n moved ≡ midpoint 1 n v +ℤ k
 unfolding midpoint
 midpoint-moves n h k v moved e =
     ap (λ (z : ℤ). nearest z (100 * n))
-    (total-moves n h (pos 100 *ℤ k) v moved e ∙ ap (λ (z : ℤ). total n v +ℤ z) (units k (pos n)))
+    (total-moves n h (unit *ℤ k) v moved e ∙ ap (λ (z : ℤ). total n v +ℤ z) (units k (pos n)))
     ∙ nearest-shift (total n v) (100 * n) (omega arith) k
   where
-    units : (k n : ℤ) → pos 100 *ℤ k *ℤ n ≡ k *ℤ (pos 100 *ℤ n)
+    units : (k n : ℤ) → unit *ℤ k *ℤ n ≡ k *ℤ (pos 100 *ℤ n)
     units k n = identity (k ∷ n ∷ []) (search quote depth 20) tt

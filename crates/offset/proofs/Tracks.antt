@@ -18,7 +18,7 @@ use Rattle.fit.specs.Track.{blocks, smoothedAt, valueA, valueB, valueC, valueD,
 use Rattle.fit.proofs.Arrays.{places-at}
 use Rattle.fit.proofs.Tracks.{sized}
 use Rattle.line.proofs.Blocks.{track-number, track-record}
-use Rattle.offset.specs.Shifted.{raised, shifted, Moved}
+use Rattle.offset.specs.Shifted.{raised, unit, shifted, Moved}
 use Rattle.offset.proofs.Series.{smoothed-moves, midpoint-moves, slope-stays, squares-stay}
 
 -- ---- lists
@@ -32,32 +32,32 @@ at-raised c (z ∷ l) (suc i) h = at-raised c l i (le-of-suc-le-suc h)
 -- ---- the corrected values
 
 module _ (k : ℤ) (g : Given) (sized : length (g .measurements) ≡ 15 * blocks g) where
-  block-moves : (j i : ℕ) → j < blocks g → i < 15 → block (shifted k g) j i ≡ block g j i +ℤ pos 100 *ℤ k
+  block-moves : (j i : ℕ) → j < blocks g → i < 15 → block (shifted k g) j i ≡ block g j i +ℤ unit *ℤ k
   unfolding block shifted
-  block-moves j i h p = at-raised (pos 100 *ℤ k) (g .measurements) (15 * j + i) (omega (arith, sized))
+  block-moves j i h p = at-raised (unit *ℤ k) (g .measurements) (15 * j + i) (omega (arith, sized))
 
-  a-moves : (j : ℕ) → j < blocks g → valueA (shifted k g) j ≡ valueA g j +ℤ pos 100 *ℤ k
+  a-moves : (j : ℕ) → j < blocks g → valueA (shifted k g) j ≡ valueA g j +ℤ unit *ℤ k
   unfolding valueA smoothedAt toA shifted
   a-moves j h =
-      ap (λ (y : ℤ). toA g (pos 1) j y) (smoothed-moves (pos 100 *ℤ k) (block g j) (block (shifted k g) j) (λ i p. block-moves j i h p))
-      ∙ last (smoothedAt g j) (pos 100 *ℤ k) (pos 1 *ℤ (g .int +ℤ g .cab -ℤ g .refdly)) (pos 1 *ℤ at (g .geometry) j)
+      ap (λ (y : ℤ). toA g (pos 1) j y) (smoothed-moves (unit *ℤ k) (block g j) (block (shifted k g) j) (λ i p. block-moves j i h p))
+      ∙ last (smoothedAt g j) (unit *ℤ k) (pos 1 *ℤ (g .int +ℤ g .cab -ℤ g .refdly)) (pos 1 *ℤ at (g .geometry) j)
       (pos 1 *ℤ at (g .relativity) j) (pos 1 *ℤ at (g .ionosphere) j) (pos 1 *ℤ at (g .troposphere) j) (pos 1 *ℤ g .gd)
     where
       last : (y c u v w x z t : ℤ) → y +ℤ c -ℤ u -ℤ v +ℤ w -ℤ x -ℤ z -ℤ t ≡ y -ℤ u -ℤ v +ℤ w -ℤ x -ℤ z -ℤ t +ℤ c
       last y c u v w x z t = identity (y ∷ c ∷ u ∷ v ∷ w ∷ x ∷ z ∷ t ∷ []) (search quote depth 20 fits 4000) tt
 
-  b-moves : (j : ℕ) → j < blocks g → valueB (shifted k g) j ≡ valueB g j +ℤ pos 100 *ℤ k
+  b-moves : (j : ℕ) → j < blocks g → valueB (shifted k g) j ≡ valueB g j +ℤ unit *ℤ k
   unfolding valueA valueB toB shifted
-  b-moves j h = ap (λ (y : ℤ). y +ℤ pos 1 *ℤ at (g .clock) j) (a-moves j h) ∙ last (valueA g j) (pos 100 *ℤ k) (pos 1 *ℤ at (g .clock) j)
+  b-moves j h = ap (λ (y : ℤ). y +ℤ pos 1 *ℤ at (g .clock) j) (a-moves j h) ∙ last (valueA g j) (unit *ℤ k) (pos 1 *ℤ at (g .clock) j)
     where
       last : (y c u : ℤ) → y +ℤ c +ℤ u ≡ y +ℤ u +ℤ c
       last y c u = identity (y ∷ c ∷ u ∷ []) (search quote depth 20) tt
 
   -- at the places in use, too
-  moved-places : (before after : ℕ → ℤ) → ((j : ℕ) → j < blocks g → after j ≡ before j +ℤ pos 100 *ℤ k)
-      → (j : ℕ) → j < blocks g → at (places (blocks g) after) j ≡ at (places (blocks g) before) j +ℤ pos 100 *ℤ k
+  moved-places : (before after : ℕ → ℤ) → ((j : ℕ) → j < blocks g → after j ≡ before j +ℤ unit *ℤ k)
+      → (j : ℕ) → j < blocks g → at (places (blocks g) after) j ≡ at (places (blocks g) before) j +ℤ unit *ℤ k
   moved-places before after e j h =
-      places-at (blocks g) after j h ∙ e j h ∙ ap (λ (z : ℤ). z +ℤ pos 100 *ℤ k) (sym (places-at (blocks g) before j h))
+      places-at (blocks g) after j h ∙ e j h ∙ ap (λ (z : ℤ). z +ℤ unit *ℤ k) (sym (places-at (blocks g) before j h))
 
   -- the ten numbers
   numbers-move : 1 ≤ blocks g → Moved k (results g .numbers) (results (shifted k g) .numbers)
@@ -68,14 +68,14 @@ module _ (k : ℤ) (g : Given) (sized : length (g .measurements) ≡ 15 * blocks
       let b = moved-places (valueB g) (valueB (shifted k g)) b-moves in
       record {
         refsv = midpoint-moves n h k _ _ a;
-        srsv = slope-stays n h (pos 100 *ℤ k) _ _ a;
+        srsv = slope-stays n h (unit *ℤ k) _ _ a;
         refsys = midpoint-moves n h k _ _ b;
-        srsys = slope-stays n h (pos 100 *ℤ k) _ _ b;
+        srsys = slope-stays n h (unit *ℤ k) _ _ b;
         mdtr = refl;
         smdt = refl;
         mdio = refl;
         smdi = refl;
-        dsg = ap (λ (q : ℤ). pos (dsg 1 n q)) (squares-stay n h (pos 100 *ℤ k) _ _ b);
+        dsg = ap (λ (q : ℤ). pos (dsg 1 n q)) (squares-stay n h (unit *ℤ k) _ _ b);
         trkl = refl;
       }
 

@@ -17,11 +17,15 @@ unfoldable pub raised : ℤ → List ℤ → List ℤ
 raised c [] = []
 raised c (z ∷ l) = (z +ℤ c) ∷ raised c l
 
+-- 0.1 ns, the unit of REFSV and REFSYS, in ps.
+abbrev pub unit : ℤ
+unit = pos 100
+
 -- What a track is given, k × 100 ps added to every measurement and nothing else changed. k may be negative.
 unfoldable pub shifted : ℤ → Given → Given
 shifted k g =
     record {
-      measurements = raised (pos 100 *ℤ k) (g .measurements);
+      measurements = raised (unit *ℤ k) (g .measurements);
       int = g .int;
       cab = g .cab;
       refdly = g .refdly;
