@@ -33,6 +33,8 @@ STRICT := -std=c11 -Wall -Wextra -Werror -pedantic
 export CARGO_TARGET_DIR := $(CURDIR)/target/cargo
 export LINE_ARCHIVE := $(CURDIR)/$(ARCHIVE)
 CARGO := cargo --offline
+# How many crates or must-fail edits rt takes at once: with three, bench is proved beside the reader, and on two cores none waits for long.
+export RT_JOBS ?= 3
 INSTALLED := $(DESTDIR)$(abspath $(PREFIX))
 # What the archive is made of: every crate but the programs.
 SOURCES := crates.txt $(shell find crates -name must-fail -prune -o -path crates/trackline -prune -o -path crates/bench -prune -o -type f -print)
@@ -53,7 +55,7 @@ INSTALLS := $(addprefix bin/,$(notdir $(PROGRAMS))) include/trackline.h lib/libt
 .PHONY: help run test beside proofs bench speed instructions fuzz program programs cggtts archive shared install uninstall clean
 # rt ci clears target/, where everything else is built.
 .NOTPARALLEL:
-.PHONY: one-prefix
+.PHONY: one-prefix side-by-side
 
 help:
 	@sed -n 's/^# make /make /p' Makefile
@@ -79,7 +81,11 @@ test: beside proofs
 proofs:
 	rt ci
 
-beside: archive programs cggtts
+# What the tests are of is proved at once, and not crate by crate for the archive and the programs.
+side-by-side:
+	rt check boundary trackline bench
+
+beside: side-by-side archive programs cggtts
 	rt fmt --check
 	tests/make.sh
 	python3 tests/hireblock/test_hireblock.py

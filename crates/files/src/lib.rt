@@ -1,8 +1,5 @@
-// Line files: lines of 115 bytes, each 113 columns and a line end, that ascend strictly by MJD, start, constellation letter and satellite
-// number. Two of them become one, or are reported on in common view. A file is refused by the numbers and in the order of document 02, Job 5;
-// the first file before the second. Merge then refuses two lines of the same keys that differ (15) and a lent file that is too short (17): nothing
-// is written before all of that is accepted, and nothing behind the result. Common view refuses a file of more than 10000 lines (19) before it
-// reads any, and files without a pair (18) in the end. Crates merging and viewing do the work; here each answer gets its case.
+// What is done with two line files (crate linefile says what one is): merge makes one of them, and common view reports on the tracks that are in
+// both. Crates merging and viewing do the work and answer a number beside the result; here each answer gets its case.
 ghost use mathlib.Core.Path.{_≡_};
 ghost use lib.ListN.{length};
 ghost use Rattle.merging.specs.Merge.{mergeRule, mergeAfter};
@@ -15,7 +12,7 @@ pub enum Merged {
     Refused(u32),
 }
 
-// Writes the lines of both files, each once, into the lent file.
+// One file from two, into the lent file.
 pub fn merge(first: &[u8], second: &[u8], file: &mut [u8]) -> Merged
     ensures answer { λ r. ⌜ mergeReply r ≡ mergeRule (now (first .entry)) (now (second .entry)) (length (now (file .entry))) ⌝ }
     ensures variant { λ r. ⌜ mergeNumbered r ⌝ }
@@ -39,8 +36,8 @@ pub fn merged_number(merged: Merged) -> u32
     }
 }
 
-// What common view answers: how many pairs there are, the sum of first REFSYS minus second REFSYS, the smallest and the largest of these
-// differences, in 0.1 ns; or the number of the refusal.
+// What common view answers: the number of pairs and, of what the first file's REFSYS is more than the second's in each, the sum and the two
+// extremes, in 0.1 ns; or the number of the refusal.
 pub enum View {
     Report {
         pairs: i64,
@@ -51,7 +48,7 @@ pub enum View {
     Refused(u32),
 }
 
-// Reports on the lines that are in both files by MJD, start, constellation letter, satellite and TRKL.
+// The report on two files in common view.
 pub fn common_view(first: &[u8], second: &[u8]) -> View
     ensures answer { λ r. ⌜ viewReply r ≡ viewRule (now (first .entry)) (now (second .entry)) ⌝ }
     ensures variant { λ r. ⌜ viewNumbered r ⌝ }

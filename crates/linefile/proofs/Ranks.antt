@@ -15,7 +15,7 @@ use Rattle.reader.specs.Kinds.{letterFits}
 use Rattle.reader.proofs.Allowed.{either, letter-is}
 use Rattle.reader.proofs.Columns.{field-bound, holds-at}
 use Rattle.linefile.specs.Files.{columnsOf, keysOf, keys, before}
-use Rattle.linefile.specs.Walk.{pairAt, rank}
+use Rattle.linefile.specs.Walk.{twoDigits, rank}
 use Rattle.linefile.proofs.Keys.{Heads, less, equal, more, heads, before-below, before-above, before-level, before-irrefl}
 use Rattle.linefile.proofs.Ascending.{Accepted}
 use Rattle.linefile.proofs.Digits.{rawAfter, excess, row, columns, digits-raw}
@@ -79,11 +79,11 @@ module _ (x : List ℕ) (e : Accepted x) where
   letter-is-first : getD x 0 0 ≡ getD (columnsOf x) 0 0
   letter-is-first = sym (getD-take 113 x 0 0 (lit< tt))
 
-  mjd-is : 1000 * pairAt 7 x + 10 * pairAt 9 x + getD x 11 0 ≡ readDecimal (field 8 12 (columnsOf x)) + 533328
+  mjd-is : 1000 * twoDigits 7 x + 10 * twoDigits 9 x + getD x 11 0 ≡ readDecimal (field 8 12 (columnsOf x)) + 533328
   unfolding field rawAfter excess row
   mjd-is = omega (arith, digits-raw x e 5 7 (lit≤ tt) (columns x e .mjd .holds))
 
-  start-is : 3600 * pairAt 13 x + 60 * pairAt 15 x + pairAt 17 x ≡ readLabels (columnsOf x) .start + 1933008
+  start-is : 3600 * twoDigits 13 x + 60 * twoDigits 15 x + twoDigits 17 x ≡ readLabels (columnsOf x) .start + 1933008
   unfolding readLabels field rawAfter excess row
   start-is =
       omega (
@@ -93,7 +93,7 @@ module _ (x : List ℕ) (e : Accepted x) where
         digits-raw x e 2 17 (lit≤ tt) (columns x e .second .holds),
       )
 
-  satellite-is : pairAt 1 x ≡ readDecimal (field 2 3 (columnsOf x)) + 528
+  satellite-is : twoDigits 1 x ≡ readDecimal (field 2 3 (columnsOf x)) + 528
   unfolding field rawAfter excess row
   satellite-is = omega (arith, digits-raw x e 2 1 (lit≤ tt) (columns x e .satellite .holds))
 

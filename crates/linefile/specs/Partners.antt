@@ -5,7 +5,7 @@ use mathlib.Core.Bool.{cond}
 use mathlib.Core.List.{List, [], _∷_, _++_}
 use Rattle.linefile.specs.Files.{same, keys}
 
--- Each pair of lines, one of each file, that share all four keys.
+-- Each two lines, one of each file, that share all four keys.
 unfoldable pub partnersOf : (line : List ℕ) → List (List ℕ) → List (List ℕ × List ℕ)
 partnersOf line [] = []
 partnersOf line (other ∷ others) =

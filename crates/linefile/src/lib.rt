@@ -6,7 +6,7 @@ ghost use mathlib.Core.Bool.{cond};
 ghost use Prim.Native.Nat.{_≤_};
 ghost use Rattle.limits.specs.Refusal.{_then_};
 ghost use Rattle.linefile.specs.Files.{fileNumber};
-ghost use Rattle.linefile.specs.Walk.{pairAt, stepOf};
+ghost use Rattle.linefile.specs.Walk.{twoDigits, stepOf};
 use limits::then;
 use limits::when;
 
@@ -27,7 +27,9 @@ pub fn refusal(file: &[u8]) -> u32
         let at = LINE * i;
         let line = &file[at..at + LINE];
         let place = rank::rank(line);
-        number = then(judge::line_refusal(line), when(16, place <= last));
+        let own = judge::line_refusal(line);
+        let order = when(16, place <= last);
+        number = then(own, order);
         last = place;
         i += 1;
     }
@@ -42,19 +44,25 @@ pub fn refusals(first: &[u8], second: &[u8]) -> u32
 }
 
 // Two bytes of a line, as if they were digits and '0' were 0. What stands past its end counts as 0.
-pub fn pair(line: &[u8], at: usize) -> u64
-    ensures { λ r. ⌜ (r ≡ pairAt at (now (line .entry))) × (r ≤ 2805) ⌝ }
+pub fn two_digits(line: &[u8], at: usize) -> u64
+    ensures { λ r. ⌜ (r ≡ twoDigits at (now (line .entry))) × (r ≤ 2805) ⌝ }
 {
     if line.len() <= at {
         return 0;
     }
-    10 * rank::byte(line, at) + rank::byte(line, at + 1)
+    if line.len() - at < 2 {
+        return 10 * rank::wide(line[at]);
+    }
+    rank::two_digits(line, at)
 }
 
 // Where a walk goes on: behind the earlier of two lines, or behind both where they have the same keys.
 pub struct Next {
+    // the line of the first file is passed: it is the earlier one, or level
     pub earlier: bool,
+    // both lines have the same keys
     pub level: bool,
+    // the next lines of the two files
     pub m: usize,
     pub n: usize,
 }

@@ -1,28 +1,35 @@
 // Lines ranked by one number, so that two of them are compared by one comparison.
 ghost use mathlib.Core.Path.{_≡_};
-ghost use Prim.Native.Nat.{_≤_, _<_, _/_};
-ghost use lib.ListN.{length, getD};
+ghost use Prim.Native.Nat.{_+_, _≤_, _<_, _/_};
+ghost use lib.ListN.{length};
 ghost use Rattle.linefile.specs.Files.{endedLength};
-ghost use Rattle.linefile.specs.Walk.{rank, lineAt};
-use super::pair;
+ghost use Rattle.linefile.specs.Walk.{twoDigits, rank, lineAt};
 
 const LINE: usize = 115;
 
-// A byte of a line, 0 past its end.
-pub fn byte(line: &[u8], at: usize) -> u64
-    ensures { λ r. ⌜ (r ≡ getD (now (line .entry)) at 0) × (r ≤ 255) ⌝ }
+pub fn wide(b: u8) -> u64
+    ensures { λ r. ⌜ (r ≡ b) × (r ≤ 255) ⌝ }
 {
-    if at < line.len() { line[at] as u64 } else { 0 }
+    b as u64
+}
+
+// Two bytes, as if they were digits and '0' were 0.
+pub fn two_digits(line: &[u8], at: usize) -> u64
+    requires { ⌜ at + 1 < length (now line) ⌝ }
+    ensures { λ r. ⌜ (r ≡ twoDigits at (now (line .entry))) × (r ≤ 2805) ⌝ }
+{
+    10 * wide(line[at]) + wide(line[at + 1])
 }
 
 // The rank of a line by MJD, start, letter and satellite.
 pub fn rank(line: &[u8]) -> u64
+    requires { ⌜ 18 < length (now line) ⌝ }
     ensures { λ r. ⌜ r ≡ rank (now (line .entry)) ⌝ }
 {
-    let mjd = 1000 * pair(line, 7) + 10 * pair(line, 9) + byte(line, 11);
-    let start = 3600 * pair(line, 13) + 60 * pair(line, 15) + pair(line, 17);
-    let letter = byte(line, 0);
-    let satellite = pair(line, 1);
+    let mjd = 1000 * two_digits(line, 7) + 10 * two_digits(line, 9) + wide(line[11]);
+    let start = 3600 * two_digits(line, 13) + 60 * two_digits(line, 15) + two_digits(line, 17);
+    let letter = wide(line[0]);
+    let satellite = two_digits(line, 1);
     ((mjd * 4000000 + start) * 256 + letter) * 1000 + satellite
 }
 

@@ -11,7 +11,7 @@ use Rattle.linefile.specs.Files.{same, keys, before, lines, fileNumber}
 use Rattle.linefile.specs.Partners.{partners}
 use Rattle.merging.specs.declared.Made.{Made}
 
--- Some pair is of different lines.
+-- Some two of such lines differ.
 unfoldable pub anyDiffer : List (List ℕ × List ℕ) → Bool
 anyDiffer [] = false
 anyDiffer ((line, other) ∷ pairs) = not (same line other) || anyDiffer pairs

@@ -17,7 +17,7 @@ use Rattle.columns.specs.Columns.{field, readNumbers}
 use Rattle.reader.proofs.Columns.{field-bound, signed-field}
 use Rattle.reader.proofs.Signs.{minus-read, plus-read, read-magnitude}
 use Rattle.linefile.specs.Files.{columnsOf}
-use Rattle.linefile.specs.Walk.{pairAt}
+use Rattle.linefile.specs.Walk.{twoDigits}
 use Rattle.viewing.specs.View.{trklOf, refsysOf}
 use Rattle.linefile.proofs.Ascending.{Accepted}
 use Rattle.linefile.proofs.Digits.{rawAfter, excess, row, columns, columns-long, digits-raw}
@@ -26,11 +26,11 @@ module _ (line : List ℕ) (e : Accepted line) where
   pub line-long : lineLength ≤ length line
   line-long = le-trans (columns-long line e) (subst (λ (n : ℕ). n ≤ length line) (sym (length-take lineLength line)) (min-le-right lineLength (length line)))
 
-  pub trkl-raw : 100 * pairAt 20 line + pairAt 22 line ≡ trklOf line + 53328
+  pub trkl-raw : 100 * twoDigits 20 line + twoDigits 22 line ≡ trklOf line + 53328
   unfolding trklOf readNumbers field rawAfter excess row
   trkl-raw = omega (arith, digits-raw line e 4 20 (lit≤ tt) (columns line e .trkl .holds))
 
-  pub refsys-raw : {p q r s t : ℕ} → p ≡ pairAt 54 line → q ≡ pairAt 56 line → r ≡ pairAt 58 line → s ≡ pairAt 60 line → t ≡ pairAt 62 line
+  pub refsys-raw : {p q r s t : ℕ} → p ≡ twoDigits 54 line → q ≡ twoDigits 56 line → r ≡ twoDigits 58 line → s ≡ twoDigits 60 line → t ≡ twoDigits 62 line
       → 100 * (1000000 * p + 10000 * q + 100 * r + s) + t ≡ readDecimal (field 55 64 (columnsOf line)) + 53333333328
   unfolding field rawAfter excess row
   refsys-raw ep eq er es et = omega (arith, digits-raw line e 10 54 (lit≤ tt) (columns line e .refsys .digits .holds))

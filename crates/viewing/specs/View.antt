@@ -16,7 +16,7 @@ use Rattle.linefile.specs.Partners.{partners}
 use Rattle.viewing.specs.declared.Figures.{Figures}
 use Rattle.viewing.specs.declared.Viewed.{Viewed}
 
--- TRKL of a line in seconds, and its REFSYS in 0.1 ns.
+-- TRKL of a line in seconds, which has no sign, and its REFSYS in 0.1 ns.
 unfoldable pub trklOf : List ℕ → ℕ
 trklOf line = natAbs (readNumbers (columnsOf line) .trkl)
 
@@ -38,20 +38,23 @@ unfoldable pub differences : List (List ℕ × List ℕ) → List ℤ
 differences [] = []
 differences ((line, other) ∷ rest) = (refsysOf line -ℤ refsysOf other) ∷ differences rest
 
+-- The differences of two files.
 unfoldable pub viewed : (first second : List ℕ) → List ℤ
 viewed first second = differences (pairsOf first second)
 
--- Their sum, and the smallest and the largest of them; 0 where there is none.
+-- Their sum.
 unfoldable pub total : List ℤ → ℤ
 total [] = pos 0
 total (d ∷ rest) = d +ℤ total rest
 
+-- The smaller and the larger of two.
 unfoldable pub smaller : ℤ → ℤ → ℤ
 smaller d e = cond (ltZ e d) e d
 
 unfoldable pub larger : ℤ → ℤ → ℤ
 larger d e = cond (ltZ d e) e d
 
+-- What is left of several when each is compared with the next; the smallest or the largest of them so, and 0 where there is none.
 unfoldable pub chosen : (choose : ℤ → ℤ → ℤ) → ℤ → List ℤ → ℤ
 chosen choose d [] = d
 chosen choose d (e ∷ rest) = chosen choose (choose d e) rest
@@ -69,7 +72,7 @@ figures ds =
 abbrev pub longest : ℕ
 longest = 1150000
 
--- 19: a file is longer. Then the first file's refusals, then the second's. 18: there is no pair.
+-- 19: either file is longer than that. Then the first file's refusals, then the second's. 18: there is no pair, and so no difference.
 unfoldable pub viewNumber : (first second : List ℕ) → ℕ
 viewNumber first second =
     19 when (ltb longest (length first) || ltb longest (length second))

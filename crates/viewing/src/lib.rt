@@ -23,6 +23,7 @@ pub struct Viewed {
     pub figures: Figures,
 }
 
+// The answer of a refusal.
 fn refused(number: u32) -> Viewed
     ensures { λ r. ⌜ r ≡ refusedBy number ⌝ }
 {

@@ -11,8 +11,8 @@ ghost use Rattle.linefile.specs.Files.{columnsOf, lineNumber, fileNumber};
 ghost use Rattle.viewing.specs.View.{trklOf, refsysOf, figures, viewed, longest};
 ghost use Rattle.viewing.specs.Gather.{counted, widest, Bounded};
 use super::Figures;
-use linefile::pair;
 use linefile::step;
+use linefile::two_digits;
 
 const LINE: usize = 115;
 
@@ -21,7 +21,7 @@ fn trkl(line: &[u8]) -> u64
     requires { ⌜ lineNumber (now line) ≡ 0 ⌝ }
     ensures { λ r. ⌜ r ≡ trklOf (now (line .entry)) + 53328 ⌝ }
 {
-    100 * pair(line, 20) + pair(line, 22)
+    100 * two_digits(line, 20) + two_digits(line, 22)
 }
 
 // The magnitude of an accepted line's REFSYS. Its ten digits as they stand are 48 · 1111111111 more.
@@ -29,11 +29,11 @@ fn refsys_size(line: &[u8]) -> i64
     requires { ⌜ lineNumber (now line) ≡ 0 ⌝ }
     ensures { λ r. ⌜ r ≡ pos (readDecimal (field 55 64 (columnsOf (now (line .entry))))) ⌝ }
 {
-    let high = 1000000 * pair(line, 54)
-        + 10000 * pair(line, 56)
-        + 100 * pair(line, 58)
-        + pair(line, 60);
-    (100 * high + pair(line, 62) - 53333333328) as i64
+    let high = 1000000 * two_digits(line, 54)
+        + 10000 * two_digits(line, 56)
+        + 100 * two_digits(line, 58)
+        + two_digits(line, 60);
+    (100 * high + two_digits(line, 62) - 53333333328) as i64
 }
 
 // REFSYS of an accepted line.
@@ -48,10 +48,11 @@ fn refsys(line: &[u8]) -> i64
     size
 }
 
-fn choose(first: bool, d: i64, e: i64) -> i64
-    ensures { λ r. ⌜ r ≡ cond first d e ⌝ }
+// One of two differences, by a test.
+fn choose(new: bool, d: i64, e: i64) -> i64
+    ensures { λ r. ⌜ r ≡ cond new d e ⌝ }
 {
-    if first { d } else { e }
+    if new { d } else { e }
 }
 
 // One difference more.

@@ -5,14 +5,14 @@ use borrow.Author.Needs.{needs}
 use Rattle.linefile.proofs.rank.rank.Statement.{statement}
 use Rattle.linefile.proofs.rank.rank.Tie as tie
 
-pair-requires : tie.Need-pair-requires
-pair-requires c κs = search needs
+two-digits-requires : tie.Need-two-digits-requires
+two-digits-requires c κs = search needs
 
 mul-mjd : tie.Need-mul-mjd
 mul-mjd c = search needs
 
-pair-requires-2 : tie.Need-pair-requires-2
-pair-requires-2 c κs = search needs
+two-digits-requires-2 : tie.Need-two-digits-requires-2
+two-digits-requires-2 c κs = search needs
 
 mul-mjd-2 : tie.Need-mul-mjd-2
 mul-mjd-2 c = search needs
@@ -20,20 +20,23 @@ mul-mjd-2 c = search needs
 add-mjd : tie.Need-add-mjd
 add-mjd c = search needs
 
-byte-requires : tie.Need-byte-requires
-byte-requires c κs = search needs
+shared-slice-read-wide : tie.Need-shared-slice-read-wide
+shared-slice-read-wide c = search needs
+
+wide-requires : tie.Need-wide-requires
+wide-requires c κs = search needs
 
 add-mjd-2 : tie.Need-add-mjd-2
 add-mjd-2 c = search needs
 
-pair-requires-3 : tie.Need-pair-requires-3
-pair-requires-3 c κs = search needs
+two-digits-requires-3 : tie.Need-two-digits-requires-3
+two-digits-requires-3 c κs = search needs
 
 mul-start : tie.Need-mul-start
 mul-start c = search needs
 
-pair-requires-4 : tie.Need-pair-requires-4
-pair-requires-4 c κs = search needs
+two-digits-requires-4 : tie.Need-two-digits-requires-4
+two-digits-requires-4 c κs = search needs
 
 mul-start-2 : tie.Need-mul-start-2
 mul-start-2 c = search needs
@@ -41,17 +44,20 @@ mul-start-2 c = search needs
 add-start : tie.Need-add-start
 add-start c = search needs
 
-pair-requires-5 : tie.Need-pair-requires-5
-pair-requires-5 c κs = search needs
+two-digits-requires-5 : tie.Need-two-digits-requires-5
+two-digits-requires-5 c κs = search needs
 
 add-start-2 : tie.Need-add-start-2
 add-start-2 c = search needs
 
-byte-requires-2 : tie.Need-byte-requires-2
-byte-requires-2 c κs = search needs
+shared-slice-read-wide-2 : tie.Need-shared-slice-read-wide-2
+shared-slice-read-wide-2 c = search needs
 
-pair-requires-6 : tie.Need-pair-requires-6
-pair-requires-6 c κs = search needs
+wide-requires-2 : tie.Need-wide-requires-2
+wide-requires-2 c κs = search needs
+
+two-digits-requires-6 : tie.Need-two-digits-requires-6
+two-digits-requires-6 c κs = search needs
 
 mul-result : tie.Need-mul-result
 mul-result c = search needs
@@ -79,22 +85,24 @@ pub rank-spec : {M : Type 1} → statement M
 rank-spec =
     tie.close
     (tie.spec
-    pair-requires
+    two-digits-requires
     mul-mjd
-    pair-requires-2
+    two-digits-requires-2
     mul-mjd-2
     add-mjd
-    byte-requires
+    shared-slice-read-wide
+    wide-requires
     add-mjd-2
-    pair-requires-3
+    two-digits-requires-3
     mul-start
-    pair-requires-4
+    two-digits-requires-4
     mul-start-2
     add-start
-    pair-requires-5
+    two-digits-requires-5
     add-start-2
-    byte-requires-2
-    pair-requires-6
+    shared-slice-read-wide-2
+    wide-requires-2
+    two-digits-requires-6
     mul-result
     add-result
     mul-result-2
