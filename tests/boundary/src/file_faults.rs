@@ -1,10 +1,9 @@
-//! Faults that can be put into two good line files, each the cause of one refusal of merge.
+//! Faults that can be put into two good line files, each the cause of one refusal of merge or of a common view.
 
-use crate::compare::Lent;
-use reference::good_files::{ended_line, lines_in, Ended, Span};
+use reference::good_files::{ended_line, put, repair, Ended};
 use reference::seeded::Seeded;
 use reference::{Labels, FILE_LINE_BYTES, LINE_BYTES};
-use std::cmp::Ordering;
+use std::collections::BTreeMap;
 
 /// Where in its file a line stands.
 #[derive(Clone, Copy, Debug, PartialEq, Eq, PartialOrd, Ord)]
@@ -29,23 +28,30 @@ pub enum Wrong {
 /// In the order in which they are tried, but for two lines of one file, of which the earlier decides.
 #[derive(Clone, Copy, Debug, PartialEq, Eq, PartialOrd, Ord)]
 pub enum Fault {
-    /// a line of the first file (0) or the second (1)
+    /// the first file (0) or the second (1) is longer than a common view takes
+    Long(usize),
+    /// a line of a file
     Line(usize, Wrong, Place),
     /// a tail behind the lines of a file
     Tail(usize),
     /// two lines of the same keys that differ
     Differ,
+    /// no line of the one makes a pair with a line of the other
+    NoPair,
     /// the lent file
     Room,
+    /// the lent report
+    Few,
 }
 
-use Fault::{Differ, Line, Room, Tail};
+use Fault::{Differ, Few, Line, Long, NoPair, Room, Tail};
 use Place::{First, Last, Middle};
 use Wrong::{Character, Check, End, Label, Order, Start};
 
 impl Fault {
     pub fn number(self) -> u32 {
         match self {
+            Long(_) => 19,
             Line(_, Check, _) => 14,
             Line(_, Character | End, _) => 13,
             Line(_, Label, _) => 7,
@@ -53,26 +59,26 @@ impl Fault {
             Line(_, Order, _) => 16,
             Tail(_) => 12,
             Differ => 15,
+            NoPair => 18,
             Room => 17,
+            Few => 9,
         }
     }
 
-    /// Whether this decides before the other: the whole first file, then the second; in a file the earlier line.
-    pub fn decides_before(self, other: Fault) -> Ordering {
-        self.rank().cmp(&other.rank())
-    }
-
+    /// The least decides: both lengths, then the whole first file, then the second; in a file the earlier line.
     fn rank(self) -> (usize, usize, usize) {
         match self {
-            Line(file, wrong, place) => (file, line_of(wrong, place, 100), wrong as usize),
-            Tail(file) => (file, 100, 0),
-            Differ => (2, 0, 0),
-            Room => (3, 0, 0),
+            Long(file) => (0, file, 0),
+            Line(file, wrong, place) => (1 + file, line_of(wrong, place, 100), wrong as usize),
+            Tail(file) => (1 + file, 100, 0),
+            Differ | NoPair => (3, 0, 0),
+            Room | Few => (4, 0, 0),
         }
     }
 }
 
-pub fn of_merges() -> Vec<Fault> {
+/// Those of the files themselves, as both operations know them.
+pub fn of_files() -> Vec<Fault> {
     let mut all = Vec::new();
     for file in 0..2 {
         for wrong in [Check, Character, Label, Start, End, Order] {
@@ -80,8 +86,51 @@ pub fn of_merges() -> Vec<Fault> {
         }
         all.push(Tail(file));
     }
-    all.extend([Differ, Room]);
     all
+}
+
+/// Cases with two faults, by the one that decides and the other.
+pub type Pairs = BTreeMap<(Fault, Fault), u64>;
+
+/// Counts each two of some faults, and gives the number of the one that decides.
+pub fn decided(faults: &[Fault], pairs: &mut Pairs) -> u32 {
+    let mut sorted = faults.to_vec();
+    sorted.sort_by_key(|fault| fault.rank());
+    for (i, decides) in sorted.iter().enumerate() {
+        sorted[i + 1..].iter().for_each(|other| *pairs.entry((*decides, *other)).or_default() += 1);
+    }
+    sorted[0].number()
+}
+
+/// Every fault, every pair of faults, and nearly as many triples as pairs.
+pub fn each_few(all: &[Fault], seeded: &mut Seeded, mut test: impl FnMut(&[Fault], &mut Seeded)) {
+    for (i, first) in all.iter().enumerate() {
+        test(&[*first], seeded);
+        for second in &all[i + 1..] {
+            test(&[*first, *second], seeded);
+            let third = seeded.pick(all);
+            if third != *first && third != *second {
+                test(&[*first, *second, third], seeded);
+            }
+        }
+    }
+}
+
+/// Prints how often each two of these were together at least; gives those that never were.
+pub fn together(of: &str, all: &[Fault], pairs: &Pairs) -> Vec<String> {
+    let (mut missing, mut least) = (Vec::new(), u64::MAX);
+    for (i, first) in all.iter().enumerate() {
+        for second in &all[i + 1..] {
+            let either = |a, b| pairs.get(&(a, b)).copied().unwrap_or(0);
+            let count = either(*first, *second) + either(*second, *first);
+            least = least.min(count);
+            if count == 0 {
+                missing.push(format!("trackline_{of} never met {first:?} and {second:?} together"));
+            }
+        }
+    }
+    println!("  {} faults by file and line, each two of them together in at least {least} cases", all.len());
+    missing
 }
 
 /// The place of a faulty line, counted from 0, in a file of so many.
@@ -95,7 +144,7 @@ fn line_of(wrong: Wrong, place: Place, lines: usize) -> usize {
 }
 
 /// Lines of a file as they are spoilt.
-type Lines = Vec<(Labels, Ended)>;
+pub type Lines = Vec<(Labels, Ended)>;
 
 /// 16: line i changes place with the one before it, or has its keys, with other numbers or the same.
 fn spoil_order(lines: &mut Lines, i: usize, seeded: &mut Seeded) {
@@ -104,16 +153,6 @@ fn spoil_order(lines: &mut Lines, i: usize, seeded: &mut Seeded) {
         1 => lines[i] = (lines[i - 1].0, ended_line(&lines[i - 1].0, seeded)),
         _ => lines.swap(i - 1, i),
     }
-}
-
-fn put(line: &mut Ended, column: usize, text: &[u8]) {
-    line[column - 1..column - 1 + text.len()].copy_from_slice(text);
-}
-
-/// Puts CK right.
-pub fn repair(line: &mut Ended) {
-    let sum = line[..LINE_BYTES - 2].iter().fold(0u8, |sum, byte| sum.wrapping_add(*byte));
-    put(line, LINE_BYTES - 1, format!("{sum:02X}").as_bytes());
 }
 
 /// A fault of the line itself. What is tried later is put in first, so that it is not in the way.
@@ -136,7 +175,8 @@ fn spoil_line(line: &mut Ended, wrong: Wrong, seeded: &mut Seeded) {
     }
 }
 
-fn spoil_file(lines: &mut Lines, file: usize, faults: &[Fault], seeded: &mut Seeded) {
+/// Puts the faults of one file's lines into them.
+pub fn spoil_file(lines: &mut Lines, file: usize, faults: &[Fault], seeded: &mut Seeded) {
     let count = lines.len();
     let mut wrong: Vec<(usize, Wrong)> = faults
         .iter()
@@ -151,65 +191,15 @@ fn spoil_file(lines: &mut Lines, file: usize, faults: &[Fault], seeded: &mut See
     wrong.iter().for_each(|(i, wrong)| spoil_line(&mut lines[*i].1, *wrong, seeded));
 }
 
-fn as_file(lines: &Lines, tail: Option<usize>) -> Vec<u8> {
-    let mut file: Vec<u8> = lines.iter().flat_map(|(_, line)| *line).collect();
-    // the tail is a part of a line that would follow
-    file.extend(tail.iter().flat_map(|length| lines[0].1[..*length].to_vec()));
-    file
+pub fn as_file(lines: &Lines) -> Vec<u8> {
+    lines.iter().flat_map(|(_, line)| *line).collect()
 }
 
-/// Two files that share at least one line and have at least six each, so that places do not touch.
-fn sharing(seeded: &mut Seeded) -> (Lines, Lines) {
-    loop {
-        let lines = lines_in(Span::narrow(seeded), 24, seeded);
-        let (mut first, mut second) = (Lines::new(), Lines::new());
-        let mut shared = 0;
-        for line in lines.values() {
-            let whose = seeded.below(3);
-            first.extend((whose != 1).then_some(*line));
-            second.extend((whose != 0).then_some(*line));
-            shared += usize::from(whose == 2);
-        }
-        if shared > 0 && first.len() > 5 && second.len() > 5 {
-            return (first, second);
-        }
+/// A part of a line, where the file's tail is to be at fault.
+pub fn tail(file: usize, lines: &Lines, faults: &[Fault], seeded: &mut Seeded) -> Vec<u8> {
+    let any = seeded.range(1, FILE_LINE_BYTES as i64 - 1) as usize;
+    if !faults.contains(&Tail(file)) {
+        return Vec::new();
     }
-}
-
-/// The bytes that the two make together.
-fn length_of(first: &Lines, second: &Lines) -> usize {
-    let shared = second.iter().filter(|(labels, _)| first.iter().any(|(other, _)| other == labels)).count();
-    FILE_LINE_BYTES * (first.len() + second.len() - shared)
-}
-
-/// Other numbers in a line of the second file that the first one has too.
-fn differ(first: &Lines, second: &mut Lines, seeded: &mut Seeded) {
-    let shared: Vec<usize> =
-        (0..second.len()).filter(|i| first.iter().any(|(labels, _)| *labels == second[*i].0)).collect();
-    let i = seeded.pick(&shared);
-    let before = second[i].1;
-    while second[i].1 == before {
-        second[i].1 = ended_line(&second[i].0, seeded);
-    }
-}
-
-/// Two good files with these faults in them, and what is lent.
-pub fn faulty_files(faults: &[Fault], seeded: &mut Seeded) -> (Vec<u8>, Vec<u8>, Lent) {
-    let (mut first, mut second) = sharing(seeded);
-    let length = length_of(&first, &second);
-    if faults.contains(&Differ) {
-        differ(&first, &mut second, seeded);
-    }
-    spoil_file(&mut first, 0, faults, seeded);
-    spoil_file(&mut second, 1, faults, seeded);
-    let mut tail = |file: usize| {
-        let any = seeded.range(1, FILE_LINE_BYTES as i64 - 1) as usize;
-        faults.contains(&Tail(file)).then(|| seeded.pick(&[1, 2, 113, 114, 114, any]))
-    };
-    let tails = (tail(0), tail(1));
-    let any = seeded.below(length as u64) as usize;
-    let short = seeded.pick(&[Lent::Null, Lent::Of(0), Lent::Of(length - 1), Lent::Of(length - 115), Lent::Of(any)]);
-    let enough = seeded.pick(&[Lent::Of(length), Lent::Of(length + 1), Lent::Of(length + 115), Lent::Of(length + any)]);
-    let lent = if faults.contains(&Room) { short } else { enough };
-    (as_file(&first, tails.0), as_file(&second, tails.1), lent)
+    lines[0].1[..seeded.pick(&[1, 2, 113, 114, 114, any])].to_vec()
 }
