@@ -42,6 +42,8 @@ static const char *const LINES[3][6] = {
 enum { COUNT = 6, ENDED = 115, ROOM = 1024, EDGE = 8, MOST_NUMBERS = 9, LONGEST = 1150000 };
 
 /* Lines that are refused where they stand. */
+#define SAMPLE \
+    "G05 FF 50722 000200 0780 450 1800 +0000000010 +00000 +0000000010 +00000 0000 007 0000 +000 0000 +000 00 00 L1C 26"
 static const struct faulty {
     const char *line;
     uint32_t number;
@@ -51,7 +53,9 @@ static const struct faulty {
     {LINE("G00", "50722", "000200", "0780", "+0000000010", "00", "21"), 7},  /* satellite 0 */
     {LINE("G05", "50722", "000200", "0781", "+0000000010", "00", "27"), 7},  /* no track length */
     {LINE("G05", "50722", "000201", "0780", "+0000000010", "00", "27"), 8},  /* no start */
-    {"G05 FF 50722 000200 0780 450 1800 +0000000010 +00000 +0000000010 +00000 0000 007 0000 +000 0000 +000 00 00 L1C 26\n\r", 13},
+    {SAMPLE "\n\r", 13},
+    {SAMPLE " \n", 13},
+    {SAMPLE "\r ", 13},
 };
 enum { FAULTS = sizeof FAULTY / sizeof FAULTY[0] };
 
@@ -301,8 +305,8 @@ static void not_read(void)
 
 static void lines(void)
 {
-    for (size_t i = 0; i < COUNT; i++) {
-        expect_true("a line's bytes", strlen(LINES[0][i]) == ENDED && strlen(LINES[1][i]) == ENDED && strlen(LINES[2][i]) == ENDED);
+    for (size_t i = 0; i < 3 * COUNT; i++) {
+        expect_true("a line's bytes", strlen(LINES[i / COUNT][i % COUNT]) == ENDED);
     }
 }
 
@@ -314,6 +318,7 @@ int main(void)
     orders();
     tails();
     longest();
+    fflush(stdout); /* a program that reads what it may not ends here */
     not_read();
     printf("c view: %d checks, %d failed\n", checked, failed);
     return failed != 0;
