@@ -64,8 +64,8 @@ static uint32_t call_merge(void)
 
 static uint32_t call_view(void)
 {
-    static int64_t report[4];
-    return trackline_view(first, sizeof first - 1, second, sizeof second - 1, report, 4);
+    static int64_t report[TRACKLINE_REPORT_NUMBERS];
+    return trackline_view(first, sizeof first - 1, second, sizeof second - 1, report, TRACKLINE_REPORT_NUMBERS);
 }
 
 static struct measured {

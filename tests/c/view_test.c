@@ -303,8 +303,12 @@ static void not_read(void)
     munmap(closed, 4 * LONGEST);
 }
 
-static void lines(void)
+static void header(void)
 {
+    expect_true("the header's names", TRACKLINE_NO_PAIR == 18 && TRACKLINE_FILE_LENGTH == 19);
+    expect_true("the header's longest file", TRACKLINE_FILE_MOST_LINES * TRACKLINE_FILE_LINE_BYTES == LONGEST);
+    expect_true("the header's places of a report", TRACKLINE_REPORT_PAIRS == 0 && TRACKLINE_REPORT_SUM == 1 &&
+                TRACKLINE_REPORT_SMALLEST == 2 && TRACKLINE_REPORT_LARGEST == 3 && TRACKLINE_REPORT_NUMBERS == 4);
     for (size_t i = 0; i < 3 * COUNT; i++) {
         expect_true("a line's bytes", strlen(LINES[i / COUNT][i % COUNT]) == ENDED);
     }
@@ -312,7 +316,7 @@ static void lines(void)
 
 int main(void)
 {
-    lines();
+    header();
     reports();
     faults();
     orders();
