@@ -93,6 +93,8 @@ beside: archive programs cggtts
 	target/boundary_test
 	$(CC) $(CFLAGS) $(STRICT) -Iinclude tests/c/files_test.c $(ARCHIVE) -o target/files_test
 	target/files_test
+	$(CC) $(CFLAGS) $(STRICT) -Iinclude tests/c/view_test.c $(ARCHIVE) -o target/view_test
+	target/view_test
 	$(CC) $(CFLAGS) $(STRICT) -Iinclude examples/receiver.c $(ARCHIVE) -o target/receiver
 	target/receiver | cmp - crates/trackline/stdout
 	python3 tests/c/receiver.py target/receiver

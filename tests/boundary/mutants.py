@@ -76,6 +76,12 @@ pub unsafe extern "C" fn trackline_merge(
         Err(refusal) => refusal,
     }
 }
+#[no_mangle]
+pub unsafe extern "C" fn trackline_view(
+    first: *const u8, first_len: usize, second: *const u8, second_len: usize, report: *mut i64, report_len: usize,
+) -> u32 {
+    reference::view_values(bytes(first, first_len), bytes(second, second_len), lent(report, report_len))
+}
 '''
 LEFT = 'n * (n * n - 1) * v - (n * n - 1) * s - 3 * place(n, j) * t'
 RESIDUAL = 'let residual = nearest(%s, n * (n * n - 1));' % LEFT
@@ -100,8 +106,18 @@ KEYS = '(labels.mjd, labels.start, labels.constellation, labels.satellite)'
 LINES = 'let lines = merged(&first, &second)?;'
 ROOM = 'if lent.len() < length {'
 TAIL = 'if line.len() < FILE_LINE_BYTES {'
-FOLLOWS = 'if lines.last().is_some_and(|(before, _)| *before >= keys) {'
-READING = 'let (labels, _) = read(&line[..LINE_BYTES])?;'
+READING = 'let content = read(&line[..LINE_BYTES])?;'
+CONTENT = 'let (labels, numbers) = judged(line)?;'
+KEPT = 'let mut lines: Vec<(Keys, T)>'
+LONG = 'if first.len() > LONGEST_FILE || second.len() > LONGEST_FILE {'
+BOTH = 'let first = sights(first)?;\n    let second = sights(second)?;'
+PAIR = 'first_keys == second_keys && trkl == other_trkl'
+DIFFERENCE = 'differences.push(refsys - other_refsys);'
+DIFFERENCES = 'let differences = differences(&first, &second);'
+SUM = 'sum: differences.iter().sum()'
+FOUND = '    let View { pairs, sum, smallest, largest } = match common_view(first, second) {'
+FEW_LENT = 'if lent.len() < REPORT_VALUES {'
+REPORT = 'lent[..REPORT_VALUES].copy_from_slice(&[pairs, sum, smallest, largest]);'
 # name, then file, text and what to write for it, as often as needed
 MUTANTS = [
     # what the paper calls plausible and wrong
@@ -388,21 +404,20 @@ MUTANTS = [
     ('equal keys accepted', 'files.rs', '*before >= keys', '*before > keys'),
     ('order not looked at', 'files.rs', '*before >= keys', '*before >= keys && false'),
     ('order against the first line', 'files.rs', 'lines.last()', 'lines.first()'),
-    ('tail of 114 ignored', 'files.rs', 'let keys = judged(line)?;', 'if line.len() == 114 { break; }\n'
-     '        let keys = judged(line)?;'),
+    ('tail of 114 ignored', 'files.rs', CONTENT, 'if line.len() == 114 { break; }\n        ' + CONTENT),
     ('tail ignored', 'files.rs', 'file.chunks(FILE_LINE_BYTES)', 'file.chunks_exact(FILE_LINE_BYTES)'),
-    ('tail before the lines', 'files.rs', 'let mut lines: Vec<FileLine>',
-     'if file.len() % FILE_LINE_BYTES != 0 { return Err(12); }\n    let mut lines: Vec<FileLine>'),
+    ('tail before the lines', 'files.rs', KEPT,
+     'if file.len() % FILE_LINE_BYTES != 0 { return Err(12); }\n    ' + KEPT),
     ('line feed alone looked at', 'files.rs', "line[LINE_BYTES..] != *b\"\\r\\n\"", "line[LINE_BYTES + 1] != b'\\n'"),
     ('carriage return alone looked at', 'files.rs', "line[LINE_BYTES..] != *b\"\\r\\n\"", "line[LINE_BYTES] != b'\\r'"),
     ('line end before the reading', 'files.rs', READING,
      "if line[LINE_BYTES..] != *b\"\\r\\n\" { return Err(13); }\n    " + READING),
-    ('16 before the line end', 'files.rs', 'let keys = judged(line)?;\n        ' + FOLLOWS,
-     'let keys = read(&line[..line.len().min(113)]).map(|(labels, _)| keys(&labels));\n'
-     '        if lines.last().is_some_and(|(before, _)| keys.is_ok_and(|keys| *before >= keys)) { return Err(16); }\n'
-     '        let keys = judged(line)?;\n        if false {'),
-    ('16 when all lines are read', 'files.rs', 'let mut lines: Vec<FileLine>',
-     'file.chunks(FILE_LINE_BYTES).try_for_each(|line| judged(line).map(|_| ()))?;\n    let mut lines: Vec<FileLine>'),
+    ('16 before the line end', 'files.rs', CONTENT,
+     'let early = read(&line[..line.len().min(113)]).map(|(labels, _)| keys(&labels));\n'
+     '        if lines.last().is_some_and(|(before, _)| early.is_ok_and(|keys| *before >= keys)) { return Err(16); }\n'
+     '        ' + CONTENT),
+    ('16 when all lines are read', 'files.rs', KEPT,
+     'file.chunks(FILE_LINE_BYTES).try_for_each(|line| judged(line).map(|_| ()))?;\n    ' + KEPT),
     # order of the refusals, and the lent file
     ('second file judged first', 'files.rs', 'let first = file_lines(first)?;\n    let second = file_lines(second)?;',
      'let second = file_lines(second)?;\n    let first = file_lines(first)?;'),
@@ -428,6 +443,104 @@ MUTANTS = [
     ('lines counted, not bytes', 'files.rs', 'Ok(length)\n}', 'Ok(length / FILE_LINE_BYTES)\n}'),
     ('the number of bytes set on a refusal', 'EXPORTS', '        Err(refusal) => refusal,\n    }\n}',
      '        Err(refusal) => { *written = 0; refusal }\n    }\n}'),
+    # a common view: which lines make a pair
+    ('TRKL left out of a pair', 'view.rs', PAIR, 'first_keys == second_keys'),
+    ('MJD left out of a pair', 'view.rs', PAIR, '(first_keys.1, first_keys.2, first_keys.3) == '
+     '(second_keys.1, second_keys.2, second_keys.3) && trkl == other_trkl'),
+    ('start left out of a pair', 'view.rs', PAIR, '(first_keys.0, first_keys.2, first_keys.3) == '
+     '(second_keys.0, second_keys.2, second_keys.3) && trkl == other_trkl'),
+    ('letter left out of a pair', 'view.rs', PAIR, '(first_keys.0, first_keys.1, first_keys.3) == '
+     '(second_keys.0, second_keys.1, second_keys.3) && trkl == other_trkl'),
+    ('satellite left out of a pair', 'view.rs', PAIR, '(first_keys.0, first_keys.1, first_keys.2) == '
+     '(second_keys.0, second_keys.1, second_keys.2) && trkl == other_trkl'),
+    ('REFSYS the same in a pair', 'view.rs', PAIR, PAIR + ' && refsys == other_refsys'),
+    ('equal lines no pair', 'view.rs', PAIR, PAIR + ' && refsys != other_refsys'),
+    ('TRKL of 8 bits in a pair', 'view.rs', 'trkl == other_trkl', 'trkl as u8 == other_trkl as u8'),
+    ('no pair behind another TRKL', 'view.rs', 'if ' + PAIR + ' {',
+     'if first_keys == second_keys && trkl != other_trkl {\n            break;\n        }\n        if ' + PAIR + ' {'),
+    ('lines paired by their place', 'view.rs', 'm += usize::from(first_keys <= second_keys);', 'm += 1;',
+     'view.rs', 'n += usize::from(second_keys <= first_keys);', 'n += 1;'),
+    ('a line of the first file passed over behind a pair', 'view.rs', 'm += usize::from(first_keys <= second_keys);',
+     'm += usize::from(first_keys <= second_keys) + usize::from(first_keys == second_keys);'),
+    ('a line of the second file passed over behind a pair', 'view.rs', 'n += usize::from(second_keys <= first_keys);',
+     'n += usize::from(second_keys <= first_keys) + usize::from(first_keys == second_keys);'),
+    ('last line of the first file not looked at', 'view.rs', 'm < first.len() &&', 'm + 1 < first.len() &&'),
+    ('last line of the second file not looked at', 'view.rs', 'n < second.len()', 'n + 1 < second.len()'),
+    ('5,000 lines looked at', 'view.rs', 'm < first.len() &&', 'm < first.len().min(5_000) &&'),
+    # what is reported
+    ('second minus first', 'view.rs', DIFFERENCE, 'differences.push(other_refsys - refsys);'),
+    ('differences without a sign', 'view.rs', DIFFERENCE, 'differences.push((refsys - other_refsys).abs());'),
+    ('differences of 32 bits', 'view.rs', DIFFERENCE, 'differences.push(i64::from((refsys - other_refsys) as i32));'),
+    ('a sum for a difference', 'view.rs', DIFFERENCE, 'differences.push(refsys + other_refsys);'),
+    ('REFSV for REFSYS in a view', 'view.rs', '(numbers.trkl, numbers.refsys)', '(numbers.trkl, numbers.refsv)'),
+    ('first pair lost', 'view.rs', DIFFERENCES, DIFFERENCES.replace('let', 'let mut') +
+     '\n    differences.drain(..differences.len().min(1));'),
+    ('last pair lost', 'view.rs', DIFFERENCES, DIFFERENCES.replace('let', 'let mut') + '\n    differences.pop();'),
+    ('a pair counted twice', 'view.rs', DIFFERENCES, DIFFERENCES.replace('let', 'let mut') +
+     '\n    differences.extend(differences.last().copied());'),
+    ('lines counted, not pairs', 'view.rs', 'pairs: differences.len() as i64', 'pairs: first.len() as i64'),
+    ('pairs of 8 bits', 'view.rs', 'pairs: differences.len() as i64', 'pairs: (differences.len() as u8).into()'),
+    ('pairs of 13 bits', 'view.rs', 'pairs: differences.len() as i64', 'pairs: differences.len() as i64 % 8192'),
+    ('the mean for the sum', 'view.rs', SUM, 'sum: differences.iter().sum::<i64>() / differences.len() as i64'),
+    ('sum of 32 bits', 'view.rs', SUM, 'sum: i64::from(differences.iter().sum::<i64>() as i32)'),
+    ('sum of 47 bits', 'view.rs', SUM, 'sum: differences.iter().sum::<i64>() << 17 >> 17'),
+    ('sum of the sizes', 'view.rs', SUM, 'sum: differences.iter().map(|d| d.abs()).sum()'),
+    ('smallest and largest exchanged', 'view.rs', '(Some(&smallest), Some(&largest))', '(Some(&largest), Some(&smallest))'),
+    ('smallest never above 0', 'view.rs', 'smallest, largest })\n', 'smallest: smallest.min(0), largest })\n'),
+    ('largest never below 0', 'view.rs', 'smallest, largest })\n', 'smallest, largest: largest.max(0) })\n'),
+    ('smallest and largest by size', 'view.rs', 'differences.iter().min(), differences.iter().max()',
+     'differences.iter().min_by_key(|d| d.abs()), differences.iter().max_by_key(|d| d.abs())'),
+    ('first and last for smallest and largest', 'view.rs', 'differences.iter().min(), differences.iter().max()',
+     'differences.first(), differences.last()'),
+    # order of its refusals
+    ('1,150,001 bytes taken', 'view.rs', 'usize = 1_150_000;', 'usize = 1_150_001;'),
+    ('10,001 lines taken', 'view.rs', 'usize = 1_150_000;', 'usize = 1_150_115;'),
+    ('1,150,000 bytes too long', 'view.rs', 'usize = 1_150_000;', 'usize = 1_149_999;'),
+    ('19 by whole lines', 'view.rs', LONG,
+     'if first.len() / 115 > LONGEST_FILE / 115 || second.len() / 115 > LONGEST_FILE / 115 {'),
+    ('19 for the first file alone', 'view.rs', ' || second.len() > LONGEST_FILE', ''),
+    ('19 for the second file alone', 'view.rs', 'first.len() > LONGEST_FILE || ', ''),
+    ('19 where both are too long', 'view.rs', LONG, LONG.replace('||', '&&')),
+    ('19 for both together', 'view.rs', LONG, 'if first.len() + second.len() > LONGEST_FILE {'),
+    ('19 for each file before it is read', 'view.rs', LONG + '\n        return Err(19);\n    }\n    ' + BOTH,
+     'if first.len() > LONGEST_FILE { return Err(19); }\n    let first = sights(first)?;\n'
+     '    if second.len() > LONGEST_FILE { return Err(19); }\n    let second = sights(second)?;'),
+    ('19 after the files', 'view.rs', LONG + '\n        return Err(19);\n    }\n    ' + BOTH,
+     'let long = first.len().max(second.len()) > LONGEST_FILE;\n    ' + BOTH + '\n    if long { return Err(19); }'),
+    ('19 after 18', 'view.rs', LONG, LONG.replace('if ', 'if !first.is_empty() && !second.is_empty() && (')
+     .replace(' {', ') {')),
+    ('18 before the files', 'view.rs', BOTH,
+     'if first.is_empty() || second.is_empty() { return Err(18); }\n    ' + BOTH),
+    ('18 before the second file', 'view.rs', 'let second = sights(second)?;',
+     'if first.is_empty() { return Err(18); }\n    let second = sights(second)?;'),
+    ('18 never', 'view.rs', 'return Err(18);', 'return Ok(View { pairs: 0, sum: 0, smallest: 0, largest: 0 });'),
+    ('18 for one pair', 'view.rs', DIFFERENCES, DIFFERENCES + '\n    if differences.len() == 1 { return Err(18); }'),
+    ('second file of a view judged first', 'view.rs', BOTH,
+     'let second = sights(second)?;\n    let first = sights(first)?;'),
+    ('second file of a view not judged', 'view.rs', 'let second = sights(second)?;',
+     'let second = sights(second).unwrap_or_default();'),
+    ('15 in a view', 'view.rs', DIFFERENCES, 'if first.iter().any(|(keys, seen)| second.binary_search_by_key(keys, |s| s.0)'
+     '.is_ok_and(|i| second[i].1 .0 != seen.0)) { return Err(15); }\n    ' + DIFFERENCES),
+    # the lent report
+    ('9 before 19', 'view.rs', FOUND, '    ' + FEW_LENT + ' return 9; }\n' + FOUND),
+    ('9 before 18', 'view.rs', '        Err(refusal) => return refusal,',
+     '        Err(18) if lent.len() < REPORT_VALUES => return 9,\n        Err(refusal) => return refusal,'),
+    ('9 before the files', 'view.rs', '        Err(refusal) => return refusal,',
+     '        Err(refusal) if refusal != 19 && lent.len() < REPORT_VALUES => return 9,\n'
+     '        Err(refusal) => return refusal,'),
+    ('9 for four lent values', 'view.rs', FEW_LENT, 'if lent.len() <= REPORT_VALUES {'),
+    ('three lent values taken', 'view.rs', FEW_LENT, 'if lent.len() == 3 { lent.copy_from_slice(&[pairs, sum, smallest]); '
+     'return 0; }\n    ' + FEW_LENT),
+    ('pairs written on 9', 'view.rs', FEW_LENT, FEW_LENT + ' if let Some(first) = lent.first_mut() { *first = pairs; }'),
+    ('a report of zeros on a refusal', 'view.rs', 'Err(refusal) => return refusal,',
+     'Err(refusal) => { lent.fill(0); return refusal; }'),
+    ('a fifth value', 'view.rs', REPORT, REPORT + ' if let Some(v) = lent.get_mut(4) { *v = 0; }'),
+    ('smallest before sum', 'view.rs', '&[pairs, sum, smallest, largest]', '&[pairs, smallest, sum, largest]'),
+    ('nothing reported', 'view.rs', REPORT, 'let _ = (pairs, sum, smallest, largest);'),
+    ('a value past the lent report', 'EXPORTS', '    reference::view_values(',
+     '    if report_len == 4 { *report.add(4) = 7; }\n    reference::view_values('),
+    ('a value before the lent report', 'EXPORTS', '    reference::view_values(',
+     '    if report_len == 5 { *report.sub(1) = 7; }\n    reference::view_values('),
 ]
 
 

@@ -50,15 +50,22 @@ static uint32_t call_comment(void)
 }
 
 /* Two lines each, of which one is in both. */
-static uint32_t call_merge(void)
-{
 #define ENDED(satellite, ck)                                                                                  \
     satellite " FF 50722 000200 0780 450 1800 +0000000010 +00000 +0000000010 +00000 0000 007 0000 +000 0000 " \
               "+000 00 00 L1C " ck "\r\n"
-    static const uint8_t first[] = ENDED("G05", "26") ENDED("G06", "27"), second[] = ENDED("G06", "27") ENDED("G07", "28");
+static const uint8_t first[] = ENDED("G05", "26") ENDED("G06", "27"), second[] = ENDED("G06", "27") ENDED("G07", "28");
+
+static uint32_t call_merge(void)
+{
     static uint8_t file[3 * TRACKLINE_FILE_LINE_BYTES];
     size_t written;
     return trackline_merge(first, sizeof first - 1, second, sizeof second - 1, file, sizeof file, &written);
+}
+
+static uint32_t call_view(void)
+{
+    static int64_t report[TRACKLINE_REPORT_NUMBERS];
+    return trackline_view(first, sizeof first - 1, second, sizeof second - 1, report, TRACKLINE_REPORT_NUMBERS);
 }
 
 static struct measured {
@@ -69,7 +76,7 @@ static struct measured {
 } MOST[] = {
     {"trackline_block", call_block, 32000, 0}, {"trackline_line", call_line, 1000, 0}, {"trackline_start", call_start, 1000, 0},
     {"trackline_read", call_read, 1000, 0}, {"trackline_comment", call_comment, 1000, 0},
-    {"trackline_merge", call_merge, 2000, 0}};
+    {"trackline_merge", call_merge, 2000, 0}, {"trackline_view", call_view, 2000, 0}};
 
 /* The thread. */
 static void *measure(void *which)

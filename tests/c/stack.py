@@ -15,12 +15,12 @@ ROOT = pathlib.Path(__file__).resolve().parents[2]
 MEASURED = r'stack: (trackline_\w+) takes (at most )?(\d+) bytes, promised (\d+)\n'
 # the figures that a document gives, and the functions that each is of, in order
 DOCUMENTS = (
-    ('man/trackline.3', r'that gave ([\d,]+) bytes for trackline_block, ([\d,]+) for trackline_merge, ([\d,]+) for trackline_line, '
-     r'([\d,]+) for trackline_read and trackline_comment, and at most ([\d,]+) for trackline_start\.',
-     (('block',), ('merge',), ('line',), ('read', 'comment'), ('start',)), 1),
+    ('man/trackline.3', r'that gave ([\d,]+) bytes for trackline_block, ([\d,]+) for trackline_merge, ([\d,]+) for trackline_view, '
+     r'([\d,]+) for trackline_line, ([\d,]+) for trackline_read and trackline_comment, and at most ([\d,]+) for trackline_start\.',
+     (('block',), ('merge',), ('view',), ('line',), ('read', 'comment'), ('start',)), 1),
     ('docs/TRUST.md', r'`trackline_block` takes about ([\d.]+) kB', (('block',),), 1000),
 )
-PROMISED = r'takes up to ([\d,]+) bytes .+? up to ([\d,]+), .+? up to ([\d,]+)\.'
+PROMISED = r'takes up to ([\d,]+) bytes .+? trackline_merge and trackline_view up to ([\d,]+), .+? up to ([\d,]+)\.'
 
 
 def number(text):
@@ -37,7 +37,7 @@ def main(program):
     printed = subprocess.run([program], stdout=subprocess.PIPE, text=True, cwd=ROOT)
     print(printed.stdout, end='')
     found = {name[10:]: (int(figure), int(most)) for name, _, figure, most in re.findall(MEASURED, printed.stdout)}
-    if len(found) != 6 or printed.returncode:
+    if len(found) != 7 or printed.returncode:
         print('stack: FAILED: the stack was not measured, or is above what is promised', file=sys.stderr)
         return 1
     faults = []
@@ -50,8 +50,9 @@ def main(program):
                 faults.append('%s: trackline_%s takes %d bytes, and it says %s' % (
                     path, name, measured, figure or 'nothing'))
     promised = re.search(PROMISED, text_of('man/trackline.3'))
-    others = {most for name, (_, most) in found.items() if name not in ('block', 'merge')}
-    if not promised or [number(word) for word in promised.groups()] != [found['block'][1], found['merge'][1], *others]:
+    files = {found[name][1] for name in ('merge', 'view')}
+    others = {most for name, (_, most) in found.items() if name not in ('block', 'merge', 'view')}
+    if not promised or [number(word) for word in promised.groups()] != [found['block'][1], *files, *others]:
         faults.append('man/trackline.3 does not promise what tests/c/stack.c tests')
     for fault in faults:
         print('stack: FAILED: %s' % fault, file=sys.stderr)

@@ -17,7 +17,7 @@
 #include "trackline.h"
 
 enum { LEAST_BLOCKS = 4, MOST_BLOCKS = 52, LONGEST_BLOCK = 16384, LONGEST_LINE = 4096, EDITS = 64 };
-enum { COLUMNS = 113, LONGEST_READ = 200, VALUES = 23, MOST_VALUES = 512 };
+enum { COLUMNS = 113, LONGEST_READ = 200, VALUES = 23, REPORT = 4, MOST_VALUES = 512 };
 enum { INT_AT = 26, MEASUREMENTS_AT = 58 };
 
 /* What trackline_line is given; the numbers in their fixed order. */
@@ -35,6 +35,8 @@ uint32_t reference_read(const uint8_t *line, size_t line_len, int64_t *values, s
 size_t reference_comment(const uint8_t *line, size_t line_len);
 uint32_t reference_merge(const uint8_t *first, size_t first_len, const uint8_t *second, size_t second_len,
                          uint8_t *file, size_t file_len, size_t *written);
+uint32_t reference_view(const uint8_t *first, size_t first_len, const uint8_t *second, size_t second_len,
+                        int64_t *report, size_t report_len);
 int LLVMFuzzerInitialize(int *argc, char ***argv);
 int LLVMFuzzerTestOneInput(const uint8_t *data, size_t size);
 
@@ -86,6 +88,8 @@ struct guarded {
 
 /* for what is given, a lent line and lent values; for a second file that is given, and a lent one */
 static struct guarded given_memory, line_memory, values_memory, second_memory, file_memory;
+/* for a file of which nothing may be read */
+static struct guarded closed_memory;
 
 static void *must(void *mapped)
 {
@@ -118,10 +122,10 @@ static size_t offset(const struct guarded *g, size_t length, int front)
 
 /* ---- what was reached ---- */
 
-enum function { BLOCK, LINE, START, READ, MERGE, FUNCTIONS };
-enum { ANSWERS = 18 };
+enum function { BLOCK, LINE, START, READ, MERGE, VIEW, FUNCTIONS };
+enum { ANSWERS = 20 };
 static const char *const NAMES[FUNCTIONS] = {"trackline_block", "trackline_line", "trackline_start", "trackline_read",
-                                             "trackline_merge"};
+                                             "trackline_merge", "trackline_view"};
 static uint64_t reached[FUNCTIONS][ANSWERS];
 
 static void report(void)
@@ -439,21 +443,41 @@ static void start(struct bytes *b)
 
 /* ---- lines read back ---- */
 
+/* A lent row of numbers. */
+struct row {
+    int64_t *got, *lent; /* lent is got, or NULL */
+    int64_t wanted[MOST_VALUES];
+    size_t count;
+};
+
+/* One that is long enough, or not, with the same numbers for both. */
+static void lend_row(struct row *row, size_t enough, struct bytes *b)
+{
+    const size_t counts[] = {enough, enough, enough + 1, enough - 1, 0, MOST_VALUES};
+    size_t kind = take(b, 1);
+    row->count = kind % 8 < 6 ? counts[kind % 8] : take(b, 1);
+    size_t bytes = row->count * sizeof *row->got;
+    row->got = (int64_t *)(void *)(values_memory.lent + offset(&values_memory, bytes, (kind & 8) != 0));
+    row->lent = row->count == 0 && (kind & 16) ? NULL : row->got;
+    for (size_t i = 0; i < row->count; i++) {
+        row->got[i] = row->wanted[i] = -1 - (int64_t)(kind * i);
+    }
+}
+
+static int same_row(const struct row *row)
+{
+    return memcmp(row->got, row->wanted, row->count * sizeof *row->got) == 0;
+}
+
 static void call_read(const uint8_t *line, size_t length, struct bytes *b)
 {
-    static const size_t counts[] = {VALUES, VALUES, VALUES + 1, VALUES - 1, 0, MOST_VALUES};
     const uint8_t *given = give(line, length, b);
-    size_t kind = take(b, 1);
-    size_t count = kind % 8 < 6 ? counts[kind % 8] : take(b, 1);
-    int64_t wanted[MOST_VALUES], *got = (int64_t *)(void *)values_memory.lent;
-    got += offset(&values_memory, count * sizeof *got, (kind & 8) != 0) / sizeof *got;
-    for (size_t i = 0; i < count; i++) {
-        got[i] = wanted[i] = -1 - (int64_t)(kind * i);
-    }
-    uint32_t answer = reference_read(line, length, wanted, count);
-    judge(READ, trackline_read(given, length, count == 0 && (kind & 16) ? NULL : got, count), answer);
+    struct row row;
+    lend_row(&row, VALUES, b);
+    uint32_t answer = reference_read(line, length, row.wanted, row.count);
+    judge(READ, trackline_read(given, length, row.lent, row.count), answer);
     size_t comment = trackline_comment(given, length);
-    if (comment != reference_comment(line, length) || memcmp(got, wanted, count * sizeof *got) != 0) {
+    if (comment != reference_comment(line, length) || !same_row(&row)) {
         printf("DIFFERENT reading: comment from %zu of\n  %.*s\n", comment, (int)length, (const char *)line);
         abort();
     }
@@ -552,7 +576,7 @@ static void raw_line(struct bytes *b)
 
 /* ---- two line files ---- */
 
-enum { ENDED = COLUMNS + 2, MOST_LINES = 30, LONGEST_FILE = 4096 };
+enum { ENDED = COLUMNS + 2, MOST_LINES = 30, LONGEST_FILE = 4096, LONGEST_VIEWED = 1150000, CLOSED = 1 << 21 };
 
 struct file {
     uint8_t bytes[LONGEST_FILE];
@@ -586,8 +610,27 @@ static void add(struct file *file, const uint8_t *line)
     file->length += ENDED;
 }
 
-/* Lines in their order, each to one of two files or to both, to the second with another digit or as it is. */
-static void share(struct file *files, struct bytes *b)
+/* Another REFSYS, or another track length, as another receiver's line of the same track may have. */
+static void vary(uint8_t *line, struct bytes *b)
+{
+    char text[32];
+    size_t kind = take(b, 1);
+    if (kind % 4 > 0) {
+        snprintf(text, sizeof text, "%+011" PRId64, number(b) % INT64_C(10000000000));
+        memcpy(line + 53, text, 11);
+    }
+    if (kind % 8 == 7) {
+        snprintf(text, sizeof text, "%04u", 15 * (unsigned)(LEAST_BLOCKS + below(b, MOST_BLOCKS - LEAST_BLOCKS + 1)));
+        memcpy(line + 20, text, 4);
+    }
+    repair(line);
+}
+
+/*
+ * Lines in their order, each to one of two files or to both; to the second as it is, with another digit or, for a view,
+ * varied.
+ */
+static void share(struct file *files, enum function f, struct bytes *b)
 {
     static uint8_t lines[MOST_LINES][ENDED];
     size_t count = below(b, MOST_LINES + 1);
@@ -606,6 +649,9 @@ static void share(struct file *files, struct bytes *b)
         if (whose % 16 == 15) {
             lines[i][104] = lines[i][104] == '7' ? '8' : '7';
             repair(lines[i]);
+        }
+        if (f == VIEW) {
+            vary(lines[i], b);
         }
         if (whose % 4 != 0) {
             add(&files[1], lines[i]);
@@ -661,17 +707,52 @@ static void call_merge(const struct file *files, struct bytes *b)
     }
 }
 
-static void edited_files(struct bytes *b)
+/* A file as the archive is given it, and as the plain Rust implementation is. */
+struct handed {
+    const uint8_t *archive, *plain;
+    size_t length;
+};
+
+/* Now and then one that is too long for a view: the archive is then given memory that can't be read. */
+static struct handed hand(const struct guarded *memory, const struct file *file, struct bytes *b)
+{
+    static const uint8_t zeros[CLOSED];
+    size_t kind = take(b, 1);
+    if (kind % 32 == 31) {
+        size_t length = LONGEST_VIEWED + 1 + below(b, ENDED);
+        return (struct handed){closed_memory.lent + offset(&closed_memory, length, (kind & 32) != 0), zeros, length};
+    }
+    return (struct handed){lay(memory, file, kind), file->bytes, file->length};
+}
+
+static void call_view(const struct file *files, struct bytes *b)
+{
+    struct handed first = hand(&given_memory, &files[0], b), second = hand(&second_memory, &files[1], b);
+    struct row row;
+    lend_row(&row, REPORT, b);
+    uint32_t wanted = reference_view(first.plain, first.length, second.plain, second.length, row.wanted, row.count);
+    judge(VIEW, trackline_view(first.archive, first.length, second.archive, second.length, row.lent, row.count), wanted);
+    if (!same_row(&row)) {
+        printf("DIFFERENT report of files of %zu and %zu bytes\n", first.length, second.length);
+        abort();
+    }
+}
+
+static void edited_files(enum function f, struct bytes *b)
 {
     static struct file files[2];
     struct bytes lent = {b->at, b->left < 8 ? b->left : 8};
     take(b, 8);
     memset(files, 0, sizeof files);
-    share(files, b);
+    share(files, f, b);
     for (int i = 0; i < 8 && b->left > 0; i++) {
         edit_file(&files[take(b, 1) % 2], b);
     }
-    call_merge(files, &lent);
+    if (f == VIEW) {
+        call_view(files, &lent);
+    } else {
+        call_merge(files, &lent);
+    }
 }
 
 int LLVMFuzzerInitialize(int *argc, char ***argv)
@@ -683,6 +764,7 @@ int LLVMFuzzerInitialize(int *argc, char ***argv)
     values_memory = guard(MOST_VALUES * sizeof(int64_t), PROT_READ | PROT_WRITE);
     second_memory = guard(LONGEST_FILE, PROT_READ);
     file_memory = guard(2 * LONGEST_FILE, PROT_READ | PROT_WRITE);
+    closed_memory = guard(CLOSED, PROT_NONE);
     setvbuf(stdout, NULL, _IOLBF, 0); /* abort does not write what is still held back */
     atexit(report);
     return 0;
@@ -701,9 +783,9 @@ int LLVMFuzzerTestOneInput(const uint8_t *data, size_t size)
     case 6:
     case 7: edited_line(&b); break;
     case 12:
-    case 13:
+    case 13: edited_files(MERGE, &b); break;
     case 14:
-    case 15: edited_files(&b); break;
+    case 15: edited_files(VIEW, &b); break;
     default: edited_block(&b);
     }
     return 0;

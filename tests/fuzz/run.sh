@@ -29,11 +29,12 @@ RUSTFLAGS='-Cpasses=sancov-module -Cllvm-args=-sanitizer-coverage-level=4
 { printf '\0\0\0\0\0\074\0\4\0' && head -c 538 examples/sample.blk | tail -c +5 && head -c 160 /dev/zero; } \
     >"$out/seeds/raw_short"
 { printf '\4\0\0\0\0' && head -c 113 crates/trackline/stdout; } >"$out/seeds/raw_line"
-for kind in 1 2 5 10 14; do
+for kind in 1 2 5 10 14 16; do
     # shellcheck disable=SC2059
     printf "\\$kind" >"$out/seeds/kind$kind"
 done
 { printf '\14' && head -c 4000 examples/week.cggtts; } >"$out/seeds/files"
+{ printf '\16' && head -c 4000 examples/week.cggtts; } >"$out/seeds/views"
 
 status=0
 "$out/fuzz" -max_total_time="$seconds" -max_len=16000 -timeout=10 -print_final_stats=1 -artifact_prefix="$out/" \

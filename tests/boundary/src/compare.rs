@@ -3,6 +3,8 @@
 
 mod files;
 
+pub use files::Report;
+
 use crate::library;
 use reference::seeded::Seeded;
 use reference::{Labels, Numbers};

@@ -45,6 +45,15 @@ extern "C" {
         file_len: usize,
         written: *mut usize,
     ) -> u32;
+    #[rustfmt::skip]
+    fn trackline_view(
+        first: *const u8,
+        first_len: usize,
+        second: *const u8,
+        second_len: usize,
+        report: *mut i64,
+        report_len: usize,
+    ) -> u32;
 }
 
 /// A slice, or NULL with length 0.
@@ -106,4 +115,12 @@ pub fn merge(first: Bytes, second: Bytes, lent: LentBytes, written: &mut usize) 
     let (file, file_len) = lent_as_c(lent);
     // SAFETY: live slices, or NULL with length 0, which the interface allows, and a live number.
     unsafe { trackline_merge(first, first_len, second, second_len, file, file_len, written) }
+}
+
+pub fn view(first: Bytes, second: Bytes, report: LentValues) -> u32 {
+    let (first, first_len) = as_c(first);
+    let (second, second_len) = as_c(second);
+    let (report, report_len) = lent_as_c(report);
+    // SAFETY: live slices, or NULL with length 0, which the interface allows.
+    unsafe { trackline_view(first, first_len, second, second_len, report, report_len) }
 }

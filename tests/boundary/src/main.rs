@@ -11,6 +11,8 @@ mod case;
 mod compare;
 mod edges;
 mod faults;
+mod file_faults;
+mod file_pairs;
 mod library;
 mod lines;
 mod merge_faults;
@@ -18,9 +20,12 @@ mod merges;
 mod reading_faults;
 mod readings;
 mod starts;
+mod view_faults;
+mod views;
 
 use compare::{Compare, Lent};
 use reference::seeded::Seeded;
+use reference::{LINE_BYTES, VALUES};
 use std::process::ExitCode;
 
 const LINES: [Lent; 6] = [Lent::Null, Lent::Of(0), Lent::Of(112), Lent::Of(113), Lent::Of(114), Lent::Of(4096)];
@@ -34,11 +39,14 @@ fn main() -> ExitCode {
     lines::run(&mut compare, &mut Seeded::new(seed + 1), scale);
     blocks::run(&mut compare, &mut Seeded::new(seed + 2), scale);
     readings::run(&mut compare, &mut Seeded::new(seed + 4), scale);
+    let merged = merges::run(&mut compare, &mut Seeded::new(seed + 6), scale);
+    let viewed = views::run(&mut compare, &mut Seeded::new(seed + 7), scale);
+    // what takes longest comes last
     starts::run(&mut compare, &mut Seeded::new(seed + 3), scale);
     readings::dates(&mut compare, &mut Seeded::new(seed + 5));
-    let merged = merges::run(&mut compare, &mut Seeded::new(seed + 6), scale);
     let mut missing = report(&compare);
     missing.extend(merges::report(&compare, &merged));
+    missing.extend(views::report(&compare, &viewed));
     missing.iter().for_each(|what| eprintln!("MISSING: {what}"));
     if compare.agreed() && missing.is_empty() {
         println!("boundary: no difference");
@@ -63,8 +71,8 @@ fn report(compare: &Compare) -> Vec<String> {
             pairs(compare, of, order, &mut missing);
         }
         match of {
-            "block" | "line" => lents(compare, of, order, &LINES, &mut missing),
-            "read" => lents(compare, of, order, &ROWS, &mut missing),
+            "block" | "line" => lents(compare, of, order, (&LINES, LINE_BYTES), &mut missing),
+            "read" => lents(compare, of, order, (&ROWS, VALUES), &mut missing),
             _ => {}
         }
     }
@@ -111,14 +119,14 @@ fn pairs(compare: &Compare, of: &'static str, order: &[u32], missing: &mut Vec<S
     }
 }
 
-/// Each answer with each length of what is lent that it can go with.
-fn lents(compare: &Compare, of: &'static str, order: &[u32], lengths: &[Lent], missing: &mut Vec<String>) {
+/// Each answer with each length of what is lent that it can go with, where so much is enough.
+fn lents(compare: &Compare, of: &'static str, order: &[u32], lengths: (&[Lent], usize), missing: &mut Vec<String>) {
     println!("  lent, all answers:");
-    for lent in lengths {
+    for lent in lengths.0 {
         let seen = |answer: u32| compare.lents.get(&(of, answer, *lent)).copied().unwrap_or(0);
         let answers = numbers(order);
         println!("    {lent:?}: {}", answers.iter().map(|answer| seen(*answer)).sum::<u64>());
-        let enough = lent.len() >= if of == "read" { reference::VALUES } else { reference::LINE_BYTES };
+        let enough = lent.len() >= lengths.1;
         for answer in answers.into_iter().filter(|answer| !(*answer == 0 && !enough || *answer == 9 && enough)) {
             if seen(answer) == 0 {
                 missing.push(format!("trackline_{of} never answered {answer} to {lent:?} lent"));

@@ -2,22 +2,21 @@
 
 use crate::answers;
 use crate::compare::{Compare, Lent};
-use crate::merge_faults::*;
-use reference::good::track_start;
-use reference::good_files::{ended_line, lines_in, long_file, Ended, Span};
+use crate::file_faults::{decided, each_few, together, Pairs};
+use crate::file_pairs::{allot, damaged_files, junk_files, keyed_lines, three_lines, Share, SHARES};
+use crate::merge_faults::{faulty_files, of_merges};
+use reference::good_files::{lines_in, long_file, repair, Ended, Span};
 use reference::seeded::Seeded;
-use reference::{keys, Labels, FILE_LINE_BYTES, LINE_BYTES};
-use std::collections::BTreeMap;
+use reference::{keys, FILE_LINE_BYTES};
 
 /// The numbers that merge answers.
 pub const MERGE_NUMBERS: [u32; 8] = [12, 14, 13, 7, 8, 16, 15, 17];
 
-/// Cases with two faults, by the one that decides and the other.
-pub type Pairs = BTreeMap<(Fault, Fault), u64>;
-
 pub fn run(compare: &mut Compare, seeded: &mut Seeded, scale: usize) -> Pairs {
     let mut pairs = Pairs::new();
-    faulty(compare, seeded, 40 * scale, &mut pairs);
+    for _ in 0..40 * scale {
+        faulty(compare, seeded, &mut pairs);
+    }
     for _ in 0..6_000 * scale {
         SHARES.iter().for_each(|share| shared(compare, seeded, *share));
         differing(compare, seeded);
@@ -41,76 +40,16 @@ pub fn run(compare: &mut Compare, seeded: &mut Seeded, scale: usize) -> Pairs {
 pub fn report(compare: &Compare, pairs: &Pairs) -> Vec<String> {
     let mut missing = Vec::new();
     answers(compare, "merge", &MERGE_NUMBERS, &mut missing);
-    let all = of_merges();
-    let mut least = u64::MAX;
-    for (i, first) in all.iter().enumerate() {
-        for second in &all[i + 1..] {
-            let either = |a, b| pairs.get(&(a, b)).copied().unwrap_or(0);
-            let count = either(*first, *second) + either(*second, *first);
-            least = least.min(count);
-            if count == 0 {
-                missing.push(format!("trackline_merge never met {first:?} and {second:?} together"));
-            }
-        }
-    }
-    println!("  {} faults by file and line, each two of them together in at least {least} cases", all.len());
+    missing.extend(together("merge", &of_merges(), pairs));
     missing
 }
 
-/// Every fault, every pair of faults, and nearly as many triples as pairs.
-fn faulty(compare: &mut Compare, seeded: &mut Seeded, rounds: usize, pairs: &mut Pairs) {
-    let all = of_merges();
-    for _ in 0..rounds {
-        for (i, first) in all.iter().enumerate() {
-            one_faulty(compare, seeded, &[*first], pairs);
-            for second in &all[i + 1..] {
-                one_faulty(compare, seeded, &[*first, *second], pairs);
-                let third = seeded.pick(&all);
-                if third != *first && third != *second {
-                    one_faulty(compare, seeded, &[*first, *second, third], pairs);
-                }
-            }
-        }
-    }
-}
-
-fn one_faulty(compare: &mut Compare, seeded: &mut Seeded, faults: &[Fault], pairs: &mut Pairs) {
-    let (first, second, lent) = faulty_files(faults, seeded);
-    let mut sorted = faults.to_vec();
-    sorted.sort_by(|a, b| a.decides_before(*b));
-    compare.merge_known("faulty files", (&first, &second), lent, sorted[0].number());
-    for (i, decides) in sorted.iter().enumerate() {
-        sorted[i + 1..].iter().for_each(|other| *pairs.entry((*decides, *other)).or_default() += 1);
-    }
-}
-
-/// How two files share the lines of a week.
-#[derive(Clone, Copy, Debug)]
-enum Share {
-    /// each line to one of them, or to both
-    Any,
-    /// line by line in turns
-    Turns,
-    /// the first half and the second
-    Halves,
-    Equal,
-    /// the second has some of the lines of the first
-    Inside,
-    Alone,
-}
-
-const SHARES: [Share; 6] = [Share::Any, Share::Turns, Share::Halves, Share::Equal, Share::Inside, Share::Alone];
-
-/// Whether line i of so many goes to the first file, and whether to the second.
-fn allot(share: Share, i: usize, count: usize, seeded: &mut Seeded) -> (bool, bool) {
-    match share {
-        Share::Any => [(true, false), (false, true), (true, true)][seeded.below(3) as usize],
-        Share::Turns => (i % 2 == 0, i % 2 == 1),
-        Share::Halves => (2 * i < count, 2 * i >= count),
-        Share::Equal => (true, true),
-        Share::Inside => (true, seeded.below(2) == 0),
-        Share::Alone => (true, false),
-    }
+/// Faulty files, one for each fault and each few.
+fn faulty(compare: &mut Compare, seeded: &mut Seeded, pairs: &mut Pairs) {
+    each_few(&of_merges(), seeded, |faults, seeded| {
+        let (first, second, lent) = faulty_files(faults, seeded);
+        compare.merge_known("faulty files", (&first, &second), lent, decided(faults, pairs));
+    });
 }
 
 /// Two good files, the one or the other first, with any room.
@@ -159,61 +98,16 @@ fn differing(compare: &mut Compare, seeded: &mut Seeded) {
     compare.merge_known("lines that differ", (&files[0], &files[1]), room, 15);
 }
 
-/// Two files of the same lines, some of them taken out, moved, changed in a byte (CK put right or not), cut, joined.
 fn damaged(compare: &mut Compare, seeded: &mut Seeded) {
-    let any = seeded.below(12) as usize;
-    let lines = lines_in(Span::narrow(seeded), any, seeded);
-    let mut one = || {
-        let mut lines: Vec<Ended> = lines.values().map(|(_, line)| *line).collect();
-        lines.retain(|_| seeded.below(3) > 0);
-        for _ in 0..seeded.below(3) {
-            damage(&mut lines, seeded);
-        }
-        let mut file = lines.concat();
-        if seeded.below(8) == 0 {
-            file.truncate(seeded.below(file.len() as u64 + 1) as usize);
-        }
-        file
-    };
-    let (first, second) = (one(), one());
+    let (first, second) = damaged_files(seeded);
     let room = seeded.below((first.len() + second.len()) as u64 + 200) as usize;
     compare.merge("damaged files", Some(&first), Some(&second), Lent::Of(room));
 }
 
-fn damage(lines: &mut [Ended], seeded: &mut Seeded) {
-    if lines.is_empty() {
-        return;
-    }
-    let (i, k) = (seeded.below(lines.len() as u64) as usize, seeded.below(lines.len() as u64) as usize);
-    match seeded.below(4) {
-        0 => lines.swap(i, k),
-        1 => lines[i] = lines[k],
-        2 => lines[i][seeded.below(FILE_LINE_BYTES as u64) as usize] = seeded.bits() as u8,
-        _ => {
-            lines[i][seeded.below(LINE_BYTES as u64 - 2) as usize] = seeded.pick(b"0123456789GRECJ+-");
-            repair(&mut lines[i]);
-        }
-    }
-}
-
-/// Nothing but seeded bytes, beside a good line or not.
 fn junk(compare: &mut Compare, seeded: &mut Seeded) {
-    let mut bytes = vec![0; seeded.below(350) as usize];
-    seeded.fill(&mut bytes);
-    let lines = lines_in(Span::narrow(seeded), 1, seeded);
-    let good = lines.values().next().map_or(&[][..], |(_, line)| line);
-    let files = [(&bytes[..], good), (good, &bytes), (&bytes, &bytes)][seeded.below(3) as usize];
+    let (first, second) = junk_files(seeded);
     let room = Lent::Of(seeded.below(500) as usize);
-    compare.merge("junk files", Some(files.0), Some(files.1), room);
-}
-
-fn three_lines(seeded: &mut Seeded) -> Vec<u8> {
-    loop {
-        let lines = lines_in(Span::narrow(seeded), 12, seeded);
-        if lines.len() >= 3 {
-            return lines.values().take(3).flat_map(|(_, line)| *line).collect();
-        }
-    }
+    compare.merge("junk files", Some(&first), Some(&second), room);
 }
 
 /// Every length of a file of three lines, as the first file and as the second.
@@ -256,18 +150,9 @@ fn line_ends(compare: &mut Compare, seeded: &mut Seeded) {
     }
 }
 
-/// Every two of 180 keys, in one file and in two: of two dates the later has the earlier starts.
+/// Every two of 180 keys, in one file and in two.
 fn all_keys(compare: &mut Compare, seeded: &mut Seeded) {
-    let mut lines: Vec<(Labels, Ended)> = Vec::new();
-    let some = lines_in(Span::narrow(seeded), 1, seeded).values().next().expect("a line").0;
-    for (mjd, letter) in [50722, 50723, 60000].iter().flat_map(|mjd| b"CEGJR".map(|letter| (*mjd, letter))) {
-        for (track, satellite) in [1, 2, 50, 89].iter().flat_map(|track| [1, 10, 99].map(|s| (*track, s))) {
-            let fr = u8::from(letter == b'R');
-            let start = track_start(mjd, track);
-            let labels = Labels { constellation: letter, satellite, fr, ioe: 1, mjd, start, ..some };
-            lines.push((labels, ended_line(&labels, seeded)));
-        }
-    }
+    let lines = keyed_lines(seeded);
     for (labels, line) in &lines {
         for (other_labels, other) in &lines {
             let follows = keys(labels) < keys(other_labels);

@@ -91,3 +91,17 @@ pub unsafe extern "C" fn reference_merge(
         Err(refusal) => refusal,
     }
 }
+
+/// # Safety
+/// As reference_block.
+#[no_mangle]
+pub unsafe extern "C" fn reference_view(
+    first: *const u8,
+    first_len: usize,
+    second: *const u8,
+    second_len: usize,
+    report: *mut i64,
+    report_len: usize,
+) -> u32 {
+    reference::view_values(bytes(first, first_len), bytes(second, second_len), lent(report, report_len))
+}

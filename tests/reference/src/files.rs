@@ -2,6 +2,7 @@
 
 use crate::line::{Labels, LINE_BYTES};
 use crate::reader::read;
+use crate::track::Numbers;
 
 /// Bytes of a line in a file: 113 columns, carriage return, line feed.
 pub const FILE_LINE_BYTES: usize = 115;
@@ -16,31 +17,37 @@ pub fn keys(labels: &Labels) -> Keys {
     (labels.mjd, labels.start, labels.constellation, labels.satellite)
 }
 
-/// What one line of a file is refused for, whatever stands before it: 12 for a tail that is too short, then what the
-/// reader says of its columns, then 13 for another line end.
-fn judged(line: &[u8]) -> Result<Keys, u32> {
+/// What stands in one line of a file, or what it is refused for, whatever stands before it: 12 for a tail that is too
+/// short, then what the reader says of its columns, then 13 for another line end.
+fn judged(line: &[u8]) -> Result<(Labels, Numbers), u32> {
     if line.len() < FILE_LINE_BYTES {
         return Err(12);
     }
-    let (labels, _) = read(&line[..LINE_BYTES])?;
+    let content = read(&line[..LINE_BYTES])?;
     if line[LINE_BYTES..] != *b"\r\n" {
         return Err(13);
     }
-    Ok(keys(&labels))
+    Ok(content)
 }
 
-/// The lines of a file, or the refusal of the earliest that has one: its own, or else 16 where it does not follow the
-/// line before it.
-pub fn file_lines(file: &[u8]) -> Result<Vec<FileLine<'_>>, u32> {
-    let mut lines: Vec<FileLine> = Vec::with_capacity(file.len() / FILE_LINE_BYTES);
+/// What is kept of the lines of a file, each behind its keys, or the refusal of the earliest that has one: its own, or
+/// else 16 where it does not follow the line before it.
+pub(crate) fn kept<'a, T>(file: &'a [u8], keep: impl Fn(&'a [u8], &Numbers) -> T) -> Result<Vec<(Keys, T)>, u32> {
+    let mut lines: Vec<(Keys, T)> = Vec::with_capacity(file.len() / FILE_LINE_BYTES);
     for line in file.chunks(FILE_LINE_BYTES) {
-        let keys = judged(line)?;
+        let (labels, numbers) = judged(line)?;
+        let keys = keys(&labels);
         if lines.last().is_some_and(|(before, _)| *before >= keys) {
             return Err(16);
         }
-        lines.push((keys, line));
+        lines.push((keys, keep(line, &numbers)));
     }
     Ok(lines)
+}
+
+/// The lines of a file, or its refusal.
+pub fn file_lines(file: &[u8]) -> Result<Vec<FileLine<'_>>, u32> {
+    kept(file, |line, _| line)
 }
 
 /// The lines of both files in their order, those that are in both once. 15: two lines have the same keys and differ.

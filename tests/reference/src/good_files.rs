@@ -43,6 +43,44 @@ pub fn ended_line(labels: &Labels, seeded: &mut Seeded) -> Ended {
     ended
 }
 
+/// Other characters from a column on, counted from 1; CK is left as it is.
+pub fn put(line: &mut [u8], column: usize, text: &[u8]) {
+    line[column - 1..column - 1 + text.len()].copy_from_slice(text);
+}
+
+/// Puts CK right.
+pub fn repair(line: &mut [u8]) {
+    let sum = line[..LINE_BYTES - 2].iter().fold(0u8, |sum, byte| sum.wrapping_add(*byte));
+    put(line, LINE_BYTES - 1, format!("{sum:02X}").as_bytes());
+}
+
+/// Another REFSYS, of at most ten digits.
+pub fn put_refsys(line: &mut [u8], refsys: i64) {
+    put(line, 54, format!("{refsys:+011}").as_bytes());
+    repair(line);
+}
+
+/// Another track length, of at most four digits.
+pub fn put_trkl(line: &mut [u8], trkl: i64) {
+    put(line, 21, format!("{trkl:04}").as_bytes());
+    repair(line);
+}
+
+/// What stands in the columns of REFSYS.
+pub fn refsys_in(line: &[u8]) -> i64 {
+    std::str::from_utf8(&line[53..64]).expect("ASCII").parse().expect("a number")
+}
+
+/// The track of a line as another receiver saw it: the same keys and track length, and other numbers.
+pub fn seen_again(labels: &Labels, line: &Ended, seeded: &mut Seeded) -> Ended {
+    let Labels { constellation, satellite, fr, mjd, start, ioe, .. } = *labels;
+    let others = Labels { constellation, satellite, fr, mjd, start, ioe, ..good_labels(seeded) };
+    let mut again = ended_line(&others, seeded);
+    put(&mut again, 21, &line[20..24]);
+    repair(&mut again);
+    again
+}
+
 /// Up to so many lines, with different keys; a narrow span may have fewer.
 pub fn lines_in(span: Span, most: usize, seeded: &mut Seeded) -> BTreeMap<Keys, (Labels, Ended)> {
     let mut lines = BTreeMap::new();
@@ -65,5 +103,12 @@ pub fn long_file(first_mjd: u32, count: usize, seeded: &mut Seeded) -> Vec<u8> {
         lines.values().take(wanted).for_each(|(_, ended)| file.extend(ended));
         day += 1;
     }
+    file
+}
+
+/// A file with another REFSYS in each line, by the line's place.
+pub fn with_refsys(file: &[u8], mut refsys: impl FnMut(usize) -> i64) -> Vec<u8> {
+    let mut file = file.to_vec();
+    file.chunks_exact_mut(FILE_LINE_BYTES).enumerate().for_each(|(i, line)| put_refsys(line, refsys(i)));
     file
 }

@@ -1,5 +1,5 @@
 //! Track lines in plain Rust: smoothing, correcting, fitting, the start test, the data line, the hire block, a line
-//! read back, and line files.
+//! read back, line files and the common view of two.
 //!
 //! Written from the papers alone and not from the proved program, so that the two can be compared. Every operation
 //! answers with the papers' refusal numbers, in their order.
@@ -18,6 +18,7 @@ mod reader;
 mod schedule;
 pub mod seeded;
 mod track;
+mod view;
 pub mod waves;
 pub mod worst;
 
@@ -28,6 +29,7 @@ pub use line::{line, Labels, LINE_BYTES};
 pub use reader::{comment, read, read_values, values, LONGEST_LINE, VALUES};
 pub use schedule::{start, FIRST_MJD, LAST_MJD};
 pub use track::{track, Columns, Delays, Numbers, Record, BLOCK_SECONDS, MOST_SECONDS};
+pub use view::{common_view, view_values, View, LONGEST_FILE, REPORT_VALUES};
 
 /// Whether v lies within plus or minus the limit.
 fn within(v: i64, limit: i64) -> bool {

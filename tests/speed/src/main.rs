@@ -6,8 +6,8 @@
 //! First full blocks that are accepted, 10,000 unless another number is given, and as many blocks of the shortest tracks, then ten
 //! lines for each block, read back. Each time the same blocks and lines follow, spoilt so that they are refused at one stage: what
 //! one stage costs more than the stage before it is the cost of the work between them. Last, pairs of line files of as
-//! many lines as there were blocks, and of twice as many, are merged. No time fails this program; a different answer, line or
-//! value does.
+//! many lines as there were blocks, and of twice as many, are merged, and the common view is taken of others of as many lines and
+//! of half as many. No time fails this program; a different answer, line or value does.
 
 #[allow(dead_code)]
 #[path = "../../boundary/src/case.rs"]

@@ -1,7 +1,11 @@
 //! The functions on line files.
 
-use super::{as_text, Compare, Lent, Sides, GUARD};
+use super::{as_row, as_text, Compare, Lent, Sides, GUARD};
 use crate::library::{self, Bytes};
+use reference::REPORT_VALUES;
+
+/// The four values of a common view, or its refusal.
+pub type Report = Result<[i64; REPORT_VALUES], u32>;
 
 impl Compare {
     /// A lent file at any alignment and of any length, filled with seeded bytes, twice.
@@ -43,6 +47,35 @@ impl Compare {
         let answer = self.merge(family, Some(files.0), Some(files.1), lent);
         if answer != expected {
             eprintln!("{family}: the answer is {expected}, and the plain Rust implementation answers {answer}");
+            self.differences += 1;
+        }
+    }
+    /// Common view. Gives the report of the plain Rust implementation.
+    pub fn view(&mut self, family: &str, first: Bytes, second: Bytes, lent: Lent) -> Report {
+        let (mut rows, at) = self.rows(lent);
+        let (moved_first, first_shift) = self.moved(first);
+        let (moved_second, second_shift) = self.moved(second);
+        let handed = (first.map(|_| &moved_first[first_shift..]), second.map(|_| &moved_second[second_shift..]));
+        let given = (first.unwrap_or_default(), second.unwrap_or_default());
+        let wanted = reference::view_values(given.0, given.1, &mut rows.wanted[at.clone()]);
+        let lent_values = (lent != Lent::Null).then(|| &mut rows.got[at.clone()]);
+        let got = library::view(handed.0, handed.1, lent_values);
+        self.count("view", lent, wanted);
+        let intact = handed == (first, second);
+        if wanted != got || !rows.agree(wanted) || !intact {
+            let lengths = (given.0.len(), given.1.len(), lent, if intact { "" } else { "a file changed" });
+            let case = (lengths, as_text(given.0), as_text(given.1));
+            self.show(family, &case, wanted, got, rows.difference(as_row));
+        }
+        rows.wanted[at].first_chunk().copied().filter(|_| wanted == 0).ok_or(wanted)
+    }
+
+    /// A pair of files whose report is known; the plain Rust implementation must give it, or 9 for too few lent values.
+    pub fn view_known(&mut self, family: &str, files: (&[u8], &[u8]), lent: Lent, report: Report) {
+        let expected = report.and_then(|report| if lent.len() < REPORT_VALUES { Err(9) } else { Ok(report) });
+        let answer = self.view(family, Some(files.0), Some(files.1), lent);
+        if answer != expected {
+            eprintln!("{family}: the report is {expected:?}, and the plain Rust implementation gives {answer:?}");
             self.differences += 1;
         }
     }

@@ -6,7 +6,7 @@ use crate::seeded::Seeded;
 use crate::{file_lines, merge, FILE_LINE_BYTES};
 
 /// The sample's line with other characters from columns on, counted from 1, its checksum put right and its line end.
-fn with(changes: &[(usize, &str)]) -> Vec<u8> {
+pub fn with(changes: &[(usize, &str)]) -> Vec<u8> {
     let mut line = SAMPLE_LINE.as_bytes().to_vec();
     for (column, text) in changes {
         line[column - 1..column - 1 + text.len()].copy_from_slice(text.as_bytes());
@@ -18,13 +18,13 @@ fn with(changes: &[(usize, &str)]) -> Vec<u8> {
 }
 
 /// By date, clock, letter and satellite, in columns.
-fn line_at(mjd: &str, clock: &str, satellite: &str) -> Vec<u8> {
+pub fn line_at(mjd: &str, clock: &str, satellite: &str) -> Vec<u8> {
     let fr = if satellite.starts_with('R') { "01" } else { "00" };
     with(&[(1, satellite), (8, mjd), (14, clock), (102, fr)])
 }
 
 /// Ascending by hand. MJD 50723 has a start at 00:14, before MJD 50722's 00:18.
-fn ascending() -> Vec<Vec<u8>> {
+pub fn ascending() -> Vec<Vec<u8>> {
     [
         ("50722", "000200", "C99"),
         ("50722", "000200", "E01"),
@@ -85,7 +85,7 @@ fn files_that_ascend() {
 }
 
 /// Line 3 of 5 with one fault, and the number that it is.
-fn faulty_lines() -> Vec<(u32, Vec<u8>)> {
+pub fn faulty_lines() -> Vec<(u32, Vec<u8>)> {
     let good = line_at("50722", "000200", "E02");
     let end = |end: &[u8]| [&good[..113], end].concat();
     let mut wrong_sum = good.clone();

@@ -6,6 +6,7 @@ mod published;
 mod reading;
 mod short;
 mod text;
+mod viewing;
 
 use crate::{block_bytes, Columns, Delays, Labels, Record, BLOCK_SECONDS, MOST_BLOCKS};
 
