@@ -552,8 +552,8 @@ TWINS = [
     ('midpoint ties away, twice', 'fit.rs', MIDPOINT, 'nearest(s.abs(), 100 * n) * s.signum()'),
     ('midpoint over 101 n, twice', 'fit.rs', MIDPOINT, 'nearest(s, 101 * n)'),
     ('weights of an even number, twice', 'fit.rs', PLACE, '2 * j as i64 - (n / 2 * 2 - 1)'),
-    ('residuals cut to 2 ps by the value, twice', 'fit.rs', SQUARE,
-     'let residual = if v % 2 == 0 { residual } else { residual / 2 * 2 };\n        ' + SQUARE),
+    ('residuals halved below 0, twice', 'fit.rs', SQUARE,
+     'let residual = if *v < 0 { residual / 2 } else { residual };\n        ' + SQUARE),
     ('REFSYS of the first for the difference, twice', 'view.rs', DIFFERENCE, 'differences.push(refsys); let _ = other_refsys;'),
 ]
 

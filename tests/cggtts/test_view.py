@@ -171,14 +171,14 @@ class Reports(Scratch):
         runs = 0
         for paper in ('README.md', 'docs/COMMON-VIEW.md'):
             text = (ROOT / paper).read_text()
-            for words, shown in re.findall(r'(?m)^    \$ cggtts view (.*)\n((?:    .*\n)+)', text):
+            for words, shown in re.findall(r'(?m)^    \$ cggtts view (.*)\n((?:    (?!\$).*\n)+)', text):
                 arguments = words.split(' | ')[0].split()
                 arguments = [str(self.folder / word) if word.endswith('.svg') else word for word in arguments]
                 made = subprocess.run([PROGRAM, 'view', *arguments], cwd=ROOT / 'examples', stdout=subprocess.PIPE, check=True).stdout
                 wanted = re.sub(r'(?m)^    ', '', shown).encode()
                 self.assertEqual(b''.join(made.splitlines(keepends=True)[:wanted.count(b'\n')]), wanted, words)
                 runs += 1
-        self.assertGreaterEqual(runs, 2)
+        self.assertEqual(runs, 5)
 
     def test_the_papers_blocks(self):
         """The commands by which docs/COMMON-VIEW.md makes the lines from blocks."""
