@@ -52,6 +52,7 @@ void complain_of_error(const char *file, int error);
 void report_refusal(const char *file, uint32_t number);
 void explain(const char *form, ...);
 int wrong_use(const char *form, ...);
+const char *called(const char *file); /* standard input is given as - */
 
 /* numbers.c: the nearest whole number, a tie going up, and a number as people write it. */
 enum { DECIMAL_ROOM = 32 };
@@ -139,6 +140,7 @@ struct view {
     struct pair *pairs; /* as many as the report says, or NULL */
 };
 int find_pairs(struct view *view);
+size_t pairs_of_two_codes(const struct bytes *first, const struct bytes *second);
 void explain_no_pair(const struct line_file *first, const struct line_file *second);
 
 /* picture.c: the differences over time, as SVG. */

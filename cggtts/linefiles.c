@@ -152,7 +152,8 @@ static void explain_file(const struct bytes *file, size_t number, uint32_t answe
     const uint8_t *line = line_at(file, number);
     int64_t values[TRACKLINE_VALUES];
     if (begins_with_header(file)) {
-        explain("the file begins with a header, and a line file has data lines alone");
+        explain("the file begins with a header, and a line file has data lines alone; this makes one:");
+        explain("  LC_ALL=C grep -aE '^[CEGJR][0-9][0-9] ' FILE | cut -c1-113 | sed 's/$/\\r/' > LINES");
     } else if (answer == TRACKLINE_LINE_LENGTH) {
         size_t tail = file->length - TRACKLINE_FILE_LINE_BYTES * (number - 1);
         explain("it has %zu byte%s, and a line of a file has %d with its line end", tail, tail == 1 ? "" : "s",

@@ -55,6 +55,17 @@ static const struct command *command_named(const char *name)
     return NULL;
 }
 
+/* Whether help is asked for behind a subcommand; behind -- every word is a file. */
+static int asks_for_help(int argc, char **argv)
+{
+    for (int i = 2; i < argc && strcmp(argv[i], "--") != 0; i++) {
+        if (strcmp(argv[i], "--help") == 0) {
+            return 1;
+        }
+    }
+    return 0;
+}
+
 static int run(int argc, char **argv)
 {
     if (argc < 2) {
@@ -75,7 +86,7 @@ static int run(int argc, char **argv)
     if (command == NULL) {
         return wrong_use("no subcommand '%s'", argv[1]);
     }
-    if (argc > 2 && strcmp(argv[2], "--help") == 0) {
+    if (asks_for_help(argc, argv)) {
         return print_help(command);
     }
     return command->run(argc - 1, argv + 1);

@@ -6,6 +6,12 @@
 #include <stdio.h>
 #include <string.h>
 
+/* A file's name in a sentence. In front of a refusal it stands as it was given. */
+const char *called(const char *file)
+{
+    return strcmp(file, "-") == 0 ? "standard input" : file;
+}
+
 /* A file, or the program, and what is wrong with it. */
 void complain(const char *file, const char *reason)
 {

@@ -85,18 +85,35 @@ int find_pairs(struct view *view)
     return ACCEPTED;
 }
 
-static int explain_empty(const struct line_file *file)
-{
-    if (file->bytes.length == 0) {
-        explain("%s has no line", file->name);
-    }
-    return file->bytes.length == 0;
-}
-
-/* The columns of TRKL. */
+/* The columns of TRKL and of FRC. */
 static const char *length_of(const uint8_t *line)
 {
     return (const char *)line + 20;
+}
+
+static const char *code_of(const uint8_t *line)
+{
+    return (const char *)line + 107;
+}
+
+/* How many pairs have lines of another FRC. */
+size_t pairs_of_two_codes(const struct bytes *first, const struct bytes *second)
+{
+    struct place at = {1, 1};
+    size_t count = 0;
+    for (; find_level(first, second, &at); at.first++, at.second++) {
+        const uint8_t *line = line_at(first, at.first), *other = line_at(second, at.second);
+        count += memcmp(length_of(line), length_of(other), 4) == 0 && memcmp(code_of(line), code_of(other), 3) != 0;
+    }
+    return count;
+}
+
+static int explain_empty(const struct line_file *file)
+{
+    if (file->bytes.length == 0) {
+        explain("%s has no line", called(file->name));
+    }
+    return file->bytes.length == 0;
 }
 
 /* Lines of the same keys, which then have another TRKL. Answers whether there are any. */
@@ -118,23 +135,31 @@ static int explain_lengths(const struct line_file *first, const struct line_file
     return count > 0;
 }
 
+static int has_letter(const struct bytes *file, char letter)
+{
+    size_t number = 1;
+    while (number <= lines_of(file) && *line_at(file, number) != (uint8_t)letter) {
+        number++;
+    }
+    return number <= lines_of(file);
+}
+
+static const char LETTERS[] = "CEGJR";
+
 /* The letters of the file's satellites, in their order and parted by blanks, in a room of 16 bytes. */
 static const char *letters_of(const struct bytes *file, char *room)
 {
     char *end = room;
-    for (const char *letter = "CEGJR"; *letter != '\0'; letter++) {
-        size_t number = 1;
-        while (number <= lines_of(file) && *line_at(file, number) != (uint8_t)*letter) {
-            number++;
-        }
-        if (number <= lines_of(file)) {
+    for (const char *letter = LETTERS; *letter != '\0'; letter++) {
+        if (has_letter(file, *letter)) {
             end += sprintf(end, " %c", *letter);
         }
     }
     return room;
 }
 
-/* The columns of MJD. */
+/* The columns of MJD and of the start behind it, by which lines ascend; the first so many of them. */
+enum { DATE = 5, DATE_AND_START = 12 };
 static const char *date_of(const struct bytes *file, size_t number)
 {
     return (const char *)line_at(file, number) + 7;
@@ -143,13 +168,60 @@ static const char *date_of(const struct bytes *file, size_t number)
 static void explain_contents(const struct line_file *file)
 {
     char letters[16] = "";
-    explain("%s has MJD %.5s to %.5s, satellites of%s", file->name, date_of(&file->bytes, 1),
+    explain("%s has MJD %.5s to %.5s, satellites of%s", called(file->name), date_of(&file->bytes, 1),
             date_of(&file->bytes, lines_of(&file->bytes)), letters_of(&file->bytes, letters));
 }
 
-static int ends_before(const struct bytes *file, const struct bytes *other)
+/* Whether a line of each file has the same in these columns. */
+static int meet(const struct bytes *first, const struct bytes *second, size_t columns)
 {
-    return memcmp(date_of(file, lines_of(file)), date_of(other, 1), 5) < 0;
+    struct place at = {1, 1};
+    int order = 1;
+    while (order != 0 && at.first <= lines_of(first) && at.second <= lines_of(second)) {
+        order = memcmp(date_of(first, at.first), date_of(second, at.second), columns);
+        at.first += order < 0;
+        at.second += order > 0;
+    }
+    return order == 0;
+}
+
+/* For each satellite whether a file has it: the letters in their order, 100 numbers each. */
+enum { SATELLITES = 100 * (sizeof LETTERS - 1) };
+static void note_satellites(const struct bytes *file, uint8_t *noted)
+{
+    for (size_t number = 1; number <= lines_of(file); number++) {
+        const uint8_t *line = line_at(file, number);
+        noted[100 * (strchr(LETTERS, *line) - LETTERS) + 10 * (line[1] - '0') + line[2] - '0'] = 1;
+    }
+}
+
+static int satellites_meet(const struct bytes *first, const struct bytes *second)
+{
+    uint8_t noted[SATELLITES] = {0}, others[SATELLITES] = {0};
+    note_satellites(first, noted);
+    note_satellites(second, others);
+    size_t i = 0;
+    while (i < SATELLITES && !(noted[i] && others[i])) {
+        i++;
+    }
+    return i < SATELLITES;
+}
+
+/* What two files have not in common. */
+static void explain_apart(const struct bytes *first, const struct bytes *second)
+{
+    int dates = meet(first, second, DATE), starts = meet(first, second, DATE_AND_START);
+    int satellites = satellites_meet(first, second);
+    if (!dates) {
+        explain("no MJD is in both");
+    } else if (!starts) {
+        explain("no MJD has the same start in both");
+    }
+    if (!satellites) {
+        explain("no satellite is in both");
+    } else if (starts) {
+        explain("no start has the same satellite in both");
+    }
 }
 
 /* 18: what is nearest to a pair in two line files. */
@@ -161,7 +233,5 @@ void explain_no_pair(const struct line_file *first, const struct line_file *seco
     }
     explain_contents(first);
     explain_contents(second);
-    if (ends_before(&first->bytes, &second->bytes) || ends_before(&second->bytes, &first->bytes)) {
-        explain("no MJD is in both");
-    }
+    explain_apart(&first->bytes, &second->bytes);
 }

@@ -11,8 +11,8 @@
 
 /* In pixels; the frame in tenths of one, with room on the left for two thousand million. */
 enum { WIDTH = 960, HEIGHT = 525, LEFT = 1320, RIGHT = 9300, TOP = 960, BOTTOM = 4660 };
-/* So many ticks at most, and the longest name of a file, whose end is shown. */
-enum { TICKS = 8, LONGEST_NAME = 36 };
+/* So many ticks at most, the longest name of a file, whose end is shown, and how far apart names in the legend stand. */
+enum { TICKS = 8, LONGEST_NAME = 36, LEGEND = 1590 };
 /* The least room beside the first and the last point: 0.05 days, and 0.5 ns. */
 enum { TIME_ROOM = DAY / 20, DIFFERENCE_ROOM = 5 };
 
@@ -131,11 +131,34 @@ static const char *marked_up(char character, char *room)
     }
 }
 
-/* The end of a file's name. */
-static void put_name(struct drawing *drawing, const char *name)
+/* How many bytes at their ends two names have in common; none where they are the same. */
+static size_t common_end(const char *name, const char *other)
 {
-    const char *slash = strrchr(name, '/');
-    const char *tail = slash != NULL ? slash + 1 : name;
+    size_t length = strlen(name), others = strlen(other), common = 0;
+    while (common < length && common < others && name[length - common - 1] == other[others - common - 1]) {
+        common++;
+    }
+    return common == length && common == others ? 0 : common;
+}
+
+/* A name from its last slash on, or, where the other has the same there, from the slash before the folder that differs. */
+static const char *tail_of(const char *name, const char *other)
+{
+    size_t common = common_end(name, other);
+    const char *tail = name + strlen(name) - common;
+    if (common == strlen(other) && tail > name && tail[-1] == '/') {
+        tail--;
+    }
+    while (tail > name && tail[-1] != '/') {
+        tail--;
+    }
+    return tail;
+}
+
+/* The end of a file's name, as far as it tells the file from the other. */
+static void put_name(struct drawing *drawing, const char *name, const char *other)
+{
+    const char *tail = tail_of(name, other);
     int cut = strlen(tail) > LONGEST_NAME;
     put(drawing, cut ? "..." : "");
     for (tail += cut ? strlen(tail) - LONGEST_NAME : 0; *tail != '\0'; tail++) {
@@ -146,10 +169,11 @@ static void put_name(struct drawing *drawing, const char *name)
 
 static void put_title(struct drawing *drawing, const struct view *view)
 {
+    const char *first = called(view->first->name), *second = called(view->second->name);
     put(drawing, "REFSYS of ");
-    put_name(drawing, view->first->name);
+    put_name(drawing, first, second);
     put(drawing, " minus REFSYS of ");
-    put_name(drawing, view->second->name);
+    put_name(drawing, second, first);
 }
 
 static void put_head(struct drawing *drawing, const struct view *view)
@@ -181,7 +205,7 @@ static void put_times(struct drawing *drawing, const struct axis *times)
     put_words(drawing, (LEFT + RIGHT) / 2, BOTTOM + 430, "middle", "MJD at the start of the track");
 }
 
-/* The name of the axis stands left of the longest label. */
+/* The name of the axis stands left of the longest label, and inside the picture. */
 static void put_differences(struct drawing *drawing, const struct axis *differences)
 {
     char room[DECIMAL_ROOM];
@@ -195,6 +219,7 @@ static void put_differences(struct drawing *drawing, const struct axis *differen
         longest = (int)strlen(room) > longest ? (int)strlen(room) : longest;
     }
     int x = LEFT / 10 - 18 - 9 * longest;
+    x = x < 14 ? 14 : x;
     put(drawing, "<text x=\"%d\" y=\"%d\" text-anchor=\"middle\" transform=\"rotate(-90 %d %d)\">difference in ns</text>\n", x,
         (TOP + BOTTOM) / 20, x, (TOP + BOTTOM) / 20);
 }
@@ -215,7 +240,25 @@ static int64_t time_of(const struct pair *pair)
 static void put_point(struct drawing *drawing, int x, int y, const char *radius)
 {
     char across[DECIMAL_ROOM], down[DECIMAL_ROOM];
-    put(drawing, "<circle cx=\"%s\" cy=\"%s\" r=\"%s\"/>\n", decimal_text(x, 1, across), decimal_text(y, 1, down), radius);
+    put(drawing, "<circle cx=\"%s\" cy=\"%s\" r=\"%s\">", decimal_text(x, 1, across), decimal_text(y, 1, down), radius);
+}
+
+/* A point that says which pair it is. */
+static void put_pair(struct drawing *drawing, const struct pair *pair, const struct axis *axes, const char *radius)
+{
+    const char *columns = (const char *)pair->line;
+    char difference[DECIMAL_ROOM];
+    put_point(drawing, place_of(&axes[0], time_of(pair), 1), place_of(&axes[1], pair->difference, 1), radius);
+    put(drawing, "<title>%.5s %.6s %.3s %s ns</title></circle>\n", columns + 7, columns + 13, columns,
+        decimal_text(pair->difference, 1, difference));
+}
+
+static void put_legend(struct drawing *drawing, int which, int64_t count, int x)
+{
+    char words[64];
+    snprintf(words, sizeof words, "%s: %" PRId64 " pair%s", constellation_name(COLOURS[which].letter), count,
+             count == 1 ? "" : "s");
+    put_words(drawing, x + 100, 770, "start", words);
 }
 
 /* The pairs of one constellation, and its name in the legend. Answers how far the legend has come. */
@@ -223,24 +266,23 @@ static int put_constellation(struct drawing *drawing, const struct view *view, c
 {
     int64_t pairs = view->report[TRACKLINE_REPORT_PAIRS], count = 0;
     const char *radius = pairs <= 300 ? "3.2" : pairs <= 2000 ? "2.2" : "1.4";
-    char words[64];
     put(drawing, "<g fill=\"%s\" fill-opacity=\"0.75\">\n", COLOURS[which].colour);
     for (int64_t i = 0; i < pairs; i++) {
         const struct pair *pair = &view->pairs[i];
         if (*pair->line == COLOURS[which].letter) {
-            put_point(drawing, place_of(&axes[0], time_of(pair), 1), place_of(&axes[1], pair->difference, 1), radius);
+            put_pair(drawing, pair, axes, radius);
             count++;
         }
     }
     if (count > 0) {
         put_point(drawing, legend, 720, "4");
+        put(drawing, "</circle>\n");
     }
     put(drawing, "</g>\n");
     if (count > 0) {
-        snprintf(words, sizeof words, "%s %" PRId64, constellation_name(COLOURS[which].letter), count);
-        put_words(drawing, legend + 100, 770, "start", words);
+        put_legend(drawing, which, count, legend);
     }
-    return count > 0 ? legend + 1400 : legend;
+    return count > 0 ? legend + LEGEND : legend;
 }
 
 /* The first pair is the earliest, as lines ascend by their dates. */

@@ -1,6 +1,6 @@
 /*
- * cggtts view: the common view of two line files. Pairs, sum, smallest and largest are the library's report; the mean is given
- * as sum and number, and for people as a decimal whose rounding is told.
+ * cggtts view: the common view of two line files. Its four numbers are the library's. The mean is printed as a fraction, and
+ * behind it in ns, with a word on whether that is rounded.
  */
 #include "cggtts.h"
 
@@ -22,6 +22,16 @@ static void print_difference(const char *name, int64_t difference)
     print_form("  %-14s %" PRId64 " x 0.1 ns = %s ns\n", name, difference, decimal_text(difference, 1, text));
 }
 
+/* A row where lines of two codes make pairs. */
+static void print_codes(const struct view *view)
+{
+    size_t count = pairs_of_two_codes(&view->first->bytes, &view->second->bytes);
+    if (count > 0) {
+        print_form("  %-14s in %zu of %" PRId64 " pair%s\n", "another FRC", count, view->report[TRACKLINE_REPORT_PAIRS],
+                   view->report[TRACKLINE_REPORT_PAIRS] == 1 ? "" : "s");
+    }
+}
+
 static void print_report(const struct view *view)
 {
     const int64_t *report = view->report;
@@ -29,15 +39,16 @@ static void print_report(const struct view *view)
     size_t lines = lines_of(&view->first->bytes), others = lines_of(&view->second->bytes);
     char mean[DECIMAL_ROOM];
     int rounded = mean_text(report, mean);
-    print_form("REFSYS of %s minus REFSYS of %s\n", view->first->name, view->second->name);
+    print_form("REFSYS of %s minus REFSYS of %s\n", called(view->first->name), called(view->second->name));
     print_form("  %-14s %" PRId64 "\n", "pairs", pairs);
     print_form("  %-14s %" PRId64 " x 0.1 ns\n", "sum", sum);
     print_difference("smallest", report[TRACKLINE_REPORT_SMALLEST]);
     print_difference("largest", report[TRACKLINE_REPORT_LARGEST]);
     print_form("  %-14s %" PRId64 "/%" PRId64 " x 0.1 ns", "mean", sum, pairs);
     print_form(rounded ? ", about %s ns (rounded to 0.001 ns)\n" : " = %s ns\n", mean);
-    print_form("  %-14s %zu of %zu lines, %zu of %zu\n", "without a pair", lines - (size_t)pairs, lines, others - (size_t)pairs,
-               others);
+    print_form("  %-14s %zu of %zu lines of the first, %zu of %zu of the second\n", "without a pair", lines - (size_t)pairs, lines,
+               others - (size_t)pairs, others);
+    print_codes(view);
 }
 
 /* A row for each pair, and above them a remark that plotting programs skip. */

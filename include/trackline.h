@@ -228,8 +228,11 @@ enum trackline_report {
  * Tried in this order: 19 if either file has more than TRACKLINE_FILE_MOST_LINES * TRACKLINE_FILE_LINE_BYTES bytes,
  * whatever stands in it; the first file, then the second, each as trackline_merge tries it; 18 if there is no pair, as
  * with an empty file; 9 if fewer than 4 numbers are lent. Lines of the same keys may differ: with another TRKL they are
- * no pair, and the other columns are not compared. first and second may be the same. Which of them a number is of, each
- * handed alone to trackline_merge tells.
+ * no pair, and the other columns are not compared. first and second may be the same.
+ *
+ * 18 is of both files, and of a 19 their lengths tell which. Of a 12, 14, 13, 7, 8 or 16 each file handed alone to
+ * trackline_merge tells, as there. The line is line k, counted from 1, for the least k for which the first k * 115 bytes of
+ * the file, or all of it where there are fewer, are refused alone.
  */
 uint32_t trackline_view(const uint8_t *first, size_t first_len, const uint8_t *second, size_t second_len,
                         int64_t *report, size_t report_len);

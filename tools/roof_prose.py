@@ -88,7 +88,7 @@ def shown(tool, report, lines):
     extra = Fraction(tool.EXTRA, 1000)
     yield 'larger than that of A by %s ns' % decimals(-report.mean, 3)
     yield 'The piece of cable is %s ns. The mean is off by %s ns' % (decimals(extra), decimals(abs(report.mean + extra), 3))
-    yield 'the %d differences have a standard deviation of %s ns, so that their mean is uncertain by %s ns' % (
+    yield 'the %d differences have a standard deviation of %s ns, so that their mean has a standard uncertainty of %s ns' % (
         report.number, '%.2f' % report.deviation, '%.2f' % (report.deviation / decimal.Decimal(report.number).sqrt()))
     yield "The clock's 0.4 ps/s"
     yield 'REFSYS of A alone covers %s ns, the differences cover %s ns' % (
@@ -124,11 +124,12 @@ def exactness(tool, report, files):
     yield 'to 0.1 of a pixel'
     yield 'by at most %s of 0.1 ns' % decimals(ROUNDING)
     yield 'what is written is within %s of 0.1 ns' % decimals(PROMISE)
-    yield 'a difference is within %s of 0.1 ns' % decimals(2 * PROMISE)
+    yield 'a difference is within %s ns' % decimals(2 * PROMISE / 10)
     yield 'have the mean %s ns, which is %s ns from that of the lines' % (
         decimals(mean, 5), decimals(abs(mean - report.mean), 4))
 
 
 def limits():
-    yield 'refusal 18 says so'
+    yield 'below refusal 18'
+    yield 'is answered 18'
     yield 'A file may have up to %d lines. A longer one is refused with 19' % 10000

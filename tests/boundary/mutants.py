@@ -455,7 +455,7 @@ MUTANTS = [
     ('satellite left out of a pair', 'view.rs', PAIR, '(first_keys.0, first_keys.1, first_keys.2) == '
      '(second_keys.0, second_keys.1, second_keys.2) && trkl == other_trkl'),
     ('REFSYS the same in a pair', 'view.rs', PAIR, PAIR + ' && refsys == other_refsys'),
-    ('equal lines no pair', 'view.rs', PAIR, PAIR + ' && refsys != other_refsys'),
+    ('lines of the same REFSYS no pair', 'view.rs', PAIR, PAIR + ' && refsys != other_refsys'),
     ('TRKL by whole minutes in a pair', 'view.rs', 'trkl == other_trkl', 'trkl / 60 == other_trkl / 60'),
     ('no pair behind another TRKL', 'view.rs', 'if ' + PAIR + ' {',
      'if first_keys == second_keys && trkl != other_trkl {\n            break;\n        }\n        if ' + PAIR + ' {'),

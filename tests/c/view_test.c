@@ -184,28 +184,33 @@ static void reports(void)
     }
 }
 
-/* A faulty line at each place of a file, the other file good, empty, without a pair or falling. */
-static void faults(void)
+/* A file with a faulty line, beside one that is good, empty, without a pair or falling. */
+static void expect_fault(const struct file *file, uint32_t number)
 {
     struct file good = of("ace"), empty = of(""), falling = of("ba");
-    for (size_t i = 0; i < FAULTS; i++) {
-        for (size_t at = 0; at <= COUNT; at++) {
-            struct file file = {{0}, 0};
-            for (size_t k = 0; k <= COUNT; k++) {
-                if (k == at) {
-                    add(&file, FAULTY[i].line, ENDED);
-                }
-                if (k < COUNT) {
-                    add(&file, LINES[0][k], ENDED);
-                }
-            }
-            expect_view("first file", &file, &good, 4, FAULTY[i].number, NOTHING);
-            expect_view("second file", &good, &file, 4, FAULTY[i].number, NOTHING);
-            expect_view("first file, 18 and 9 behind it", &file, &empty, 0, FAULTY[i].number, NOTHING);
-            expect_view("second file, 18 and 9 behind it", &empty, &file, 3, FAULTY[i].number, NOTHING);
-            expect_view("first file before one that falls", &file, &falling, 4, FAULTY[i].number, NOTHING);
-            expect_view("second file behind one that falls", &falling, &file, 4, 16, NOTHING);
-        }
+    expect_view("first file", file, &good, 4, number, NOTHING);
+    expect_view("second file", &good, file, 4, number, NOTHING);
+    expect_view("first file, 18 and 9 behind it", file, &empty, 0, number, NOTHING);
+    expect_view("second file, 18 and 9 behind it", &empty, file, 3, number, NOTHING);
+    expect_view("first file before one that falls", file, &falling, 4, number, NOTHING);
+    expect_view("second file behind one that falls", &falling, file, 4, 16, NOTHING);
+}
+
+/* A faulty line behind so many lines of A to F, and the others behind it. */
+static void fault_at(const struct faulty *faulty, size_t at)
+{
+    struct file file = of(""), all = of("ABCDEF");
+    add(&file, (const char *)all.bytes, ENDED * at);
+    add(&file, faulty->line, ENDED);
+    add(&file, (const char *)all.bytes + ENDED * at, all.length - ENDED * at);
+    expect_fault(&file, faulty->number);
+}
+
+/* At each place of a file. */
+static void faults(void)
+{
+    for (size_t i = 0; i < FAULTS * (COUNT + 1); i++) {
+        fault_at(&FAULTY[i / (COUNT + 1)], i % (COUNT + 1));
     }
 }
 

@@ -265,7 +265,8 @@ class Refused(Scratch):
         self.refused(15, 'first:5', A + B + C + D + E + F, A + D + two, told % (3, '50723', '001400', 'C01', 110, 'FRC'))
 
     def test_a_header(self):
-        told = 'the file begins with a header, and a line file has data lines alone'
+        told = ("the file begins with a header, and a line file has data lines alone; this makes one:\n"
+                "    LC_ALL=C grep -aE '^[CEGJR][0-9][0-9] ' FILE | cut -c1-113 | sed 's/$/\\r/' > LINES")
         for head in (b'CGGTTS     GENERIC DATA FORMAT VERSION = 2E\r\n', b'CGGTTS', b'GGTTS', b'SAT CL  MJD  STTIME\r\n', b'SAT'):
             self.refused(12, 'first:1', head, b'', told)
         self.refused(14, 'second:1', A, b'SAT CL  MJD  STTIME TRKL\r\n' + A + B, told)

@@ -25,6 +25,8 @@ FIRST, SECOND = ('examples/roof-%s.cggtts' % name for name in 'ab')
 ROOF = [(ROOT / name).read_bytes() for name in (FIRST, SECOND)]
 SVG = '{http://www.w3.org/2000/svg}'
 MOST = 9999999999
+# how a header is taken off, in the messages and on the card
+WITHOUT_HEADER = "LC_ALL=C grep -aE '^[CEGJR][0-9][0-9] ' FILE | cut -c1-113 | sed 's/$/\\r/' > LINES"
 # what plotting programs skip
 HEAD = '# MJD start satellite difference/0.1ns MJD-with-fraction\n'
 
@@ -38,9 +40,14 @@ def starts(mjd):
     return ['%02d%02d00' % divmod(minute, 60) for minute in sorted((2 + 16 * i - 4 * (mjd - 50722)) % 1436 for i in range(89))]
 
 
+def by_pair(file):
+    """The lines by what makes a pair."""
+    return {(*by_keys(line), line[20:24]): line for line in file.splitlines()}
+
+
 def pairs_of(first, second):
     """MJD, start, satellite and difference of each pair, in the order of the lines."""
-    one, other = ({(*by_keys(line), line[20:24]): int(line[53:64]) for line in file.splitlines()} for file in (first, second))
+    one, other = ({key: int(line[53:64]) for key, line in by_pair(file).items()} for file in (first, second))
     return [(int(key[0]), key[1].decode(), (key[2] + key[3]).decode(), one[key] - other[key])
             for key in sorted(one) if key in other]
 
@@ -49,6 +56,14 @@ def rounded(fraction, places):
     """A fraction to so many places, a tie going up."""
     units = math.floor(fraction * 10 ** places + Fraction(1, 2))
     return str(decimal.Decimal(units).scaleb(-places)) if units else '0.' + '0' * places
+
+
+def codes_row(first, second):
+    """How many pairs are of two codes, or nothing where none is."""
+    one, other = by_pair(first), by_pair(second)
+    pairs = one.keys() & other.keys()
+    count = sum(one[key][107:110] != other[key][107:110] for key in pairs)
+    return '  another FRC    in %d of %d pair%s\n' % (count, len(pairs), 's' if len(pairs) > 1 else '') if count else ''
 
 
 def report_of(names, first, second):
@@ -63,7 +78,8 @@ def report_of(names, first, second):
     return ('REFSYS of %s minus REFSYS of %s\n' % names
             + '  pairs          %d\n  sum            %d x 0.1 ns\n' % (count, total) + extremes
             + '  mean           %d/%d x 0.1 ns%s\n' % (total, count, about % rounded(mean, 3))
-            + '  without a pair %d of %d lines, %d of %d\n' % (lines[0] - count, lines[0], lines[1] - count, lines[1]))
+            + '  without a pair %d of %d lines of the first, %d of %d of the second\n' % (
+                lines[0] - count, lines[0], lines[1] - count, lines[1]) + codes_row(first, second))
 
 
 def rows_of(first, second):
@@ -73,6 +89,26 @@ def rows_of(first, second):
         day = Fraction(3600 * int(clock[:2]) + 60 * int(clock[2:4]) + int(clock[4:]), 86400)
         rows += '%d %s %s %d %s\n' % (mjd, clock, satellite, difference, rounded(mjd + day, 6))
     return rows
+
+
+def plain(page):
+    """A manual page's source with the signs of its commands as they are typed."""
+    for escaped, sign in ((r'\-', '-'), (r'\(aq', "'"), (r'\(ha', '^'), (r'\e', '\\')):
+        page = page.replace(escaped, sign)
+    return page
+
+
+def parting():
+    """The papers' command for a file that is too long."""
+    commands = {re.search(r"(?m)^    (LC_ALL=C awk .* FILE)$", plain((ROOT / paper).read_text())).group(1)
+                for paper in ('docs/REFUSALS.md', 'docs/COMMON-VIEW.md', 'man/cggtts.1')}
+    assert len(commands) == 1
+    return commands.pop()
+
+
+def numbers_of(report):
+    """The four numbers of a report that is printed."""
+    return [int(number) for number in re.findall(r'(?m)^  (?:pairs|sum|smallest|largest) +(-?\d+)', report.decode())]
 
 
 def sequence(refsys, first=(51081, 0)):
@@ -116,16 +152,16 @@ class Reports(Scratch):
         second = tracked(*early, 'G01', 8) + tracked(*early, 'G02', -7, 765) + tracked(*late, 'E01', -1)
         self.viewed(first, second, '  pairs          2\n  sum            98 x 0.1 ns\n'
                     '  smallest       -3 x 0.1 ns = -0.3 ns\n  largest        101 x 0.1 ns = 10.1 ns\n'
-                    '  mean           98/2 x 0.1 ns = 4.900 ns\n  without a pair 2 of 4 lines, 1 of 3\n')
+                    '  mean           98/2 x 0.1 ns = 4.900 ns\n  without a pair 2 of 4 lines of the first, 1 of 3 of the second\n')
         self.viewed(second, first, '  pairs          2\n  sum            -98 x 0.1 ns\n'
                     '  smallest       -101 x 0.1 ns = -10.1 ns\n  largest        3 x 0.1 ns = 0.3 ns\n'
-                    '  mean           -98/2 x 0.1 ns = -4.900 ns\n  without a pair 1 of 3 lines, 2 of 4\n')
+                    '  mean           -98/2 x 0.1 ns = -4.900 ns\n  without a pair 1 of 3 lines of the first, 2 of 4 of the second\n')
 
     def test_one_pair_and_a_file_with_itself(self):
         line = tracked(99999, starts(99999)[0], 'R99', -MOST)
         self.viewed(line, line, '  pairs          1\n  sum            0 x 0.1 ns\n  smallest       0 x 0.1 ns = 0.0 ns\n'
                     '  largest        0 x 0.1 ns = 0.0 ns\n  mean           0/1 x 0.1 ns = 0.000 ns\n'
-                    '  without a pair 0 of 1 lines, 0 of 1\n')
+                    '  without a pair 0 of 1 lines of the first, 0 of 1 of the second\n')
         self.viewed(ROOF[0], ROOF[0])
 
     def test_the_mean_s_last_digit(self):
@@ -161,10 +197,26 @@ class Reports(Scratch):
                 self.viewed(first, second)
                 one, other = self.folder / 'one', self.folder / 'other'
                 self.assertEqual(run('view', one, other, '--pairs'), (0, rows_of(first, second).encode(), ''))
-                self.assertEqual(run('view', '-', other, data=first), (0, report_of(('-', other), first, second).encode(), ''))
+                self.assertEqual(run('view', '-', other, data=first), (0, report_of(('standard input', other), first, second).encode(), ''))
                 self.assertEqual(run('view', '--pairs', one, '-', data=second), (0, rows_of(first, second).encode(), ''))
                 found += 1
         self.assertGreater(found, 40)
+
+    def test_pairs_of_two_codes(self):
+        """A row behind the others, where there are any; lines that are no pair do not count."""
+        keys = [(50722, '000200', 'G0%d' % i) for i in range(1, 5)]
+        def lines(codes, trkl=780):
+            return b''.join(tracked(*key, trkl=trkl, changes=[(108, code)]) for key, code in zip(keys, codes))
+        plain = '  pairs          %d\n  sum            0 x 0.1 ns\n  smallest       0 x 0.1 ns = 0.0 ns\n' \
+                '  largest        0 x 0.1 ns = 0.0 ns\n  mean           0/%d x 0.1 ns = 0.000 ns\n'
+        left = '  without a pair %d of %d lines of the first, %d of %d of the second\n'
+        same = ['L1C'] * 4
+        self.viewed(lines(same), lines(['L1C', 'L1P', 'L2C', 'L1C']),
+                    plain % (4, 4) + left % (0, 4, 0, 4) + '  another FRC    in 2 of 4 pairs\n')
+        self.viewed(lines(['E1C']), lines(['E5A']), plain % (1, 1) + left % (0, 1, 0, 1) + '  another FRC    in 1 of 1 pair\n')
+        self.viewed(lines(same), lines(same), plain % (4, 4) + left % (0, 4, 0, 4))
+        late = tracked(50722, '001800', 'G01')
+        self.viewed(lines(same) + late, lines(['L1P'] * 4, trkl=60) + late, plain % (1, 1) + left % (4, 5, 4, 5))
 
     def test_the_papers_runs(self):
         """What README.md and docs/COMMON-VIEW.md show is what is printed of the examples."""
@@ -191,26 +243,52 @@ class Reports(Scratch):
                        env=dict(os.environ, PATH='%s:%s' % (self.folder, os.environ['PATH'])))
         self.assertEqual([(self.folder / name).read_bytes() for name in ('roof-a.cggtts', 'roof-b.cggtts')], ROOF)
 
+    def parted(self, name, data):
+        """A file parted by the papers' command in its folder: what that answers and prints."""
+        (self.folder / name).write_bytes(data)
+        command = parting().removesuffix('FILE') + name
+        done = subprocess.run(['/bin/sh', '-c', command], cwd=self.folder, capture_output=True, check=False)
+        return done.returncode, done.stdout.decode()
+
+    def added(self):
+        """What the document's command makes of the parts, and what it says on the way."""
+        text = (ROOT / 'docs' / 'COMMON-VIEW.md').read_text()
+        (self.folder / 'cggtts').symlink_to(PROGRAM)
+        done = subprocess.run(['/bin/sh', '-c', re.search(r'(?m)^    (for part in .*)$', text).group(1)], cwd=self.folder, check=True,
+                              capture_output=True, text=True, env=dict(os.environ, PATH='%s:%s' % (self.folder, os.environ['PATH'])))
+        return [int(word) for word in done.stdout.split()], done.stderr
+
     def test_parted_by_dates(self):
-        """The command that the papers give for a long file: reports of the parts add up to that of the whole."""
-        commands = [re.search(r"(?m)^    (LC_ALL=C awk .* FILE)$", (ROOT / paper).read_text()).group(1)
-                    for paper in ('docs/REFUSALS.md', 'docs/COMMON-VIEW.md', 'man/cggtts.1')]
-        self.assertEqual(len(set(commands)), 1)
-        reports = []
-        for name, data in zip('ab', ROOF):
-            folder = self.folder / name
-            folder.mkdir()
-            (folder / 'FILE').write_bytes(data)
-            subprocess.run(['/bin/sh', '-c', commands[0]], cwd=folder, check=True)
-            parts = sorted(folder.glob('*-FILE'))
+        """Each line is in the part of its date, and the parts' reports add up to that of the whole."""
+        for name, data in zip(('FIRST', 'SECOND'), ROOF):
+            self.assertEqual(self.parted(name, data), (0, ''))
+            parts = sorted(self.folder.glob('*-' + name))
+            self.assertEqual([part.name for part in parts], ['60630-' + name, '60631-' + name])
             self.assertEqual(b''.join(part.read_bytes() for part in parts), data)
-            self.assertEqual([part.name for part in parts], ['60630-FILE', '60631-FILE'])
-        parts = [[self.folder / name / (date + '-FILE') for name in 'ab'] for date in ('60630', '60631')]
-        for files in (*parts, (FIRST, SECOND)):
-            output = run('view', *files)[1].decode()
-            reports.append([int(number) for number in re.findall(r'(?:pairs|sum|smallest|largest) +(-?\d+)', output)])
-        (pairs, total, low, high), (more, rest, lower, higher), whole = reports
-        self.assertEqual(whole, [pairs + more, total + rest, min(low, lower), max(high, higher)])
+        self.assertEqual(self.added(), (numbers_of(run('view', FIRST, SECOND)[1]), ''))
+
+    def test_parts_without_a_pair(self):
+        """A date without a pair and one without a partner are told, and add nothing."""
+        keys = [(mjd, starts(mjd)[5], 'G05') for mjd in range(51081, 51086)]
+        first = b''.join(tracked(*key, -MOST) for key in keys[:4])
+        second = b''.join(tracked(*key, MOST, trkl) for key, trkl in zip(keys[1:], (780, 60, 780, 780)))
+        self.parted('FIRST', first)
+        self.parted('SECOND', second)
+        added, told = self.added()
+        self.assertEqual(added, [2, -4 * MOST, -2 * MOST, -2 * MOST])
+        self.assertEqual(re.findall(r'(?m)^\S.*?: (refused 18|No such file)', told), ['No such file', 'refused 18'])
+
+    def test_a_date_that_comes_back(self):
+        """The command stops there, so that no line is lost unnoticed; sorted first, the file is parted."""
+        early, late = ROOF[0][:115 * 10], ROOF[0][115 * 10:]
+        self.assertEqual({line[7:12] for line in early.splitlines()}, {b'60630'})
+        status, told = self.parted('twice', late + early)
+        self.assertEqual((status, told), (1, 'twice:%d: an earlier date than above; sort it first\n' % (len(late) // 115 + 1)))
+        command = re.search(r'(?m)^    (LC_ALL=C sort .* FILE .*)$', (ROOT / 'docs' / 'REFUSALS.md').read_text()).group(1)
+        (self.folder / 'FILE').write_bytes(ROOF[0] + early)
+        subprocess.run(['/bin/sh', '-c', command], cwd=self.folder, check=True)
+        self.assertEqual(self.parted('again', (self.folder / 'SORTED').read_bytes()), (0, ''))
+        self.assertEqual(b''.join(part.read_bytes() for part in sorted(self.folder.glob('*-again'))), ROOF[0])
 
 
 class Rows(Scratch):
@@ -300,9 +378,13 @@ class Pictures(Scratch):
         texts = [text.text for text in picture.iter(SVG + 'text')]
         self.assertEqual(texts[0], 'REFSYS of one minus REFSYS of other')
         self.assertEqual(texts[1], '37 pairs: smallest -24.2 ns and largest -23.2 ns (dashed), mean about -23.686 ns (red)')
-        for words in ('difference in ns', 'MJD at the start of the track', 'BeiDou 9', 'Galileo 10', 'GPS 6', 'QZSS 7',
-                      'GLONASS 5'):
+        for words in ('difference in ns', 'MJD at the start of the track', 'BeiDou: 9 pairs', 'Galileo: 10 pairs',
+                      'GPS: 6 pairs', 'QZSS: 7 pairs', 'GLONASS: 5 pairs'):
             self.assertIn(words, texts)
+        named = [dot.find(SVG + 'title').text for group in picture.findall(SVG + 'g') for dot in group.findall(SVG + 'circle')[:-1]]
+        self.assertEqual(named, ['%d %s %s %s ns' % (*pair[:3], rounded(Fraction(pair[3], 10), 1))
+                                 for pair in sorted(pairs, key=lambda pair: pair[2][0])])
+        self.assertIn('60631 003400 R22 -23.2 ns', named)
         self.assertEqual(picture.find(SVG + 'title').text, texts[0])
 
     def test_lines_of_the_report(self):
@@ -326,7 +408,11 @@ class Pictures(Scratch):
             picture = self.drawn(line, other)
             self.inside(picture, 1)
             self.check_places(picture, pairs_of(line, other))
-            self.assertIn('1 pair: ', ' '.join(text.text or '' for text in picture.iter(SVG + 'text')))
+            texts = {text.text: text for text in picture.iter(SVG + 'text')}
+            self.assertIn('1 pair: ', ' '.join(texts))
+            self.assertIn('GPS: 1 pair', texts)
+            # it is turned, and its letters reach up to 11 pixels to the left of its place
+            self.assertIn(float(texts['difference in ns'].get('x')), range(14, 100))
 
     def test_ten_thousand_pairs(self):
         pick = random.Random(8)
@@ -369,6 +455,26 @@ class Pictures(Scratch):
             self.assertTrue(done.stdout.startswith(b'REFSYS of ' + path + b' minus REFSYS of ' + path + b'\n'))
             title = tree.fromstring(picture.read_bytes()).find(SVG + 'title').text
             self.assertEqual(title, 'REFSYS of %s minus REFSYS of %s' % (shown, shown))
+
+
+    def heading(self, names):
+        """What the picture of files with these names in the folder is headed."""
+        line = tracked(50722, '000200', 'G01')
+        for path in (self.folder / name for name in names if name != '-'):
+            path.parent.mkdir(parents=True, exist_ok=True)
+            path.write_bytes(line)
+        subprocess.run([PROGRAM, 'view', *names, '--svg', 'picture'], input=line, stdout=subprocess.DEVNULL, cwd=self.folder,
+                       check=True)
+        return tree.fromstring((self.folder / 'picture').read_bytes()).find(SVG + 'title').text
+
+    def test_files_of_one_name(self):
+        """They are shown with the folders in which they differ."""
+        for names, shown in ((('a/x', 'b/x'), ('a/x', 'b/x')), (('a/x', 'a/y'), ('x', 'y')), (('x', 'a/x'), ('x', 'a/x')),
+                             (('a/b/x', 'c/b/x'), ('a/b/x', 'c/b/x')), (('d/a/x', 'd/b/x'), ('a/x', 'b/x')),
+                             (('b/x', 'a/b/x'), ('b/x', 'a/b/x')), (('d/ab/x', 'd/b/x'), ('ab/x', 'b/x')),
+                             (('a/x', 'a/bx'), ('x', 'bx')), (('a/x', 'a/x'), ('x', 'x')), (('x', './x'), ('x', './x')),
+                             (('-', 'a/x'), ('standard input', 'x'))):
+            self.assertEqual(self.heading(names), 'REFSYS of %s minus REFSYS of %s' % shown)
 
 
 class ToFile(Scratch):
@@ -462,9 +568,12 @@ class Use(Scratch):
 
     def test_help(self):
         usage = b'cggtts view FIRST SECOND [--pairs] [--svg PICTURE]'
-        status, output, errors = run('view', '--help')
-        self.assertEqual((status, errors), (0, ''))
-        self.assertIn(usage, output)
+        for words in (('--help',), ('a', 'b', '--help'), ('a', '--help', '--pairs'), ('--svg', 'x', '--help'), ('a', '--help', '--', 'b')):
+            status, output, errors = run('view', *words)
+            self.assertEqual((status, errors), (0, ''))
+            self.assertIn(usage, output)
+        self.assertIn(b'cggtts merge', run('merge', 'a', 'b', '--help')[1])
+        self.assertEqual(run('view', FIRST, '--', '--help'), (2, b'', 'cggtts: --help: No such file or directory\n'))
         self.assertIn(usage, run('--help')[1])
 
     def test_files_that_can_not_be_read(self):
@@ -502,8 +611,20 @@ class Refused(Scratch):
             self.refused(number, 'first:2', later + bad, good, why)
             self.refused(number, 'second:2', good, later + bad, why)
             self.refused(number, 'first:2', later + bad, bad[:-1], why)
-        told = 'the file begins with a header, and a line file has data lines alone'
-        self.refused(14, 'second:1', good, b'CGGTTS     GENERIC DATA FORMAT VERSION = 2E\r\n' + good + later, told)
+        told = 'the file begins with a header, and a line file has data lines alone; this makes one:', '  ' + WITHOUT_HEADER
+        self.refused(14, 'second:1', good, b'CGGTTS     GENERIC DATA FORMAT VERSION = 2E\r\n' + good + later, *told)
+
+    def test_the_header_taken_off(self):
+        """By the command of the message, which the papers have too."""
+        for paper in ('docs/REFUSALS.md', 'docs/COMMON-VIEW.md', 'man/cggtts.1'):
+            self.assertIn('\n    %s\n' % WITHOUT_HEADER, plain((ROOT / paper).read_text()), paper)
+        for end in (b'\n', b'\r\n'):
+            header = end.join((b'CGGTTS     GENERIC DATA FORMAT VERSION = 2E', b'REF = UTC(LAB)', b'CKSUM = 77', b'',
+                               b'SAT CL  MJD  STTIME TRKL ELV AZTH   REFSV', b'             hhmmss  s  .1dg .1dg    .1ns', b''))
+            self.kept('FILE', header + ROOF[0].replace(b'\r\n', b' a remark' + end))
+            self.assertEqual(run('view', self.folder / 'FILE', SECOND)[0], 1)
+            subprocess.run(['/bin/sh', '-ec', WITHOUT_HEADER], cwd=self.folder, check=True)
+            self.assertEqual((self.folder / 'LINES').read_bytes(), ROOF[0])
 
     def test_the_same_keys_and_another_content(self):
         """No 15 here: the lines are a pair."""
@@ -528,7 +649,33 @@ class Refused(Scratch):
                      'SECOND has MJD 50722 to 50722, satellites of G R', 'no MJD is in both')
         every = b''.join(tracked(50723, '001400', letter + '07') for letter in 'CEGJR')
         self.refused(18, 'first and second', day + next_day, every, 'FIRST has MJD 50722 to 50723, satellites of G R',
-                     'SECOND has MJD 50723 to 50723, satellites of C E G J R')
+                     'SECOND has MJD 50723 to 50723, satellites of C E G J R', 'no satellite is in both')
+
+    def test_what_is_not_in_both(self):
+        """Dates by themselves, not by the first and the last; then starts, then satellites."""
+        none = {'mjd': 'no MJD is in both', 'start': 'no MJD has the same start in both', 'satellite': 'no satellite is in both',
+                'both': 'no start has the same satellite in both'}
+        early, between, late = (50722, '000200'), (50723, '001400'), (50724, '001000')
+        has = '%s has MJD %d to %d, satellites of %s'
+        for first, second, ranges, letters, told in (
+                (tracked(*early, 'G05') + tracked(*late, 'G05'), tracked(*between, 'G05'), (50722, 50724, 50723, 50723), 'GG', ['mjd']),
+                (tracked(*early, 'G05') + tracked(*late, 'G06'), tracked(*between, 'G07'), (50722, 50724, 50723, 50723), 'GG',
+                 ['mjd', 'satellite']),
+                (tracked(*early, 'G05'), tracked(50722, '001800', 'G05'), (50722,) * 4, 'GG', ['start']),
+                (tracked(*early, 'G05'), tracked(50722, '001800', 'R05'), (50722,) * 4, 'GR', ['start', 'satellite']),
+                (tracked(*early, 'G05'), tracked(*early, 'E05'), (50722,) * 4, 'GE', ['satellite']),
+                (tracked(*early, 'G99'), tracked(*early, 'G98'), (50722,) * 4, 'GG', ['satellite']),
+                (tracked(*early, 'R98') + tracked(50722, '001800', 'R99'), tracked(*early, 'R99'), (50722,) * 4, 'RR', ['both'])):
+            self.refused(18, 'first and second', first, second, has % ('FIRST', *ranges[:2], letters[0]),
+                         has % ('SECOND', *ranges[2:], letters[1]), *(none[word] for word in told))
+
+    def test_standard_input(self):
+        """As a file it is named -, and in a sentence by its name."""
+        one, line = self.kept('one', tracked(50722, '000200', 'G05')), tracked(50723, '001400', 'G05')
+        told = '- and %s: refused 18: %s\n' % (one, MEANINGS[18])
+        self.assertEqual(run('view', '-', one, data=b''), (1, b'', told + '  standard input has no line\n'))
+        self.assertEqual(run('view', '-', one, data=line), (1, b'', told + '  standard input has MJD 50723 to 50723, satellites of G\n'
+                                                            '  %s has MJD 50722 to 50722, satellites of G\n  no MJD is in both\n' % one))
 
     def test_empty_files(self):
         line = tracked(50722, '000200', 'G05')
@@ -585,6 +732,13 @@ class Roof(Scratch):
         tried, missed = unnoticed(self.prose.check, self.document, self.wanted)
         self.assertEqual(missed, [])
         self.assertGreater(tried, 150)
+
+    def test_help(self):
+        """It names a block that is made."""
+        done = subprocess.run([ROOT / 'tools' / 'roof', '--help'], capture_output=True, text=True, check=True)
+        self.assertEqual(done.stderr, '')
+        self.assertIn(re.search(r'FOLDER/(a-.*?\.blk)', done.stdout).group(1), self.tool.blocks_of('a'))
+        self.assertEqual(subprocess.run([ROOT / 'tools' / 'roof'], capture_output=True, check=False).returncode, 2)
 
     def test_the_reports_beside_each_other(self):
         """The tool's report and the one of these tests."""

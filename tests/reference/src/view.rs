@@ -7,8 +7,8 @@ pub const LONGEST_FILE: usize = 1_150_000;
 /// A report as C gets it.
 pub const REPORT_VALUES: usize = 4;
 
-/// How many pairs there are, the sum of first REFSYS minus second REFSYS, and the smallest and the largest of these
-/// differences, in 0.1 ns.
+/// What the differences of REFSYS, first less second and in 0.1 ns, come to: how many they are, what they add up to, and
+/// between which two they lie.
 #[derive(Clone, Copy, Debug, PartialEq, Eq)]
 pub struct View {
     pub pairs: i64,
