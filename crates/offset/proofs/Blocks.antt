@@ -1,12 +1,11 @@
 -- A shared offset drops out of written lines (document 02, Job 7): hire blocks and the numbers that their lines' columns hold.
 -- Assumes nothing.
-use mathlib.Core.Path.{_≡_, sym, ap, ap₂, _∙_, subst, subst₂}
+use mathlib.Core.Path.{_≡_, sym, ap, ap₂, _∙_, subst₂}
 use mathlib.Core.List.{List}
 use Prim.Native.Nat.{ℕ}
 use lib.IntN.{ℤ, _-ℤ_}
 use lib.ListN.{length}
 use Rattle.limits.specs.Refusal.{_then_}
-use Rattle.limits.specs.declared.Numbers.{Numbers}
 use Rattle.limits.proofs.Laws.{then-zero}
 use Rattle.exact.specs.Corrected.{Given}
 use Rattle.fit.specs.Track.{results, trackNumber}
@@ -15,7 +14,7 @@ use Rattle.hire.specs.Hire.{blockLabels, blockGiven}
 use Rattle.line.specs.Line.{lineAnswer, lineAfter}
 use Rattle.line.specs.Block.{blockNumbers, sizesNumber, blockAnswer, blockAfter}
 use Rattle.line.proofs.ReadBack.{numbers-read}
-use Rattle.offset.specs.Shifted.{shifted, Moved, ShiftedBlock}
+use Rattle.offset.specs.Shifted.{Moved, ShiftedBlock}
 use Rattle.offset.proofs.Tracks.{results-move, drops}
 
 -- what an accepted block's track and line were asked
@@ -47,11 +46,11 @@ block-moves k before after lent room s p q =
     subst₂ (Moved k) (sym (numbers-in before lent p)) (sym (numbers-in after room q ∙ ap (λ (g : Given). results g .numbers) (s .given)))
     (results-move k (blockGiven before) (track-accepts before (length lent) p))
 
--- Two blocks shifted alike: the difference of the REFSYS in their lines' columns stays.
-pub blocks-difference : (k : ℤ) (b b′ c c′ lent : List ℕ) → ShiftedBlock k b b′ → ShiftedBlock k c c′
-    → blockAnswer b (length lent) ≡ 0 → blockAnswer b′ (length lent) ≡ 0 → blockAnswer c (length lent) ≡ 0 → blockAnswer c′ (length lent) ≡ 0
-    → readNumbers (blockAfter b′ lent) .refsys -ℤ readNumbers (blockAfter c′ lent) .refsys
-    ≡ readNumbers (blockAfter b lent) .refsys -ℤ readNumbers (blockAfter c lent) .refsys
-blocks-difference k b b′ c c′ lent s t p p′ q q′ =
-    ap₂ (λ (x y : ℤ). x -ℤ y) (block-moves k b b′ lent lent s p p′ .refsys) (block-moves k c c′ lent lent t q q′ .refsys)
-    ∙ drops (readNumbers (blockAfter b lent) .refsys) (readNumbers (blockAfter c lent) .refsys) k
+-- Two blocks shifted alike, each written to a lent line of its own: the difference of the REFSYS in their lines' columns stays.
+pub blocks-difference : (k : ℤ) (b b′ c c′ l l′ m m′ : List ℕ) → ShiftedBlock k b b′ → ShiftedBlock k c c′
+    → blockAnswer b (length l) ≡ 0 → blockAnswer b′ (length l′) ≡ 0 → blockAnswer c (length m) ≡ 0 → blockAnswer c′ (length m′) ≡ 0
+    → readNumbers (blockAfter b′ l′) .refsys -ℤ readNumbers (blockAfter c′ m′) .refsys
+    ≡ readNumbers (blockAfter b l) .refsys -ℤ readNumbers (blockAfter c m) .refsys
+blocks-difference k b b′ c c′ l l′ m m′ s t p p′ q q′ =
+    ap₂ (λ (x y : ℤ). x -ℤ y) (block-moves k b b′ l l′ s p p′ .refsys) (block-moves k c c′ m m′ t q q′ .refsys)
+    ∙ drops (readNumbers (blockAfter b l) .refsys) (readNumbers (blockAfter c m) .refsys) k

@@ -3,7 +3,7 @@
 use mathlib.Core.Path.{_≡_, refl, sym, ap, ap₂, _∙_}
 use mathlib.Core.Bool.{Bool, true, false, cond, not, _||_}
 use mathlib.Core.List.{List, [], _∷_, _++_, map, append-nil}
-use Prim.Native.Nat.{ℕ, zero, suc, _+_, _*_, _%_, zero-le}
+use Prim.Native.Nat.{ℕ, _+_, _*_, _%_, zero-le}
 use lib.Dec.{ltb, eqb}
 use lib.IntN.{ℤ, natAbs, _+ℤ_, _-ℤ_}
 use lib.ListN.{length, length-append, length-map}
@@ -32,7 +32,7 @@ use Rattle.viewing.specs.View.{trklOf, refsysOf, sameTrkl, pairsOf, differences
 use Rattle.linefile.proofs.Ascending.{All}
 use Rattle.linefile.proofs.Lines.{Long}
 use Rattle.merging.proofs.Joined.{lines-joined, length-joined}
-use Rattle.offset.specs.Shifted.{shifted, AcceptedBlock, ShiftedPair, fileOf}
+use Rattle.offset.specs.Shifted.{AcceptedBlock, ShiftedPair, blocksBefore, blocksAfter, fileOf}
 use Rattle.offset.proofs.Tracks.{results-move, drops}
 use Rattle.offset.proofs.Blocks.{track-accepts, line-accepts}
 
@@ -91,11 +91,11 @@ alike k pair s =
     let a = s .before in
     let b = s .after in
     let m = results-move k (blockGiven (pair .0)) (track-accepts (pair .0) lineLength (a .answer)) in
-    let n = ap (λ (g : Given). results g .numbers) (s .shifted .given) in
+    let n = ap (λ (g : Given). results g .numbers) (s .moved .given) in
     record {
       before = line-accepted (pair .0) a;
       after = line-accepted (pair .1) b;
-      keys = ap keysOf (labels-are (pair .1) b ∙ s .shifted .labels ∙ sym (labels-are (pair .0) a));
+      keys = ap keysOf (labels-are (pair .1) b ∙ s .moved .labels ∙ sym (labels-are (pair .0) a));
       trkl = ap natAbs (ap (λ (x : Numbers). x .trkl) (numbers-are (pair .1) b ∙ n) ∙ m .trkl ∙ sym (ap (λ (x : Numbers). x .trkl) (numbers-are (pair .0) a)));
       refsys = ap (λ (x : Numbers). x .refsys) (numbers-are (pair .1) b ∙ n) ∙ m .refsys ∙ sym (ap (λ (x : Numbers). x .refsys +ℤ k) (numbers-are (pair .0) a));
     }
@@ -171,13 +171,6 @@ all-viewed k (x ∷ xs) ys a b =
 
 -- ---- the files
 
--- the blocks before the shift, and after it
-abbrev pub blocksBefore : List (List ℕ × List ℕ) → List (List ℕ)
-blocksBefore pairs = map (λ p. p .0) pairs
-
-abbrev pub blocksAfter : List (List ℕ × List ℕ) → List (List ℕ)
-blocksAfter pairs = map (λ p. p .1) pairs
-
 lines-alike : (k : ℤ) (ps : List (List ℕ × List ℕ)) → All (ShiftedPair k) ps → All (Alike k) (map linesOf ps)
 lines-alike k [] a = tt
 lines-alike k (p ∷ ps) a = (alike k p (a .0), lines-alike k ps (a .1))
@@ -220,7 +213,7 @@ file-judged k ps a =
     (length-shifted ps)
 
 module _ (k : ℤ) (ps qs : List (List ℕ × List ℕ)) (a : All (ShiftedPair k) ps) (b : All (ShiftedPair k) qs) where
-  -- The differences of two files of blocks that are shifted alike stay, pair by pair.
+  -- The list of the differences of two files of blocks that are shifted alike stays.
   pub differences-stay : viewed (fileOf (blocksAfter ps)) (fileOf (blocksAfter qs)) ≡ viewed (fileOf (blocksBefore ps)) (fileOf (blocksBefore qs))
   unfolding viewed pairsOf
   differences-stay =

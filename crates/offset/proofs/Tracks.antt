@@ -32,14 +32,14 @@ at-raised c (z ∷ l) (suc i) h = at-raised c l i (le-of-suc-le-suc h)
 -- ---- the corrected values
 
 module _ (k : ℤ) (g : Given) (sized : length (g .measurements) ≡ 15 * blocks g) where
-  block-moves : (j i : ℕ) → j < blocks g → i < 15 → block (shifted k g) j i ≡ block g j i +ℤ unit *ℤ k
+  seconds-move : (j i : ℕ) → j < blocks g → i < 15 → block (shifted k g) j i ≡ block g j i +ℤ unit *ℤ k
   unfolding block shifted
-  block-moves j i h p = at-raised (unit *ℤ k) (g .measurements) (15 * j + i) (omega (arith, sized))
+  seconds-move j i h p = at-raised (unit *ℤ k) (g .measurements) (15 * j + i) (omega (arith, sized))
 
   a-moves : (j : ℕ) → j < blocks g → valueA (shifted k g) j ≡ valueA g j +ℤ unit *ℤ k
   unfolding valueA smoothedAt toA shifted
   a-moves j h =
-      ap (λ (y : ℤ). toA g (pos 1) j y) (smoothed-moves (unit *ℤ k) (block g j) (block (shifted k g) j) (λ i p. block-moves j i h p))
+      ap (λ (y : ℤ). toA g (pos 1) j y) (smoothed-moves (unit *ℤ k) (block g j) (block (shifted k g) j) (λ i p. seconds-move j i h p))
       ∙ last (smoothedAt g j) (unit *ℤ k) (pos 1 *ℤ (g .int +ℤ g .cab -ℤ g .refdly)) (pos 1 *ℤ at (g .geometry) j)
       (pos 1 *ℤ at (g .relativity) j) (pos 1 *ℤ at (g .ionosphere) j) (pos 1 *ℤ at (g .troposphere) j) (pos 1 *ℤ g .gd)
     where

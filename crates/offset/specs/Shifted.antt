@@ -50,7 +50,8 @@ pub record Moved (k : ℤ) (before after : Numbers) : Type 0 where
   pub dsg : after .dsg ≡ before .dsg
   pub trkl : after .trkl ≡ before .trkl
 
--- A hire block that says what another says, but for the measurements, which are those of the other with k × 100 ps added.
+-- A hire block that says what another says, but for the measurements, which are those of the other with k × 100 ps added. Where both are accepted,
+-- their sizes and lengths are the same too.
 pub record ShiftedBlock (k : ℤ) (before after : List ℕ) : Type 0 where
   pub labels : blockLabels after ≡ blockLabels before
   pub given : blockGiven after ≡ shifted k (blockGiven before)
@@ -64,7 +65,14 @@ pub record AcceptedBlock (b : List ℕ) : Type 0 where
 pub record ShiftedPair (k : ℤ) (pair : List ℕ × List ℕ) : Type 0 where
   pub before : AcceptedBlock (pair .0)
   pub after : AcceptedBlock (pair .1)
-  pub shifted : ShiftedBlock k (pair .0) (pair .1)
+  pub moved : ShiftedBlock k (pair .0) (pair .1)
+
+-- Of such pairs, the blocks before the shift and those after it.
+abbrev pub blocksBefore : List (List ℕ × List ℕ) → List (List ℕ)
+blocksBefore pairs = map (λ p. p .0) pairs
+
+abbrev pub blocksAfter : List (List ℕ × List ℕ) → List (List ℕ)
+blocksAfter pairs = map (λ p. p .1) pairs
 
 -- The line file of some blocks: the line of each with its end, in their order.
 unfoldable pub fileOf : List (List ℕ) → List ℕ
