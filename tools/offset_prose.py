@@ -13,7 +13,8 @@ UNIT, HALF = 100, 50
 # what is added in the rows of the tables: to the two tracks, and to the roof
 ADDED, ON_THE_ROOF = (0, 1, 50, 99, 100, 300, -50, -200), (0, 50, 10, 23700)
 # the order in which the document adds up what is taken off a measurement
-TAKEN_OFF = ('INT', 'CAB', 'REF', 'GD', 'geometry', 'relativity', 'ionosphere', 'troposphere', 'clock')
+TAKEN_OFF = (('INT', 1), ('CAB', 1), ('REF', -1), ('GD', 1), ('geometry', 1), ('relativity', -1), ('ionosphere', 1),
+             ('troposphere', 1), ('clock', -1))
 # a cable whose delay the receiver rounds second by second, and one entered in CAB of receiver one only, in ps
 ROUNDED, ENTERED_ONCE = Fraction(201, 2), 300
 
@@ -61,7 +62,7 @@ def answer(tool):
     yield 'then moves by %d to %d ps' % (math.floor(below), math.ceil(above))
     yield 'whose difference goes from -1 to 1'
     one, two = fits(tool, 0)
-    yield 'with %d ps the tracks below have %d instead of %d' % (
+    yield 'With %d ps the tracks below have %d instead of %d' % (
         ENTERED_ONCE, one.midpoint - fits(tool, ENTERED_ONCE)[1].midpoint, one.midpoint - two.midpoint)
 
 
@@ -72,12 +73,10 @@ def example(tool):
     yield 'for %d s, %d blocks of %d s' % (span * one.n, one.n, span)
     yield 'in each %d s block all %d measurements are the same' % (span, span)
     for receiver, track in zip(tool.VALUES, (one, two)):
-        terms = [-sign * track.term(name, 0) for name, sign in (*(dict(tool.lastdigit.TERMS) | {'clock': 1}).items(),)]
-        named = dict(zip((*dict(tool.lastdigit.TERMS), 'clock'), terms))
-        shown = [named[name] for name in TAKEN_OFF]
-        assert sum(shown) == track.measurements[0] - track.rounded['B'][0] and set(TAKEN_OFF) == set(named)
-        yield '| %s | %d%s = %d |' % (receiver, shown[0], ''.join(' %s %d' % ('-' if x < 0 else '+', abs(x)) for x in shown[1:]),
-                                      sum(shown))
+        terms = [sign * track.term(name, 0) for name, sign in TAKEN_OFF]
+        assert sum(terms) == track.measurements[0] - track.rounded['B'][0]
+        yield '| %s | %d%s = %d |' % (
+            receiver, terms[0], ''.join(' %s %d' % ('-' if term < 0 else '+', abs(term)) for term in terms[1:]), sum(terms))
     yield '| %d s block | receiver one |' % span
     for j in range(one.n):
         yield '| %d | %d | %d | %d | %d |' % (j, one.block(j)[0], one.rounded['B'][j], two.block(j)[0], two.rounded['B'][j])
@@ -144,30 +143,38 @@ def other_shifts(tool):
 
 
 def roof(tool):
-    files = {receiver: tool.roof.blocks_of(receiver) for receiver in 'ab'}
+    files = [tool.roof.blocks_of(receiver) for receiver in 'ab']
 
     def report(shift):
         return tool.roof.Report(*(tool.roof.lines_of({name: tool.shifted(data, shift) for name, data in blocks.items()})
-                                  for blocks in files.values()))
+                                  for blocks in files))
 
     before = report(0)
+    totals = [totals_of(tool, blocks) for blocks in files]
+
+    def moved_sum(shift):
+        """By how much the sum of the report moves, from the sums S alone."""
+        one, two = ({key: tool.lastdigit.nearest(s + n * shift, UNIT * n) for key, (s, n) in total.items()} for total in totals)
+        return sum(one[key] - two[key] for key in before.pairs) - before.sum
+
     yield 'scatter by %.2f ns' % before.deviation
     yield 'with its %d pairs and the sum %d' % (before.number, before.sum)
     yield 'differences that are 1 more | 1 less |'
     for shift in ON_THE_ROOF:
         after = report(shift)
         moves = [after.pairs[key] - value for key, value in before.pairs.items()]
-        assert set(moves) <= {-1, 0, 1}
+        assert set(moves) <= {-1, 0, 1} and sum(moves) == moved_sum(shift)
         yield '| %d ps | %d | %d | %d | %d | %d | %s |' % (
             shift, moves.count(1), moves.count(-1), after.sum, after.smallest, after.largest, decimals(after.mean, 3))
-        assert sum(moves) == moved_sum(tool, files, before, shift)
-    sums = [moved_sum(tool, files, before, shift) for shift in range(1, UNIT)]
+    sums = [moved_sum(shift) for shift in range(1, UNIT)]
     yield 'Over all offsets from 1 to %d ps this sum moves by %+d to %+d, the mean by %s ns at most' % (
         UNIT - 1, min(sums), max(sums), decimals(Fraction(max(map(abs, sums)), 10 * before.number), 3))
 
 
-def moved_sum(tool, files, report, shift):
-    """By how much the sum of a report moves, from the sums of B alone."""
-    if 'sums' not in files:
-        files['sums'] = 0
-    return 0
+def totals_of(tool, blocks):
+    """S of B and the number of its values, of each block by what makes a pair."""
+    found = {}
+    for name, data in blocks.items():
+        (key,), values = tool.roof.refsys_of(tool.roof.lines_of({name: data})), tool.lastdigit.Track(data).rounded['B']
+        found[key] = sum(values), len(values)
+    return found
