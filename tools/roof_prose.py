@@ -132,4 +132,5 @@ def exactness(tool, report, files):
 def limits():
     yield 'below refusal 18'
     yield 'is answered 18'
+    yield 'two tracks on which 50 ps change a last digit'
     yield 'A file may have up to %d lines. A longer one is refused with 19' % 10000

@@ -24,6 +24,7 @@ import roof_prose  # noqa: E402
 SHARED = ROOT / 'examples' / 'shared'
 PAPER = ROOT / 'docs' / 'SHARED-OFFSET.md'
 START = b'C05 FF 60630 181000 0060 221 1254 '
+WEIGHTS = (-78, -13, 42, 87, 122, 147, 162, 167, 162, 147, 122, 87, 42, -13, -78)
 ONE = START + b'%s +00058 %s +00058 0001 001 0214 +000 0310 +000 00 03 L2I %s\r\n'
 TWO = START + b'%s -00044 %s -00044 0001 001 0214 +000 0310 +000 00 08 L2I %s\r\n'
 # the line of each file
@@ -32,7 +33,7 @@ LINES = {
     'one-plus-50': ONE % (b'+0002364413', b'+0000000313', b'65'), 'two-plus-50': TWO % (b'+0002364288', b'+0000000188', b'78'),
     'one-plus-300': ONE % (b'+0002364416', b'+0000000315', b'6A'), 'two-plus-300': TWO % (b'+0002364291', b'+0000000191', b'6C')}
 # what is added to both, in ps, and the difference of the pair
-DIFFERENCES = {0: 124, 50: 125, 300: 124, 100: 124, -50: 125, -100: 124, -200: 124, 1000000: 124, -31250: 125}
+DIFFERENCES = {0: 124, 1: 125, 50: 125, 99: 124, 300: 124, 100: 124, -50: 125, -100: 124, -200: 124, 1000000: 124, -31250: 125}
 
 
 def shifted(block, by, delay=None):
@@ -111,6 +112,48 @@ class Examples(Shifts):
                 for delay in (0, 1, 3):
                     self.assertEqual(self.lines([shifted(block, by, delay)]), LINES[receiver])
                 self.assertEqual(self.lines([shifted(block, by, 2)]), self.lines([shifted(block, 2 * by)]))
+
+    def test_entered_in_cab_of_one(self):
+        """What one receiver's CAB has and the other's lacks stands in the difference."""
+        one, two = ((SHARED / (receiver + '.blk')).read_bytes() for receiver in ('one', 'two'))
+        rows = self.viewed(self.lines([shifted(one, 300, 1)]), self.lines([shifted(two, 300)]))
+        self.assertEqual(rows[0][3], 121)
+
+    def test_rounded_second_by_second(self):
+        """A cable of 100.5 ps before the receiver rounds: 100 or 101 in each measurement, and a difference moves by two."""
+        given = (SHARED / 'one.blk').read_bytes()
+        constant = 130326604327
+        # a tenth of a ps above or below each whole one decides how the receiver rounds
+        for_more = [1 if w > 0 else -1 for w in WEIGHTS]
+        for_less = [-sign for sign in for_more]
+        # REFSYS 0 of S = 196, and 1 of S = 200; the 1 in some seconds brings a smoothed value near its tie
+        one = [constant + 49 + (i in (6, 7, 9)) for i in range(15)]
+        two = [constant + 49 + (i in (5, 6, 7, 8)) for i in range(15)]
+        rows = {}
+        for cable in (0, 1005):
+            files = []
+            for whole, signs in ((one, for_more), (two, for_less)):
+                heard = [(10 * value + sign + cable + 5) // 10 for value, sign in zip(whole, signs)]
+                self.assertLessEqual({new - old for new, old in zip(heard, whole)}, {0} if cable == 0 else {100, 101})
+                files.append(self.lines([given[:58] + struct.pack('<60q', *4 * heard) + given[58 + 480:]]))
+            rows[cable] = [int(line[53:64]) for line in files], self.viewed(*files)[0][3]
+        self.assertEqual(rows, {0: ([0, 1], -1), 1005: ([2, 1], 1)})
+
+    def test_an_offset_of_ones_own(self):
+        """The document's commands, and that one file with both lines is refused."""
+        runs = re.findall(r'(?m)^    \$ (.* mine\..*)$', PAPER.read_text())
+        self.assertEqual(len(runs), 2)
+        text = (SHARED / 'one.txt').read_text()
+        self.kept('mine.txt', re.sub(r'(?m)^    (\d+) x', lambda row: '    %d x' % (int(row[1]) + 50), text).encode())
+        for words in runs:
+            program, *words = words.split()
+            tool = {'hireblock': ROOT / 'tools' / 'hireblock', 'cggtts': PROGRAM}[program]
+            subprocess.run([tool, *words], cwd=self.folder, check=True)
+        self.assertEqual((self.folder / 'mine.cggtts').read_bytes(), LINES['one-plus-50'])
+        both, two = self.kept('both', LINES['one'] + LINES['two']), self.kept('two', LINES['two'])
+        status, output, errors = run('view', both, two)
+        self.assertEqual((status, output), (1, b''))
+        self.assertIn('refused 16: ' + MEANINGS[16], errors)
 
     def test_refused_after_a_shift(self):
         """2 for a measurement beyond its limit, 3 for a midpoint of eleven digits."""
