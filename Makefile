@@ -33,8 +33,6 @@ STRICT := -std=c11 -Wall -Wextra -Werror -pedantic
 export CARGO_TARGET_DIR := $(CURDIR)/target/cargo
 export LINE_ARCHIVE := $(CURDIR)/$(ARCHIVE)
 CARGO := cargo --offline
-# How many crates or must-fail edits rt takes at once: with three, bench is proved beside the reader, and on two cores none waits for long.
-export RT_JOBS ?= 3
 INSTALLED := $(DESTDIR)$(abspath $(PREFIX))
 # What the archive is made of: every crate but the programs.
 SOURCES := crates.txt $(shell find crates -name must-fail -prune -o -path crates/trackline -prune -o -path crates/bench -prune -o -type f -print)
@@ -83,9 +81,9 @@ test: beside proofs
 proofs:
 	rt ci
 
-# What the tests are of is proved at once, and not crate by crate for the archive and the programs.
+# What the tests are of is proved at once, and not for the archive and then for the programs; three crates at a time, as bench takes longest.
 side-by-side:
-	rt check boundary trackline bench
+	RT_JOBS=3 rt check boundary trackline bench
 
 beside: side-by-side archive programs cggtts
 	rt fmt --check
