@@ -33,8 +33,6 @@ STRICT := -std=c11 -Wall -Wextra -Werror -pedantic
 export CARGO_TARGET_DIR := $(CURDIR)/target/cargo
 export LINE_ARCHIVE := $(CURDIR)/$(ARCHIVE)
 CARGO := cargo --offline
-# How many crates or must-fail edits rt takes at once: with three, bench is proved beside the reader, and on two cores none waits for long.
-export RT_JOBS ?= 3
 INSTALLED := $(DESTDIR)$(abspath $(PREFIX))
 # What the archive is made of: every crate but the programs.
 SOURCES := crates.txt $(shell find crates -name must-fail -prune -o -path crates/trackline -prune -o -path crates/bench -prune -o -type f -print)
@@ -45,12 +43,14 @@ PROGRAM_SOURCES := $(shell find crates -name must-fail -prune -o -path 'crates/t
 # What install puts below the prefix, and uninstall removes.
 PROGRAMS := $(PROGRAM) $(CGGTTS) tools/hireblock
 PAGES := $(wildcard man/*.[1-8])
-DOCUMENTS := docs/REFUSALS.md docs/HIRE-BLOCK.md docs/COMMON-VIEW.md docs/common-view.svg
+DOCUMENTS := docs/REFUSALS.md docs/HIRE-BLOCK.md docs/COMMON-VIEW.md docs/common-view.svg docs/SHARED-OFFSET.md
 EXAMPLES := examples/receiver.c examples/sample.txt examples/sample.blk examples/short.txt examples/short.blk examples/first.cggtts examples/second.cggtts examples/week.cggtts examples/roof-a.cggtts examples/roof-b.cggtts
+TWO_TRACKS := $(wildcard examples/shared/*)
 INSTALLS := $(addprefix bin/,$(notdir $(PROGRAMS))) include/trackline.h lib/libtrackline.a lib/$(SONAME) \
 	lib/libtrackline.so lib/pkgconfig/trackline.pc \
 	$(foreach page,$(PAGES),share/man/man$(subst .,,$(suffix $(page)))/$(notdir $(page))) \
-	$(addprefix share/doc/trackline/,$(notdir $(DOCUMENTS))) $(addprefix share/trackline/examples/,$(notdir $(EXAMPLES)))
+	$(addprefix share/doc/trackline/,$(notdir $(DOCUMENTS))) $(addprefix share/trackline/examples/,$(notdir $(EXAMPLES))) \
+	$(addprefix share/trackline/examples/shared/,$(notdir $(TWO_TRACKS)))
 
 .PHONY: help run test beside proofs bench speed instructions fuzz program programs cggtts archive shared install uninstall clean
 # rt ci clears target/, where everything else is built.
@@ -81,9 +81,9 @@ test: beside proofs
 proofs:
 	rt ci
 
-# What the tests are of is proved at once, and not crate by crate for the archive and the programs.
+# What the tests are of is proved at once, and not for the archive and then for the programs; three crates at a time, as bench takes longest.
 side-by-side:
-	rt check boundary trackline bench
+	RT_JOBS=3 rt check boundary trackline bench
 
 beside: side-by-side archive programs cggtts
 	rt fmt --check
@@ -111,6 +111,7 @@ beside: side-by-side archive programs cggtts
 	python3 tests/cggtts/test_cggtts.py
 	python3 tests/cggtts/test_merge.py
 	python3 tests/cggtts/test_view.py
+	python3 tests/cggtts/test_offset.py
 	tools/hireblock pack examples/sample.txt | cmp - examples/sample.blk
 	tools/worked | cmp - examples/worked.txt
 	tools/hireblock pack examples/worked.txt | cmp - examples/worked.blk
@@ -123,6 +124,8 @@ beside: side-by-side archive programs cggtts
 	tools/roof b | cmp - examples/roof-b.cggtts
 	tools/roof program $(CGGTTS)
 	tools/roof check docs/COMMON-VIEW.md
+	rm -rf target/two-tracks && tools/offset write target/two-tracks && diff -r target/two-tracks examples/shared
+	tools/offset check docs/SHARED-OFFSET.md
 	tools/lastdigit --check docs/LAST-DIGIT.md
 	tools/lastdigit --program target/bin/trackline
 	tools/lastdigit examples/short.blk --program target/bin/trackline
@@ -180,6 +183,7 @@ install: one-prefix $(PROGRAM) $(ARCHIVE) $(SHARED) $(CGGTTS)
 	for page in $(PAGES); do install -m 644 $$page "$(INSTALLED)/share/man/man$${page##*.}" || exit 1; done
 	install -m 644 $(DOCUMENTS) "$(INSTALLED)/share/doc/trackline"
 	install -m 644 $(EXAMPLES) "$(INSTALLED)/share/trackline/examples"
+	install -m 644 $(TWO_TRACKS) "$(INSTALLED)/share/trackline/examples/shared"
 
 uninstall: one-prefix
 	test ! -d "$(INSTALLED)" || { cd "$(INSTALLED)" && rm -f $(INSTALLS); }

@@ -35,6 +35,10 @@ CGGTTS=$prefix/bin/cggtts python3 tests/cggtts/test_view.py >"$scratch/log" 2>&1
     cat "$scratch/log" >&2
     fail 'the installed cggtts view'
 }
+CGGTTS=$prefix/bin/cggtts python3 tests/cggtts/test_offset.py >"$scratch/log" 2>&1 || {
+    cat "$scratch/log" >&2
+    fail 'the installed cggtts on shared offsets'
+}
 
 # the README's merge, as it is written, among the installed examples
 sed -n 's/^    \$ \(cggtts merge\|cmp\) /\1 /p' README.md >"$scratch/commands"
@@ -56,6 +60,17 @@ cmp examples/week.cggtts "$prefix/share/trackline/examples/week.cggtts"
     cmp common-view.svg "$prefix/share/doc/trackline/common-view.svg"
     rm common-view.svg
 ) || fail "the run in COMMON-VIEW.md"
+(
+    cd "$prefix/share/trackline/examples/shared"
+    sed -n 's/^    \$ \(cggtts .*\)/\1/p' "$prefix/share/doc/trackline/SHARED-OFFSET.md" >"$scratch/commands"
+    [ "$(wc -l <"$scratch/commands")" -eq 4 ]
+    PATH=$prefix/bin:$PATH bash -eu "$scratch/commands" | tr -d '\r' >"$scratch/report"
+    sed -n 's/^    \([^$].*\)/\1/p' "$prefix/share/doc/trackline/SHARED-OFFSET.md" | cmp - "$scratch/report"
+    for track in one two one-plus-50 two-plus-50 one-plus-300 two-plus-300; do
+        "$prefix/bin/hireblock" pack $track.txt | cmp - $track.blk
+        "$prefix/bin/cggtts" line $track.blk | cmp - $track.cggtts
+    done
+) || fail "the runs in SHARED-OFFSET.md"
 cmp docs/REFUSALS.md "$prefix/share/doc/trackline/REFUSALS.md"
 cmp docs/HIRE-BLOCK.md "$prefix/share/doc/trackline/HIRE-BLOCK.md"
 

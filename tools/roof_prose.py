@@ -11,6 +11,8 @@ from fractions import Fraction
 # the last rounding of a REFSYS, and what is promised of it, in 0.1 ns
 ROUNDING, PROMISE = Fraction(1, 2), Fraction(51, 100)
 UNITS = ('0.1 ns',)
+# what makes a phrase behind it a part of another figure
+PARTS = tuple('0123456789.')
 # how long a signal takes in cable, in ns a metre
 CABLE = Fraction(505, 100)
 
@@ -21,7 +23,8 @@ def check(document, wanted):
     covered = [found.span() for found in re.finditer(r'`[^`]*`', prose)]
     faults = []
     for phrase in (*wanted, *UNITS):
-        spans = [found.span() for found in re.finditer(r'(?<![\d.])' + re.escape(phrase) + r'(?![\d/])', prose)]
+        spans = [found.span() for found in re.finditer(re.escape(phrase) + r'(?![\d/])', prose)
+                 if prose[found.start() - 1:found.start()] not in PARTS]
         covered += spans
         if not spans:
             faults.append('not in the prose: %s' % phrase)
@@ -129,4 +132,5 @@ def exactness(tool, report, files):
 def limits():
     yield 'below refusal 18'
     yield 'is answered 18'
+    yield 'two tracks on which 50 ps change a last digit'
     yield 'A file may have up to %d lines. A longer one is refused with 19' % 10000

@@ -4,9 +4,10 @@
     python3 tests/boundary/mutants.py [WORD..]     all, or those whose name has one of the words
 
 For each mutant the plain Rust implementation is copied, made wrong in one way, built as an archive with the C
-functions, and put in the place of the proved one. The boundary test must then fail. The first archive is made without
-an edit, and must pass. Everything is built in a folder of its own. It takes about forty minutes and is no part of
-`make test`.
+functions, and put in the place of the proved one. The boundary test must then fail. A twin is wrong in the same way in
+the implementation that the archive is compared with: there what the test itself knows of the answers must notice it.
+Before them an archive is made without an edit, and must pass. Everything is built in a folder of its own. It takes about
+forty minutes and is no part of `make test`.
 """
 import os
 import pathlib
@@ -542,6 +543,19 @@ MUTANTS = [
     ('a value before the lent report', 'EXPORTS', '    reference::view_values(',
      '    if report_len == 5 { *report.sub(1) = 7; }\n    reference::view_values('),
 ]
+# the same, put into both
+TWINS = [
+    # a shared offset does not drop out
+    ('weights that add up to 1106, twice', 'fit.rs', '162, 167, 162', '162, 168, 162'),
+    ('smoothed value cut, twice', 'fit.rs', SMOOTHED, 'Ok(sum / 1105)'),
+    ('midpoint cut, twice', 'fit.rs', MIDPOINT, '(s + 50 * n) / (100 * n)'),
+    ('midpoint ties away, twice', 'fit.rs', MIDPOINT, 'nearest(s.abs(), 100 * n) * s.signum()'),
+    ('midpoint over 101 n, twice', 'fit.rs', MIDPOINT, 'nearest(s, 101 * n)'),
+    ('weights of an even number, twice', 'fit.rs', PLACE, '2 * j as i64 - (n / 2 * 2 - 1)'),
+    ('residuals halved below 0, twice', 'fit.rs', SQUARE,
+     'let residual = if *v < 0 { residual / 2 } else { residual };\n        ' + SQUARE),
+    ('REFSYS of the first for the difference, twice', 'view.rs', DIFFERENCE, 'differences.push(refsys); let _ = other_refsys;'),
+]
 
 
 def edited(text, old, new):
@@ -571,38 +585,42 @@ def prepare(folder):
     shutil.copyfile(REFERENCE / 'Cargo.toml', folder / 'mutant' / 'reference' / 'Cargo.toml')
     # the implementation reads the published lines from beside it, and its tests are not built
     shutil.copytree(HERE.parent / 'published', folder / 'mutant' / 'published')
+    # the test beside a wrong implementation, for twins
+    shutil.copytree(HERE, folder / 'mutant' / 'boundary', copy_function=shutil.copyfile)
 
 
-def cargo(folder, *arguments):
-    environment = dict(os.environ, CARGO_TARGET_DIR=str(folder / 'target'), RUSTFLAGS='-Awarnings',
+def cargo(folder, package, target):
+    environment = dict(os.environ, CARGO_TARGET_DIR=str(target), RUSTFLAGS='-Awarnings',
                        LINE_ARCHIVE=str(folder / 'target' / 'release' / 'libline.a'))
-    result = subprocess.run(['cargo', 'build', '--release', '--offline', '--quiet', *arguments],
-                            env=environment, capture_output=True, text=True)
+    result = subprocess.run(['cargo', 'build', '--release', '--offline', '--quiet', '--manifest-path',
+                             str(package / 'Cargo.toml')], env=environment, capture_output=True, text=True)
     if result.returncode:
         raise SystemExit('mutants: no build\n' + result.stderr)
 
 
-def passes(folder, edits):
+def passes(folder, edits, twin):
     """Whether the boundary test passes with this mutant."""
     write_mutant(folder, edits)
-    cargo(folder, '--manifest-path', str(folder / 'line' / 'Cargo.toml'))
-    cargo(folder, '--manifest-path', str(HERE / 'Cargo.toml'))
-    test = subprocess.run([str(folder / 'target' / 'release' / 'boundary')], capture_output=True)
+    cargo(folder, folder / 'line', folder / 'target')
+    package, target = (folder / 'mutant' / 'boundary', folder / 'twins') if twin else (HERE, folder / 'target')
+    cargo(folder, package, target)
+    test = subprocess.run([str(target / 'release' / 'boundary')], capture_output=True)
     return test.returncode == 0
 
 
 def main(words):
-    chosen = [m for m in MUTANTS if not words or any(word in m[0] for word in words)]
+    chosen = [m for m in MUTANTS + TWINS if not words or any(word in m[0] for word in words)]
     with tempfile.TemporaryDirectory() as name:
         folder = pathlib.Path(name)
         prepare(folder)
-        if not passes(folder, ()):
-            raise SystemExit('mutants: the test fails on the implementation itself')
+        for twin in {mutant in TWINS for mutant in chosen}:
+            if not passes(folder, (), twin):
+                raise SystemExit('mutants: the test fails on the implementation itself')
         missed = []
-        for label, *edits in chosen:
-            noticed = not passes(folder, edits)
-            print('%-8s %s' % ('noticed' if noticed else 'MISSED', label), flush=True)
-            missed += [] if noticed else [label]
+        for mutant in chosen:
+            noticed = not passes(folder, mutant[1:], mutant in TWINS)
+            print('%-8s %s' % ('noticed' if noticed else 'MISSED', mutant[0]), flush=True)
+            missed += [] if noticed else [mutant[0]]
     print('mutants: %d of %d noticed' % (len(chosen) - len(missed), len(chosen)))
     return 1 if missed else 0
 

@@ -129,6 +129,11 @@ impl Compare {
         eprintln!("DIFFERENT in {family}: {case:?}");
         eprintln!("  answer: should be {wanted}, was {got}");
         difference.iter().for_each(|text| eprintln!("{text}"));
+        self.shown();
+    }
+
+    /// Counts what was shown, and stops where it is enough.
+    fn shown(&mut self) {
         self.differences += 1;
         if self.differences >= SHOWN {
             eprintln!("stopped after {SHOWN} differences");
@@ -196,6 +201,14 @@ impl Compare {
         *self.answers.entry(("start", wanted)).or_default() += 1;
         if wanted != got {
             self.show("starts", &(mjd, second), wanted, got, None);
+        }
+    }
+
+    /// What holds of the archive's answers, whatever the plain Rust implementation gives.
+    pub fn expect(&mut self, holds: bool, what: impl FnOnce() -> String) {
+        if !holds {
+            eprintln!("WRONG: {}", what());
+            self.shown();
         }
     }
 

@@ -59,10 +59,16 @@ fn edge_sums(values: &[i64], ends: (&[i64], &[i64]), seeded: &mut Seeded) -> (i6
     (unit * midpoint - unit / 2 + seeded.range(-1, 1), half_way + seeded.range(-1, 2))
 }
 
-/// All eight fitted numbers within a picosecond of the next one.
 fn on_edges(compare: &mut Compare, seeded: &mut Seeded) {
-    let mut case = good(seeded);
+    let case = good(seeded);
     let far = seeded.below(16) == 0;
+    let case = edged(case, far, seeded);
+    let lent = any_lent(seeded);
+    compare.block("blocks on the edge of a midpoint or a slope", Some(&case.bytes()), lent);
+}
+
+/// The case with all eight fitted numbers within a picosecond of the next one, and REFSV, where asked for, near its limit.
+pub fn edged(mut case: Case, far: bool, seeded: &mut Seeded) -> Case {
     for column in [TROPOSPHERE, IONOSPHERE] {
         let ends: (&[i64], &[i64]) = (&[0, 1, 9999, 10_000], &[0, 999, 998, -999, -1000]);
         let (s, t) = edge_sums(&case.columns[column], ends, seeded);
@@ -83,8 +89,7 @@ fn on_edges(compare: &mut Compare, seeded: &mut Seeded) {
     let (s, t) = edge_sums(&values, ends, seeded);
     let add = steer(&values, s, t, seeded);
     case.columns[CLOCK].iter_mut().zip(add).for_each(|(v, a)| *v += a);
-    let lent = any_lent(seeded);
-    compare.block("blocks on the edge of a midpoint or a slope", Some(&case.bytes()), lent);
+    case
 }
 
 /// A wave of n values times so much, its parts in any order and each with a sign of its own.

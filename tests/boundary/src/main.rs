@@ -1,5 +1,5 @@
 //! Compares the archive's C functions with the plain Rust implementation on seeded blocks, lines, readings, starts
-//! and pairs of line files.
+//! and pairs of line files, and tries that what is added to all measurements alike drops out.
 //!
 //!     boundary [SEED [SCALE]]
 //!
@@ -17,6 +17,7 @@ mod library;
 mod lines;
 mod merge_faults;
 mod merges;
+mod offsets;
 mod reading_faults;
 mod readings;
 mod starts;
@@ -41,12 +42,14 @@ fn main() -> ExitCode {
     readings::run(&mut compare, &mut Seeded::new(seed + 4), scale);
     let merged = merges::run(&mut compare, &mut Seeded::new(seed + 6), scale);
     let viewed = views::run(&mut compare, &mut Seeded::new(seed + 7), scale);
+    let shifted = offsets::run(&mut compare, &mut Seeded::new(seed + 8), scale);
     // what takes longest comes last
     starts::run(&mut compare, &mut Seeded::new(seed + 3), scale);
     readings::dates(&mut compare, &mut Seeded::new(seed + 5));
     let mut missing = report(&compare);
     missing.extend(merges::report(&compare, &merged));
     missing.extend(views::report(&compare, &viewed));
+    missing.extend(offsets::report(&shifted));
     missing.iter().for_each(|what| eprintln!("MISSING: {what}"));
     if compare.agreed() && missing.is_empty() {
         println!("boundary: no difference");

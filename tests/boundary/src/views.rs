@@ -66,7 +66,7 @@ fn faulty(compare: &mut Compare, seeded: &mut Seeded, with_long: bool, far: &[u8
 }
 
 /// What is reported of these differences.
-fn report_of(differences: &[i64]) -> Report {
+pub fn report_of(differences: &[i64]) -> Report {
     let (Some(smallest), Some(largest)) = (differences.iter().min(), differences.iter().max()) else {
         return Err(18);
     };

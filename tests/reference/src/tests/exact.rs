@@ -128,7 +128,7 @@ fn largest(n: usize, sign: i64) -> Given {
 }
 
 /// A track of n blocks; the fewer they are, the more noise shows in a slope, and so there is less of it.
-fn seeded_track(n: usize, seeded: &mut Seeded) -> Given {
+pub fn seeded_track(n: usize, seeded: &mut Seeded) -> Given {
     let mut given = Given::of(n, 0);
     let noise_of = |most: i64| (most as f64 * (span(n) as f64 / span(52) as f64).sqrt()) as i64;
     let (level, slope) = (seeded.spread(100_000_000_000), seeded.spread(9_000));

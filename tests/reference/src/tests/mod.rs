@@ -4,6 +4,7 @@ mod merging;
 mod numbers;
 mod published;
 mod reading;
+mod shifting;
 mod short;
 mod text;
 mod viewing;

@@ -1,0 +1,4 @@
+pub mod Series
+pub mod Tracks
+pub mod Blocks
+pub mod Files

@@ -1,0 +1,113 @@
+-- A shared offset drops out (document 02, Job 7): the theorems of specs/Shifted.antt's definitions, for a track of any number of blocks.
+-- Assumes nothing.
+use mathlib.Core.Path.{_≡_, refl, sym, ap, ap₂, _∙_, subst₂}
+use mathlib.Core.Bool.{false}
+use mathlib.Core.List.{List, [], _∷_}
+use Prim.Native.Nat.{ℕ, zero, suc, _+_, _*_, _≤_, _<_}
+use native.Mathlib.Nat.{not-suc-le-zero, le-of-suc-le-suc}
+use native.Mathlib.Omega.{arith}
+use lib.IntN.{ℤ, pos, _+ℤ_, _-ℤ_, _*ℤ_}
+use lib.ListN.{length}
+use Rattle.whole.specs.Identity.{identity, quote}
+use Rattle.limits.specs.Refusal.{_when_, _then_}
+use Rattle.limits.proofs.Laws.{then-zero, when-zero}
+use Rattle.exact.specs.Corrected.{Given, at, block, toA, toB}
+use Rattle.series.specs.Scatter.{dsg}
+use Rattle.fit.specs.declared.TrackRecord.{TrackRecord}
+use Rattle.fit.specs.Track.{blocks, smoothedAt, valueA, valueB, valueC, valueD, places, numbersWith, recordOf, results, wrongSizes, trackNumber, trackRule}
+use Rattle.fit.proofs.Arrays.{places-at}
+use Rattle.fit.proofs.Tracks.{sized}
+use Rattle.line.proofs.Blocks.{track-number, track-record}
+use Rattle.offset.specs.Shifted.{raised, unit, shifted, Moved}
+use Rattle.offset.proofs.Series.{smoothed-moves, midpoint-moves, slope-stays, squares-stay}
+
+-- ---- lists
+
+at-raised : (c : ℤ) (l : List ℤ) (i : ℕ) → i < length l → at (raised c l) i ≡ at l i +ℤ c
+unfolding raised
+at-raised c [] i h = absurd (not-suc-le-zero h)
+at-raised c (z ∷ l) zero h = refl
+at-raised c (z ∷ l) (suc i) h = at-raised c l i (le-of-suc-le-suc h)
+
+-- ---- the corrected values
+
+module _ (k : ℤ) (g : Given) (sized : length (g .measurements) ≡ 15 * blocks g) where
+  seconds-move : (j i : ℕ) → j < blocks g → i < 15 → block (shifted k g) j i ≡ block g j i +ℤ unit *ℤ k
+  unfolding block shifted
+  seconds-move j i h p = at-raised (unit *ℤ k) (g .measurements) (15 * j + i) (omega (arith, sized))
+
+  a-moves : (j : ℕ) → j < blocks g → valueA (shifted k g) j ≡ valueA g j +ℤ unit *ℤ k
+  unfolding valueA smoothedAt toA shifted
+  a-moves j h =
+      ap (λ (y : ℤ). toA g (pos 1) j y) (smoothed-moves (unit *ℤ k) (block g j) (block (shifted k g) j) (λ i p. seconds-move j i h p))
+      ∙ last (smoothedAt g j) (unit *ℤ k) (pos 1 *ℤ (g .int +ℤ g .cab -ℤ g .refdly)) (pos 1 *ℤ at (g .geometry) j)
+      (pos 1 *ℤ at (g .relativity) j) (pos 1 *ℤ at (g .ionosphere) j) (pos 1 *ℤ at (g .troposphere) j) (pos 1 *ℤ g .gd)
+    where
+      last : (y c u v w x z t : ℤ) → y +ℤ c -ℤ u -ℤ v +ℤ w -ℤ x -ℤ z -ℤ t ≡ y -ℤ u -ℤ v +ℤ w -ℤ x -ℤ z -ℤ t +ℤ c
+      last y c u v w x z t = identity (y ∷ c ∷ u ∷ v ∷ w ∷ x ∷ z ∷ t ∷ []) (search quote depth 20 fits 4000) tt
+
+  b-moves : (j : ℕ) → j < blocks g → valueB (shifted k g) j ≡ valueB g j +ℤ unit *ℤ k
+  unfolding valueA valueB toB shifted
+  b-moves j h = ap (λ (y : ℤ). y +ℤ pos 1 *ℤ at (g .clock) j) (a-moves j h) ∙ last (valueA g j) (unit *ℤ k) (pos 1 *ℤ at (g .clock) j)
+    where
+      last : (y c u : ℤ) → y +ℤ c +ℤ u ≡ y +ℤ u +ℤ c
+      last y c u = identity (y ∷ c ∷ u ∷ []) (search quote depth 20) tt
+
+  -- at the places in use, too
+  moved-places : (before after : ℕ → ℤ) → ((j : ℕ) → j < blocks g → after j ≡ before j +ℤ unit *ℤ k)
+      → (j : ℕ) → j < blocks g → at (places (blocks g) after) j ≡ at (places (blocks g) before) j +ℤ unit *ℤ k
+  moved-places before after e j h =
+      places-at (blocks g) after j h ∙ e j h ∙ ap (λ (z : ℤ). z +ℤ unit *ℤ k) (sym (places-at (blocks g) before j h))
+
+  -- the ten numbers
+  numbers-move : 1 ≤ blocks g → Moved k (results g .numbers) (results (shifted k g) .numbers)
+  unfolding results recordOf numbersWith shifted valueC valueD
+  numbers-move h =
+      let n = blocks g in
+      let a = moved-places (valueA g) (valueA (shifted k g)) a-moves in
+      let b = moved-places (valueB g) (valueB (shifted k g)) b-moves in
+      record {
+        refsv = midpoint-moves n h k _ _ a;
+        srsv = slope-stays n h (unit *ℤ k) _ _ a;
+        refsys = midpoint-moves n h k _ _ b;
+        srsys = slope-stays n h (unit *ℤ k) _ _ b;
+        mdtr = refl;
+        smdt = refl;
+        mdio = refl;
+        smdi = refl;
+        dsg = ap (λ (q : ℤ). pos (dsg 1 n q)) (squares-stay n h (unit *ℤ k) _ _ b);
+        trkl = refl;
+      }
+
+-- ---- the theorems
+
+sizes-right : (g : Given) → trackNumber g ≡ 0 → wrongSizes g ≡ false
+unfolding trackNumber
+sizes-right g e = when-zero 0 (wrongSizes g) (then-zero (1 when wrongSizes g) _ e .0)
+
+-- what acceptance before the shift is enough for
+pub results-move : (k : ℤ) (g : Given) → trackNumber g ≡ 0 → Moved k (results g .numbers) (results (shifted k g) .numbers)
+results-move k g e =
+    let s = sized g (sizes-right g e) in numbers-move k g (s .size-measurements) (omega (arith, s .size-blocks .0))
+
+-- One track: k × 100 ps more in every measurement, accepted before and after. REFSV and REFSYS move by k, nothing else does.
+pub offset-moves : (k : ℤ) (g : Given) → trackRule g .refusal ≡ 0 → trackRule (shifted k g) .refusal ≡ 0
+    → Moved k (trackRule g .«record» .numbers) (trackRule (shifted k g) .«record» .numbers)
+unfolding trackRule
+offset-moves k g before after =
+    subst₂ (λ (t u : TrackRecord). Moved k (t .numbers) (u .numbers)) (sym (track-record g _ refl before))
+    (sym (track-record (shifted k g) _ refl after)) (results-move k g (sym (track-number g _ refl) ∙ before))
+
+pub drops : (x y k : ℤ) → x +ℤ k -ℤ (y +ℤ k) ≡ x -ℤ y
+drops x y k = identity (x ∷ y ∷ k ∷ []) (search quote depth 20) tt
+
+-- Two tracks shifted alike: the difference of their REFSYS stays.
+pub difference-stays : (k : ℤ) (g h : Given)
+    → trackRule g .refusal ≡ 0 → trackRule (shifted k g) .refusal ≡ 0 → trackRule h .refusal ≡ 0 → trackRule (shifted k h) .refusal ≡ 0
+    → trackRule (shifted k g) .«record» .numbers .refsys -ℤ trackRule (shifted k h) .«record» .numbers .refsys
+    ≡ trackRule g .«record» .numbers .refsys -ℤ trackRule h .«record» .numbers .refsys
+difference-stays k g h g-before g-after h-before h-after =
+    let p = offset-moves k g g-before g-after in
+    let q = offset-moves k h h-before h-after in
+    ap₂ (λ (x y : ℤ). x -ℤ y) (p .refsys) (q .refsys)
+    ∙ drops (trackRule g .«record» .numbers .refsys) (trackRule h .«record» .numbers .refsys) k

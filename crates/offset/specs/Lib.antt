@@ -1,0 +1,2 @@
+-- What must be believed: what a shifted track is, and how its numbers move.
+pub mod Shifted
