@@ -2,14 +2,15 @@
 # make run           prove and build trackline and run it on a hire block: make run BLOCK=examples/sample.blk
 # make test          every test, and last the proofs (rt ci): the last line is 'N passed, 0 failed'
 # make beside        the tests without the proofs from nothing
-# make proofs        the proofs from nothing (rt ci)
+# make proofs        the proofs from nothing (rt ci); PROVER_TMP=folder, here and for all that is proved, for the prover's files
 # make bench         the technician's cases and the published lines: what each gave and what it should be
 # make speed         the proved library beside the plain Rust implementation, on the same blocks and lines
 # make instructions  the instructions of both, part by part, with valgrind
+# make turns         a full block in another build of the library and in this one, in turns: make turns OTHER=folder/libtrackline.so.1
 # make fuzz          a bounded fuzz run over the C boundary, with clang: make fuzz SECONDS=120
 # make program       trackline, proved: target/bin/trackline
 # make programs      trackline and bench, proved: target/bin
-# make cggtts        lines of hire blocks, and what a refused one is refused for: target/cggtts/cggtts
+# make cggtts        the program for hire blocks, lines and line files: target/cggtts/cggtts
 # make archive       the static library, proved: target/staticlib/libboundary.a
 # make shared        the shared library: target/libtrackline.so.1
 # make install       the programs, the libraries, the header, the manual pages: make install PREFIX=/usr/local DESTDIR=
@@ -33,6 +34,9 @@ STRICT := -std=c11 -Wall -Wextra -Werror -pedantic
 export CARGO_TARGET_DIR := $(CURDIR)/target/cargo
 export LINE_ARCHIVE := $(CURDIR)/$(ARCHIVE)
 CARGO := cargo --offline
+# The folder of the prover's small files, in memory where they can be there: a disk takes longer to make and remove them than a small crate takes to prove.
+PROVER_TMP ?= $(shell tests/memory.sh)
+RT = $(if $(PROVER_TMP),TMPDIR="$$(cd "$(PROVER_TMP)" && pwd)" )rt
 INSTALLED := $(DESTDIR)$(abspath $(PREFIX))
 # What the archive is made of: every crate but the programs.
 SOURCES := crates.txt $(shell find crates -name must-fail -prune -o -path crates/trackline -prune -o -path crates/bench -prune -o -type f -print)
@@ -52,10 +56,12 @@ INSTALLS := $(addprefix bin/,$(notdir $(PROGRAMS))) include/trackline.h lib/libt
 	$(addprefix share/doc/trackline/,$(notdir $(DOCUMENTS))) $(addprefix share/trackline/examples/,$(notdir $(EXAMPLES))) \
 	$(addprefix share/trackline/examples/shared/,$(notdir $(TWO_TRACKS)))
 
-.PHONY: help run test beside proofs bench speed instructions fuzz program programs cggtts archive shared install uninstall clean
-# rt ci clears target/, where everything else is built.
+.PHONY: help run test beside proofs bench speed instructions turns fuzz program programs cggtts archive shared install uninstall clean
+# rt ci clears target/, where everything else is built. Only the two rows of tests are run at once.
+ifndef ROWS
 .NOTPARALLEL:
-.PHONY: one-prefix side-by-side
+endif
+.PHONY: one-prefix side-by-side compared described
 
 help:
 	@sed -n 's/^# make /make /p' Makefile
@@ -68,31 +74,30 @@ run:
 
 program: $(PROGRAM)
 
-# rt leaves a program that is up to date as it was, so its time is set here.
+# rt leaves a program that is up to date as it was, so its time is set here; it links none that is missing while its stamp is there.
 $(PROGRAM): $(SOURCES) $(PROGRAM_SOURCES)
 	@mkdir -p target
 	@echo "proving and building trackline; from nothing this takes a minute or two (target/trackline.log)"
-	@rt check trackline > target/trackline.log 2>&1 || { cat target/trackline.log >&2; exit 1; }
-	@touch $@
+	@test -s $@ || rm -f target/stamp/trackline
+	@$(RT) check trackline > target/trackline.log 2>&1 || { cat target/trackline.log >&2; rm -f $@ target/stamp/trackline; exit 1; }
+	@touch -c $@ && test -s $@
 
 # What the proofs do not cover comes first, so that the proofs' own line is the last.
 test: beside proofs
 
 proofs:
-	rt ci
+	$(RT) ci
 
 # What the tests are of is proved at once, and not for the archive and then for the programs; three crates at a time, as bench takes longest.
 side-by-side:
-	RT_JOBS=3 rt check boundary trackline bench
+	RT_JOBS=3 $(RT) check boundary trackline bench
 
-beside: side-by-side archive programs cggtts
+beside: side-by-side archive programs cggtts shared
 	rt fmt --check
-	tests/make.sh
-	python3 tests/hireblock/test_hireblock.py
-	python3 tests/lastdigit/test_lastdigit.py
-	python3 tests/refusals/test_refusals.py
-	python3 tests/clauses/test_clauses.py
-	python3 tests/published/expected.py --check
+	$(MAKE) --no-print-directory -j2 --output-sync=target ROWS=2 compared described
+
+# What is compared with the independent implementation, and what C programs and cggtts do.
+compared:
 	$(CARGO) test --manifest-path tests/reference/Cargo.toml
 	$(CARGO) run --release --manifest-path tests/boundary/Cargo.toml
 	$(CC) $(CFLAGS) $(STRICT) -Iinclude tests/c/boundary_test.c $(ARCHIVE) -o target/boundary_test
@@ -112,6 +117,17 @@ beside: side-by-side archive programs cggtts
 	python3 tests/cggtts/test_merge.py
 	python3 tests/cggtts/test_view.py
 	python3 tests/cggtts/test_offset.py
+
+# What the tools, the examples and the documents say, and what is installed.
+described:
+	tests/make.sh
+	python3 tests/hireblock/test_hireblock.py
+	python3 tests/lastdigit/test_lastdigit.py
+	python3 tests/refusals/test_refusals.py
+	python3 tests/clauses/test_clauses.py
+	python3 tests/edits/test_edits.py
+	tools/edits
+	python3 tests/published/expected.py --check
 	tools/hireblock pack examples/sample.txt | cmp - examples/sample.blk
 	tools/worked | cmp - examples/worked.txt
 	tools/hireblock pack examples/worked.txt | cmp - examples/worked.blk
@@ -139,20 +155,20 @@ beside: side-by-side archive programs cggtts
 bench:
 	@mkdir -p target
 	@echo "proving and building bench first; from nothing this takes two to three minutes (target/bench.log)"
-	@rt check bench > target/bench.log 2>&1 || { cat target/bench.log >&2; exit 1; }
+	@$(RT) check bench > target/bench.log 2>&1 || { cat target/bench.log >&2; exit 1; }
 	@tests/bench.sh target/bin/bench "$(CASES)"
 
 # Both at once, as rt check proves them side by side.
 programs:
-	rt check trackline bench
+	$(RT) check trackline bench
 
 archive: $(ARCHIVE)
 
 # rt staticlib proves the crates below one at a time, rt check side by side.
 $(ARCHIVE): $(SOURCES)
-	rt check boundary
+	$(RT) check boundary
 	rm -rf $(@D)
-	rt staticlib boundary
+	$(RT) staticlib boundary
 
 shared: $(SHARED)
 
@@ -196,6 +212,12 @@ speed: archive
 
 instructions: archive
 	tests/speed/instructions.sh
+
+turns: shared
+	@test -n "$(OTHER)" || { echo "make turns: OTHER is not given: make turns OTHER=folder/libtrackline.so.1" >&2; exit 1; }
+	@test -r "$(OTHER)" || { echo "make turns: cannot read the other library '$(OTHER)'" >&2; exit 1; }
+	$(CC) $(CFLAGS) $(STRICT) tests/speed/turns.c -ldl -o target/turns
+	@target/turns examples/worked.blk "$$(realpath "$(OTHER)")" "$(CURDIR)/$(SHARED)"
 
 fuzz: archive
 	tests/fuzz/run.sh $(SECONDS)

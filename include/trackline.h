@@ -3,7 +3,8 @@
  * one file of lines from two, and the common view of two.
  *
  * Each function but trackline_comment answers 0 when it accepts and the number of its refusal otherwise. A slice is a
- * pointer and a length; NULL with length 0 is an empty slice. A function that accepts writes the first 113 bytes of the
+ * pointer and a length; NULL with length 0 is an empty slice. A length counts elements: bytes of a block, a line or a file, but
+ * numbers of lent values or of a lent report, which sizeof does not count. A function that accepts writes the first 113 bytes of the
  * lent line, with no byte of zero after them, the first 23 of the lent values, the first *written bytes of the lent file,
  * or the first 4 numbers of the lent report; one that refuses writes nothing. What is written to must not overlap
  * anything else of the call. Nothing is kept between calls, so that threads may call at once on lines of their own.

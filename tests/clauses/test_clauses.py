@@ -49,6 +49,11 @@ fn silent(a: u8) -> u8 {
 {
     0
 }
+fn lent<'a>(a: &'a [i64], b: &'a [i64]) -> u32
+    ensures { λ r. ⌜ T ⌝ }
+{
+    0
+}
 ''',
     'crates/fit/must-fail/first_block_n_times.edit': '# text\n',
     'crates/fit/must-fail/length_779.edit': '# text\n',
@@ -60,7 +65,7 @@ fn silent(a: u8) -> u8 {
 }
 GOOD = ['`def fit/Track trackRule`', '`def fit/Track Given`', '`def fit/Track clock`', '`def fit/Track tabulate`',
         '`def fit/Deep/Inside deep`', '`law fit/Laws sum-place²`', '`law fit/Laws inner`',
-        '`fn fit::track answer`', '`fn fit::track accurate`', '`fn fit::place`', '`fn fit::sums::place`',
+        '`fn fit::track answer`', '`fn fit::track accurate`', '`fn fit::place`', '`fn fit::sums::place`', '`fn fit::lent`',
         '`item fit::WEIGHTS` reader', '`code fit/lib.rt let Fitted::Line` reader',
         '`def fit/Track trackRule` `edit fit/length_779`', '`test reference within` test only',
         '`test c corrections` test only', '`bench fit all -51` test only', '`mutant ties away from zero` test only',

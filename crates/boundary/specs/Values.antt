@@ -10,7 +10,7 @@ use Rattle.limits.specs.Refusal.{_when_, _then_}
 use Rattle.labels.specs.declared.Labels.{Labels}
 use Rattle.limits.specs.declared.Numbers.{Numbers}
 use Rattle.columns.specs.Columns.{readLabels, readNumbers}
-use Rattle.reader.specs.Read.{readNumber}
+use Rattle.reading.specs.Read.{readNumber}
 use Rattle.viewing.specs.declared.Figures.{Figures}
 use Rattle.viewing.specs.View.{figures, viewed, viewNumber}
 

@@ -10,7 +10,7 @@ ghost use Rattle.line.specs.Line.{lineAnswer, lineAfter};
 ghost use Rattle.hire.specs.Hire.{blocksIn, blockGiven};
 ghost use Rattle.line.specs.Block.{blockAnswer, blockAfter};
 ghost use Rattle.labels.specs.Given.{labelsOf, numbersOf};
-ghost use Rattle.reader.specs.Read.{commentOffset};
+ghost use Rattle.reader.specs.Comment.{commentOffset};
 ghost use Rattle.merging.specs.Merge.{mergedFile, mergeNumber, mergeAfter};
 ghost use Rattle.boundary.specs.Values.{placeAfter, readAnswer, readAfter, viewAnswer, viewAfter};
 use files::Merged;

@@ -5,13 +5,12 @@ use mathlib.Core.List.{List, []}
 use Prim.Native.Nat.{ℕ, _<_}
 use lib.IntN.{ℤ}
 use Rattle.limits.specs.Reply.{Reply}
-use Rattle.limits.proofs.Replies.{reply-number, reply-values}
+use Rattle.limits.proofs.Replies.{reply-number, reply-values, part-refused, part-accepted}
 use Rattle.viewing.specs.declared.Figures.{Figures}
 use Rattle.viewing.specs.declared.Viewed.{Viewed}
 use Rattle.viewing.specs.View.{figures, viewed, viewNumber, viewRule, viewedOf}
 use Rattle.files.specs.declared.View.{View}
 use Rattle.files.specs.Answers.{viewReply, viewNumbered}
-use Rattle.files.proofs.Replies.{part-refused, part-accepted}
 
 module _ (first second : List ℕ) where
   module _ {made : Viewed} (e : made ≡ viewedOf (viewRule first second)) where

@@ -9,7 +9,6 @@ use lib.Dec.{lit<}
 use lib.IntN.{ℤ, pos, _+ℤ_, _-ℤ_, _*ℤ_}
 use Rattle.whole.specs.Square.{squared}
 use Rattle.whole.specs.Sum.{sum}
-use Rattle.whole.specs.Nearest.{nearest}
 use Rattle.whole.specs.Identity.{identity, quote}
 use Rattle.whole.specs.Order.{_⩽_, _⋖_, le-of-lt, zero-le-pos, pos-le-is}
 use Rattle.whole.specs.Ring.{one-*ℤ}
@@ -24,14 +23,15 @@ use Rattle.exact.specs.Scattering.{spread}
 use Rattle.series.specs.Smooth.{smoothed}
 use Rattle.series.specs.Fit.{total, moment, midpoint, slope}
 use Rattle.series.specs.Scatter.{residual, squares, threshold, dsg}
-use Rattle.fit.specs.Track.{blocks, places, smoothedAt, valueA, valueB, valueC, valueD, numbersWith, recordOf, results, wrongSizes, tracked, trackNumber, trackRule}
+use Rattle.correcting.specs.Correct.{blocks, places, smoothedAt, valueA, valueB, valueC, valueD, wrongSizes}
+use Rattle.fit.specs.Track.{numbersWith, recordOf, results, tracked, trackNumber, trackRule}
 use Rattle.fit.specs.declared.Tracked.{Tracked}
 use Rattle.limits.specs.Refusal.{_when_}
 use Rattle.limits.proofs.Laws.{then-zero, when-zero}
 use Rattle.series.proofs.Fitting.{span-some}
 use Rattle.series.proofs.Thresholds.{dsg-greatest}
-use Rattle.fit.proofs.Arrays.{places-at}
-use Rattle.fit.proofs.Tracks.{sized}
+use Rattle.correcting.proofs.Arrays.{places-at}
+use Rattle.correcting.proofs.Refusals.{sized}
 
 -- midpoint and slope are rounded to the nearest
 fit-rounded : (n : ℕ) → 2 ≤ n → (v : ℕ → ℤ) → RoundedFit n v (midpoint 1 n v) (slope 1 n v)

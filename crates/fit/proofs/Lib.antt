@@ -1,5 +1,3 @@
-pub mod Arrays
-pub mod Blocks
 pub mod Tracks
 pub mod Largest
 pub mod Accuracy

@@ -1,35 +1,34 @@
--- Laws of a track's answer (specs/Track.antt): what is known of corrected values that are inside their limit, and what a number with its
--- record comes to.
+-- Laws of a track's answer (specs/Track.antt): what is known of corrected values that are inside their limit, what a number with its
+-- record comes to, and how the answer follows from the corrected values.
 -- Assumes nothing.
 use mathlib.Core.Path.{_≡_, refl, sym, ap, _∙_}
-use mathlib.Core.Bool.{true, false, not, _||_}
+use mathlib.Core.Bool.{false, _||_}
 use mathlib.Core.List.{List}
 use Prim.Native.Nat.{ℕ, zero, suc, _*_, _^_, _≤_, _<_}
 use native.Mathlib.Nat.{not-suc-le-zero}
 use native.Mathlib.Omega.{arith}
-use lib.IntN.{ℤ, pos, natAbs, _+ℤ_, _-ℤ_}
+use lib.IntN.{ℤ}
 use lib.Signed.{mag}
 use mir.Syntax.{w64}
 use mir.Val.{toZ, ofZ}
 use lib.ListN.{length, take}
-use Rattle.whole.specs.Ring.{one-*ℤ}
 use Rattle.whole.specs.Words.{back-of}
 use Rattle.limits.specs.Refusal.{_when_, _then_}
-use Rattle.limits.specs.Limits.{beyond}
-use Rattle.limits.proofs.Laws.{or-false, magnitude-within}
+use Rattle.limits.proofs.Laws.{then-refused, then-passed, then-assoc, or-false}
 use Rattle.fit.specs.declared.TrackRecord.{TrackRecord}
-use Rattle.exact.specs.Corrected.{Given, at, toA, toB}
-use Rattle.limits.specs.Blocks.{blocksFit}
-use Rattle.limits.specs.Lists.{miscounted, anyBeyond}
-use Rattle.limits.proofs.Blocks.{blocks-within}
-use Rattle.limits.proofs.Lists.{counted}
+use Rattle.exact.specs.Corrected.{Given, at}
+use Rattle.limits.specs.Lists.{anyBeyond}
 use Rattle.limits.specs.Reply.{Reply}
 use Rattle.series.specs.declared.Fitted.{Fitted}
 use Rattle.series.specs.Answers.{fitReply, fitNumbered}
 use Rattle.series.specs.Fit.{midpoint, slope, fitRule}
 use Rattle.series.proofs.Fitting.{fit-part}
-use Rattle.fit.specs.Track.{blocks, places, smoothedAt, valueA, valueB, valueC, valueD, recordOf, results, wrongSizes, outOfLimits, correctedBeyond, recordNumber, trackNumber, zeros, tracked, trackRule}
-use Rattle.fit.proofs.Arrays.{places-at, places-cong}
+use Rattle.correcting.specs.declared.Corrected.{Corrected}
+use Rattle.correcting.specs.Correct.{blocks, valueA, valueB, valueC, valueD, wrongSizes, outOfLimits}
+use Rattle.correcting.specs.Answer.{correctNumber, corrected, correctRule}
+use Rattle.correcting.proofs.Arrays.{places-length}
+use Rattle.correcting.proofs.Refusals.{sized, number-answered, sizes-passed, values-passed}
+use Rattle.fit.specs.Track.{recordOf, results, correctedBeyond, recordNumber, trackNumber, zeros, tracked, trackRule}
 
 pub tracked-refused : (number : ℕ) (t : TrackRecord) → 0 < number → tracked number t ≡ record { refusal = number; «record» = zeros }
 unfolding tracked
@@ -80,126 +79,44 @@ pub fit-numbers : {r : Fitted} {x y m s : ℤ} → r ≡ Fitted.Line m s → r �
     → (toZ w64 (ofZ w64 x) ≡ m) × (toZ w64 (ofZ w64 y) ≡ s)
 fit-numbers {r} {x} {y} {m} {s} p q h k = let z : x ≡ m = cc in let w : y ≡ s = cc in (back-of h ∙ z, back-of k ∙ w)
 
--- ---- what it tells that a track's lists and numbers are not refused
+-- ---- by the corrected values
 
-pub record Sized (g : Given) : Type 0 where
-  pub size-blocks : (4 ≤ blocks g) × (blocks g ≤ 52)
-  pub size-measurements : length (g .measurements) ≡ 15 * blocks g
-  pub size-relativity : length (g .relativity) ≡ blocks g
-  pub size-ionosphere : length (g .ionosphere) ≡ blocks g
-  pub size-troposphere : length (g .troposphere) ≡ blocks g
-  pub size-clock : length (g .clock) ≡ blocks g
+-- the number is that of what is given, then that of the record
+number-parts : (g : Given) → trackNumber g ≡ correctNumber g then recordNumber (results g)
+unfolding trackNumber correctNumber
+number-parts g = sym (then-assoc (1 when wrongSizes g) (2 when outOfLimits g) (recordNumber (results g)))
 
-pub sized : (g : Given) → wrongSizes g ≡ false → Sized g
-unfolding wrongSizes
-sized g e =
-    let n = blocks g in
-    let M = miscounted (15 * n) (g .measurements) in
-    let R = miscounted n (g .relativity) in
-    let I = miscounted n (g .ionosphere) in
-    let T = miscounted n (g .troposphere) in
-    let C = miscounted n (g .clock) in
-    let all = or-false (not (blocksFit n)) (M || R || I || T || C) e in
-    let four = or-false (M || R || I || T) C (all .1) in
-    let three = or-false (M || R || I) T (four .0) in
-    let two = or-false (M || R) I (three .0) in
-    let one = or-false M R (two .0) in
-    record {
-      size-blocks = blocks-within n (all .0);
-      size-measurements = counted (15 * n) (g .measurements) (one .0);
-      size-relativity = counted n (g .relativity) (one .1);
-      size-ionosphere = counted n (g .ionosphere) (two .1);
-      size-troposphere = counted n (g .troposphere) (three .1);
-      size-clock = counted n (g .clock) (four .1);
-    }
+-- a track that is refused as it is given
+pub track-refused : (g : Given) (r : Corrected) → r ≡ correctRule g → 0 < r .refusal → record { refusal = r .refusal; «record» = zeros } ≡ trackRule g
+unfolding trackRule
+track-refused g r e h =
+    let number : r .refusal ≡ correctNumber g = ap (λ (k : Corrected). k .refusal) e ∙ number-answered g in
+    let first : trackNumber g ≡ r .refusal = number-parts g ∙ ap (λ (k : ℕ). k then recordNumber (results g)) (sym number) ∙ then-refused _ _ h in
+    sym (ap (λ (k : ℕ). tracked k (results g)) first ∙ tracked-refused (r .refusal) (results g) h)
 
-pub record Limited (g : Given) : Type 0 where
-  pub in-measurements : anyBeyond (10 ^ 12) (g .measurements) ≡ false
-  pub in-geometry : anyBeyond (2 * 10 ^ 11) (g .geometry) ≡ false
-  pub in-relativity : anyBeyond (10 ^ 10) (g .relativity) ≡ false
-  pub in-ionosphere : anyBeyond (10 ^ 10) (g .ionosphere) ≡ false
-  pub in-troposphere : anyBeyond (10 ^ 10) (g .troposphere) ≡ false
-  pub in-clock : anyBeyond (10 ^ 10) (g .clock) ≡ false
-  pub in-int : natAbs (g .int) ≤ 10 ^ 10
-  pub in-cab : natAbs (g .cab) ≤ 10 ^ 10
-  pub in-refdly : natAbs (g .refdly) ≤ 10 ^ 10
-  pub in-gd : natAbs (g .gd) ≤ 10 ^ 10
+-- any other is judged by its corrected values
+module _ (g : Given) (r : Corrected) (e : r ≡ correctRule g) (z : r .refusal ≡ 0) where
+  passed : correctNumber g ≡ 0
+  passed = sym (number-answered g) ∙ sym (ap (λ (k : Corrected). k .refusal) e) ∙ z
 
-pub limited : (g : Given) → outOfLimits g ≡ false → Limited g
-unfolding outOfLimits
-limited g e =
-    let M = anyBeyond (10 ^ 12) (g .measurements) in
-    let G = anyBeyond (2 * 10 ^ 11) (g .geometry) in
-    let R = anyBeyond (10 ^ 10) (g .relativity) in
-    let I = anyBeyond (10 ^ 10) (g .ionosphere) in
-    let T = anyBeyond (10 ^ 10) (g .troposphere) in
-    let C = anyBeyond (10 ^ 10) (g .clock) in
-    let A = beyond (10 ^ 10) (g .int) in
-    let B = beyond (10 ^ 10) (g .cab) in
-    let D = beyond (10 ^ 10) (g .refdly) in
-    let E = beyond (10 ^ 10) (g .gd) in
-    let all = or-false (M || (G || R || I || T || C)) (A || B || D || E) e in
-    let lists = or-false M (G || R || I || T || C) (all .0) in
-    let four = or-false (G || R || I || T) C (lists .1) in
-    let three = or-false (G || R || I) T (four .0) in
-    let two = or-false (G || R) I (three .0) in
-    let one = or-false G R (two .0) in
-    let delays = or-false (A || B || D) E (all .1) in
-    let pair = or-false (A || B) D (delays .0) in
-    let both = or-false A B (pair .0) in
-    record {
-      in-measurements = lists .0;
-      in-geometry = one .0;
-      in-relativity = one .1;
-      in-ionosphere = two .1;
-      in-troposphere = three .1;
-      in-clock = four .1;
-      in-int = magnitude-within (10 ^ 10) (g .int) (both .0);
-      in-cab = magnitude-within (10 ^ 10) (g .cab) (both .1);
-      in-refdly = magnitude-within (10 ^ 10) (g .refdly) (pair .1);
-      in-gd = magnitude-within (10 ^ 10) (g .gd) (delays .1);
-    }
+  values-are : r ≡ corrected 0 g
+  values-are = e ∙ values-passed g passed
 
--- ---- the corrected values, without the denominator
+  few : (4 ≤ blocks g) × (blocks g ≤ 52)
+  few = sized g (sizes-passed g passed) .size-blocks
 
-pub a-places : (n : ℕ) (g : Given) (s : List ℤ) (delay gd : ℤ) → s ≡ places n (smoothedAt g) → delay ≡ g .int +ℤ g .cab -ℤ g .refdly → gd ≡ g .gd
-    → places n (λ j. at s j -ℤ delay -ℤ at (g .geometry) j +ℤ at (g .relativity) j -ℤ at (g .ionosphere) j -ℤ at (g .troposphere) j -ℤ gd)
-    ≡ places n (valueA g)
-unfolding valueA toA
-a-places n g s delay gd e w d = rw (e, w, d) (places-cong n _ (valueA g) same)
-  where
-    same : (j : ℕ) → j < n
-        → at (places n (smoothedAt g)) j -ℤ (g .int +ℤ g .cab -ℤ g .refdly) -ℤ at (g .geometry) j +ℤ at (g .relativity) j -ℤ at (g .ionosphere) j -ℤ at (g .troposphere) j -ℤ g .gd
-        ≡ valueA g j
-    same j h = simp (places-at n (smoothedAt g) j h, one-*ℤ)
+  pub blocks-sized : (4 ≤ r .blocks) × (r .blocks ≤ 52)
+  unfolding corrected
+  blocks-sized = rw values-are few
 
-pub b-places : (n : ℕ) (g : Given) (a : List ℤ) → a ≡ places n (valueA g)
-    → places n (λ j. at a j +ℤ at (g .clock) j) ≡ places n (valueB g)
-unfolding valueA valueB toB
-b-places n g a e = rw e (places-cong n _ (valueB g) same)
-  where
-    same : (j : ℕ) → j < n → at (places n (valueA g)) j +ℤ at (g .clock) j ≡ valueB g j
-    same j h = simp (places-at n (valueA g) j h, one-*ℤ)
+  pub places-sized : (length (r .a) ≡ 52) × (length (r .b) ≡ 52) × (length (r .c) ≡ 52) × (length (r .d) ≡ 52)
+  unfolding corrected
+  places-sized =
+      let h = few .1 in
+      rw values-are (places-length _ (valueA g) h, places-length _ (valueB g) h, places-length _ (valueC g) h, places-length _ (valueD g) h)
 
--- ---- the first two refusals
-
-pub sizes-refused : (g : Given) → wrongSizes g ≡ true → trackRule g ≡ record { refusal = 1; «record» = zeros }
-unfolding trackRule trackNumber tracked _when_ _then_
-sizes-refused g e = rw e
-
-pub limits-refused : (g : Given) → wrongSizes g ≡ false → outOfLimits g ≡ true → trackRule g ≡ record { refusal = 2; «record» = zeros }
-unfolding trackRule trackNumber tracked _when_ _then_
-limits-refused g e h = rw (e, h)
-
--- a track that is not refused with 1 or 2
-inputs-passed : (g : Given) → wrongSizes g ≡ false → outOfLimits g ≡ false → trackRule g ≡ tracked (recordNumber (results g)) (results g)
-unfolding trackRule trackNumber _when_ _then_
-inputs-passed g e h = rw (e, h)
-
--- is judged by its corrected values
-pub track-judged : (g : Given) (a b c d : List ℤ) → wrongSizes g ≡ false → outOfLimits g ≡ false
-    → let n = blocks g in
-    a ≡ places n (valueA g) → b ≡ places n (valueB g) → c ≡ places n (valueC g) → d ≡ places n (valueD g)
-    → tracked (recordNumber (recordOf n a b c d)) (recordOf n a b c d) ≡ trackRule g
-unfolding results
-track-judged g a b c d e h ea eb ec ed = rw (ea, eb, ec, ed) (sym (inputs-passed g e h))
+  pub track-judged : let t = recordOf (r .blocks) (r .a) (r .b) (r .c) (r .d) in tracked (recordNumber t) t ≡ trackRule g
+  unfolding corrected results trackRule
+  track-judged =
+      ap (λ (k : Corrected). let t = recordOf (k .blocks) (k .a) (k .b) (k .c) (k .d) in tracked (recordNumber t) t) values-are
+      ∙ ap (λ (k : ℕ). tracked k (results g)) (sym (number-parts g ∙ then-passed _ _ passed))

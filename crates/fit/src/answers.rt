@@ -1,18 +1,8 @@
 // The number of each answer: that of the refusal, 0 where there is none.
 use super::Fitted;
 use super::Scattered;
-use super::Smoothed;
 ghost use mathlib.Core.Path.{_≡_};
-ghost use Rattle.series.specs.Answers.{smoothReply, fitReply, scatterReply};
-
-pub fn smoothed_number(answer: Smoothed) -> u32
-    ensures { λ r. ⌜ r ≡ smoothReply answer .number ⌝ }
-{
-    match answer {
-        Smoothed::Value(_) => 0,
-        Smoothed::Refused(number) => number,
-    }
-}
+ghost use Rattle.series.specs.Answers.{fitReply, scatterReply};
 
 pub fn fitted_number(answer: Fitted) -> u32
     ensures { λ r. ⌜ r ≡ fitReply answer .number ⌝ }

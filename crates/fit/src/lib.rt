@@ -5,21 +5,10 @@
 // All quantities are whole picoseconds unless a unit is given.
 
 mod answers;
-mod correction;
-mod inputs;
 mod results;
 
-use correction::a_values;
-use correction::b_values;
-use correction::copied;
-use correction::delay;
-use correction::smooth_blocks;
-use inputs::columns_beyond;
-use inputs::delays_beyond;
-use inputs::sizes_wrong;
+use correcting::correct;
 pub use limits::Numbers;
-use limits::scan;
-use results::Corrected;
 use results::judged;
 use results::refused;
 pub use series::Fitted;
@@ -29,10 +18,10 @@ pub use series::fit;
 pub use series::scatter;
 pub use series::smooth;
 ghost use mathlib.Core.Path.{_≡_};
-ghost use mathlib.Core.Bool.{false};
 ghost use lib.ListN.{length};
 ghost use Rattle.exact.specs.Accurate.{AccurateTrack};
-ghost use Rattle.fit.specs.Track.{given, wrongSizes, outOfLimits, trackRule};
+ghost use Rattle.correcting.specs.Correct.{given};
+ghost use Rattle.fit.specs.Track.{trackRule};
 
 // How many of the 52 places are in use, a track's corrected values of each kind, A, B, C and D of document 01, with 0 in the
 // other places, and its ten numbers.
@@ -49,55 +38,6 @@ pub struct TrackRecord {
 pub struct Tracked {
     pub refusal: u32,
     pub record: TrackRecord,
-}
-
-// A track whose lists have their sizes and whose numbers are inside their limits.
-fn corrected_track(
-    measurements: &[i64],
-    int: i64,
-    cab: i64,
-    refdly: i64,
-    gd: i64,
-    geometry: &[i64],
-    relativity: &[i64],
-    ionosphere: &[i64],
-    troposphere: &[i64],
-    clock: &[i64],
-) -> Tracked
-    requires { ⌜ wrongSizes (given (now measurements) int cab refdly gd
-        (now geometry) (now relativity) (now ionosphere) (now troposphere) (now clock)) ≡ false ⌝ }
-    requires { ⌜ outOfLimits (given (now measurements) int cab refdly gd
-        (now geometry) (now relativity) (now ionosphere) (now troposphere) (now clock)) ≡ false ⌝ }
-    ensures { λ r. ⌜ r ≡ trackRule (given (now (measurements .entry)) int cab refdly gd
-        (now (geometry .entry)) (now (relativity .entry)) (now (ionosphere .entry)) (now (troposphere .entry))
-        (now (clock .entry))) ⌝ }
-{
-    let n = geometry.len();
-    let blocks = smooth_blocks(measurements, n);
-    let refusal = blocks.refusal;
-    if refusal != 0 {
-        return refused(refusal);
-    }
-    let smoothed = blocks.values;
-    let a = a_values(
-        &smoothed,
-        delay(int, cab, refdly),
-        geometry,
-        relativity,
-        ionosphere,
-        troposphere,
-        gd,
-    );
-    let b = b_values(&a, clock);
-    let c = copied(troposphere);
-    let d = copied(ionosphere);
-    judged(Corrected {
-        blocks: n,
-        a,
-        b,
-        c,
-        d,
-    })
 }
 
 // A track of n blocks, n from 4 to 52: 15n one-second measurements, the delays INT, CAB, REF and GD, and five columns of n
@@ -122,24 +62,7 @@ pub fn track(
         (now (geometry .entry)) (now (relativity .entry)) (now (ionosphere .entry)) (now (troposphere .entry))
         (now (clock .entry))) (r .«record» .numbers)) ⌝ }
 {
-    if sizes_wrong(
-        measurements,
-        geometry,
-        relativity,
-        ionosphere,
-        troposphere,
-        clock,
-    ) {
-        return refused(1);
-    }
-    let measured = scan(measurements, -1_000_000_000_000, 1_000_000_000_000);
-    let beyond = measured.outside
-        | columns_beyond(geometry, relativity, ionosphere, troposphere, clock)
-        | delays_beyond(int, cab, refdly, gd);
-    if beyond {
-        return refused(2);
-    }
-    corrected_track(
+    let values = correct(
         measurements,
         int,
         cab,
@@ -150,5 +73,10 @@ pub fn track(
         ionosphere,
         troposphere,
         clock,
-    )
+    );
+    let refusal = values.refusal;
+    if refusal != 0 {
+        return refused(refusal);
+    }
+    judged(values)
 }

@@ -18,7 +18,8 @@ use Rattle.decode.proofs.Signeds.{length-signeds}
 use Rattle.exact.specs.Corrected.{Given}
 use Rattle.exact.specs.Accurate.{AccurateTrack}
 use Rattle.fit.specs.declared.Tracked.{Tracked}
-use Rattle.fit.specs.Track.{wrongSizes, trackNumber, zeros, tracked, trackRule}
+use Rattle.correcting.specs.Correct.{wrongSizes}
+use Rattle.fit.specs.Track.{trackNumber, zeros, tracked, trackRule}
 use Rattle.hire.specs.Hire.{correctionsFrom, delayedIn, givenIn}
 
 -- ---- rows

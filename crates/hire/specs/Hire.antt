@@ -9,7 +9,7 @@ use lib.Dec.{eqb}
 use Rattle.decode.specs.Number.{unsignedAt, signedAt, signedsAt}
 use Rattle.limits.specs.Blocks.{blocksFit}
 use Rattle.exact.specs.Corrected.{Given}
-use Rattle.fit.specs.Track.{given}
+use Rattle.correcting.specs.Correct.{given}
 use Rattle.labels.specs.declared.Labels.{Labels}
 use Rattle.labels.specs.Given.{labelsOf}
 

@@ -12,12 +12,12 @@ use lib.ListN.{length, take, drop, getD}
 use lib.Seq.{drop-cons, getD-take}
 use Rattle.fields.specs.Read.{digitsAfter, readDecimal}
 use Rattle.columns.specs.Text.{lineLength}
-use Rattle.reader.specs.Kinds.{allows, allowed}
-use Rattle.reader.specs.Fields.{digits}
-use Rattle.reader.specs.Read.{readNumber}
-use Rattle.reader.proofs.Allowed.{both, digit-range}
-use Rattle.reader.proofs.Columns.{Columns, columns-of}
-use Rattle.reader.proofs.Refusals.{accepted}
+use Rattle.characters.specs.Kinds.{allows, allowed}
+use Rattle.reading.specs.Fields.{digits}
+use Rattle.reading.specs.Read.{readNumber}
+use Rattle.characters.proofs.Allowed.{both, digit-range}
+use Rattle.reading.proofs.Columns.{Columns, columns-of}
+use Rattle.reading.proofs.Refusals.{accepted}
 use Rattle.limits.proofs.Laws.{then-zero}
 use Rattle.linefile.specs.Files.{columnsOf, lineNumber}
 use Rattle.linefile.proofs.Ascending.{Accepted}

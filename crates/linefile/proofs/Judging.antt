@@ -13,7 +13,7 @@ use borrow.Author.Tests.{ltb-true, ltb-false, eqb-false, lt-ltb, le-leb, lt-leb}
 use Rattle.limits.specs.Refusal.{_when_, _then_}
 use Rattle.limits.proofs.Laws.{then-refused, then-passed, then-assoc}
 use Rattle.linefile.specs.Files.{endedLength, columnsOf, same, ended, keys, before, lineNumber, linesNumber}
-use Rattle.reader.specs.Read.{readNumber}
+use Rattle.reading.specs.Read.{readNumber}
 use Rattle.linefile.specs.Walk.{rank}
 use Rattle.linefile.proofs.Ascending.{Accepted, before-none}
 use Rattle.linefile.proofs.Ranks.{rank-before, rank-some}

@@ -11,9 +11,9 @@ use lib.Seq.{getD-take}
 use borrow.Author.Tests.{lt-ltb, le-ltb, eqb-true}
 use Rattle.fields.specs.Read.{readDecimal}
 use Rattle.columns.specs.Columns.{byteIn, field, readLabels}
-use Rattle.reader.specs.Kinds.{letterFits}
-use Rattle.reader.proofs.Allowed.{either, letter-is}
-use Rattle.reader.proofs.Columns.{field-bound, holds-at}
+use Rattle.characters.specs.Kinds.{letterFits}
+use Rattle.characters.proofs.Allowed.{either, letter-is}
+use Rattle.reading.proofs.Columns.{field-bound, holds-at}
 use Rattle.linefile.specs.Files.{columnsOf, keysOf, keys, before}
 use Rattle.linefile.specs.Walk.{twoDigits, rank}
 use Rattle.linefile.proofs.Keys.{Heads, less, equal, more, heads, before-below, before-above, before-level, before-irrefl}

@@ -9,7 +9,7 @@ use Rattle.limits.specs.Refusal.{_when_, _then_}
 use Rattle.labels.specs.declared.Labels.{Labels}
 use Rattle.columns.specs.Text.{lineLength}
 use Rattle.columns.specs.Columns.{readLabels}
-use Rattle.reader.specs.Read.{readNumber}
+use Rattle.reading.specs.Read.{readNumber}
 
 -- A line of a file has 115 bytes: 113 columns, carriage return and line feed.
 abbrev pub endedLength : ℕ

@@ -23,9 +23,9 @@ use Rattle.columns.proofs.Widths.{line-width}
 use Rattle.hire.specs.Hire.{blockLabels, blockGiven}
 use Rattle.line.specs.Line.{lineAnswer}
 use Rattle.line.specs.Block.{blockNumbers, blockLine}
-use Rattle.reader.specs.Kinds.{printable}
-use Rattle.reader.specs.Read.{readNumber, noLabels, noNumbers, readRule}
-use Rattle.reader.proofs.WrittenLine.{text-reads-back}
+use Rattle.characters.specs.Kinds.{printable}
+use Rattle.reading.specs.Read.{readNumber, noLabels, noNumbers, readRule}
+use Rattle.reading.proofs.WrittenLine.{text-reads-back}
 use Rattle.linefile.specs.Files.{endedLength, lines, columnsOf, same, ended, keysOf, keys, before, lineNumber, linesNumber, fileNumber}
 use Rattle.linefile.specs.Partners.{partnersOf, partners}
 use Rattle.viewing.specs.View.{trklOf, refsysOf, sameTrkl, pairsOf, differences, viewed, figures, longest, viewNumber, viewRule}

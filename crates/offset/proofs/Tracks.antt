@@ -14,9 +14,10 @@ use Rattle.limits.proofs.Laws.{then-zero, when-zero}
 use Rattle.exact.specs.Corrected.{Given, at, block, toA, toB}
 use Rattle.series.specs.Scatter.{dsg}
 use Rattle.fit.specs.declared.TrackRecord.{TrackRecord}
-use Rattle.fit.specs.Track.{blocks, smoothedAt, valueA, valueB, valueC, valueD, places, numbersWith, recordOf, results, wrongSizes, trackNumber, trackRule}
-use Rattle.fit.proofs.Arrays.{places-at}
-use Rattle.fit.proofs.Tracks.{sized}
+use Rattle.correcting.specs.Correct.{blocks, smoothedAt, valueA, valueB, valueC, valueD, places, wrongSizes}
+use Rattle.fit.specs.Track.{numbersWith, recordOf, results, trackNumber, trackRule}
+use Rattle.correcting.proofs.Arrays.{places-at}
+use Rattle.correcting.proofs.Refusals.{sized}
 use Rattle.line.proofs.Blocks.{track-number, track-record}
 use Rattle.offset.specs.Shifted.{raised, unit, shifted, Moved}
 use Rattle.offset.proofs.Series.{smoothed-moves, midpoint-moves, slope-stays, squares-stay}

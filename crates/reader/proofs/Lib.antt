@@ -1,10 +1,2 @@
-pub mod Allowed
-pub mod Decimals
-pub mod Columns
-pub mod Hexadecimals
-pub mod Signs
-pub mod Refusals
-pub mod Spelling
-pub mod AcceptedLine
-pub mod Writing
-pub mod WrittenLine
+pub mod Readings
+pub mod Comments

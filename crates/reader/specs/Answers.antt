@@ -5,8 +5,8 @@ use Prim.Native.Nat.{_<_}
 use Rattle.limits.specs.Reply.{Reply}
 use Rattle.labels.specs.declared.Labels.{Labels}
 use Rattle.limits.specs.declared.Numbers.{Numbers}
+use Rattle.reading.specs.Read.{noLabels, noNumbers}
 use Rattle.reader.specs.declared.Reading.{Reading}
-use Rattle.reader.specs.Read.{noLabels, noNumbers}
 
 abbrev pub readReply : Reading → Reply (Labels × Numbers)
 readReply (Reading.Line labels numbers) = record { number = 0; values = (labels, numbers) }

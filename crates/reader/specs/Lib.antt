@@ -1,8 +1,5 @@
--- What must be believed: what a column may hold, what a line is refused for, and what stands in it.
-pub mod Kinds
-pub mod Read
+-- What must be believed: what the cases of an answer mean, and where the comment begins. What is answered stands in crate reading.
 pub mod Answers
+pub mod Comment
 -- What the returned part of a line is.
 pub mod Part
--- What the functions that read single fields ask.
-pub mod Fields

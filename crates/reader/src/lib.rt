@@ -1,20 +1,14 @@
 // The reader: what stands in a data line. It takes any bytes and answers the labels and the ten numbers of the line, or the number of its
 // first refusal, in the order of document 02, Job 1: 12 for the length, 14 for CK, 13 for a character that is not allowed in its column,
-// 7 for labels and track lengths and 8 for starts that Line would refuse. A second function gives the comment behind the columns.
-ghost use mathlib.Core.Bool.{true};
+// 7 for labels and track lengths and 8 for starts that Line would refuse. Crates characters and reading do the work, and reading answers the
+// number beside the result; here the answer gets its case. A second function gives the comment behind the columns.
 ghost use mathlib.Core.Path.{_≡_};
-ghost use Rattle.columns.specs.Columns.{readLabels, readNumbers};
-ghost use Rattle.reader.specs.Kinds.{kinds, allowed};
-ghost use Rattle.reader.specs.Read.{readRule, commentOffset, valuesNumber};
+ghost use Rattle.reading.specs.Read.{readRule};
 ghost use Rattle.reader.specs.Answers.{readReply, readNumbered};
+ghost use Rattle.reader.specs.Comment.{commentOffset};
 ghost use Rattle.reader.specs.Part.{PartFrom};
 use labels::Labels;
 use labels::Numbers;
-use limits::then;
-use limits::when;
-
-mod characters;
-mod values;
 
 // What the reader answers: what stands in the line, or the number of the refusal.
 pub enum Reading {
@@ -24,34 +18,18 @@ pub enum Reading {
 
 const LINE_LENGTH: usize = 113;
 
-// What a line is refused for once its characters are those of its columns.
-fn values_refusal(line: &[u8], labels: Labels, numbers: Numbers) -> u32
-    requires { ⌜ allowed kinds (now line) ≡ true ⌝ }
-    requires { ⌜ labels ≡ readLabels (now line) ⌝ }
-    requires { ⌜ numbers ≡ readNumbers (now line) ⌝ }
-    ensures { λ r. ⌜ r ≡ valuesNumber (now (line .entry)) ⌝ }
-{
-    let minus = when(13, values::minus_zero(line, numbers));
-    let label = labels::refusal(labels, numbers);
-    let clock = when(8, values::clock_beyond(line));
-    then(minus, then(label, clock))
-}
-
 // The labels and the numbers in the columns of a line.
 pub fn read(line: &[u8]) -> Reading
     ensures answer { λ r. ⌜ readReply r ≡ readRule (now (line .entry)) ⌝ }
     ensures variant { λ r. ⌜ readNumbered r ⌝ }
 {
-    let characters = characters::refusal(line);
-    if characters != 0 {
-        return Reading::Refused(characters);
+    let contents = reading::contents(line);
+    let number = contents.refusal;
+    if number != 0 {
+        return Reading::Refused(number);
     }
-    let labels = values::labels(line);
-    let numbers = values::numbers(line);
-    let refusal = values_refusal(line, labels, numbers);
-    if refusal != 0 {
-        return Reading::Refused(refusal);
-    }
+    let labels = contents.labels;
+    let numbers = contents.numbers;
     Reading::Line { labels, numbers }
 }
 

@@ -21,7 +21,8 @@ use Rattle.series.specs.Smooth.{smoothed}
 use Rattle.series.specs.Fit.{total, moment, midpoint, slope}
 use Rattle.series.specs.Scatter.{residual, squares, threshold, climb, dsg}
 use Rattle.fit.specs.declared.TrackRecord.{TrackRecord}
-use Rattle.fit.specs.Track.{smoothedAt, valueA, valueB, valueC, valueD, places, numbersWith, recordOf, results, given, wrongSizes, outOfLimits, correctedBeyond, numbersRule, recordNumber, trackNumber}
+use Rattle.correcting.specs.Correct.{smoothedAt, valueA, valueB, valueC, valueD, places, given, wrongSizes, outOfLimits}
+use Rattle.fit.specs.Track.{numbersWith, recordOf, results, correctedBeyond, numbersRule, recordNumber, trackNumber}
 use Rattle.columns.specs.Text.{lineLength, lineText}
 use Rattle.line.specs.Line.{lineAnswer}
 use Rattle.hire.specs.Hire.{measurementsIn, blocksIn, sizesFit, blockLabels, givenIn, blockGiven}

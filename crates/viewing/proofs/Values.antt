@@ -14,8 +14,8 @@ use borrow.Author.Tests.{eq-eqb, ne-eqb}
 use Rattle.fields.specs.Read.{readDecimal, readSigned}
 use Rattle.columns.specs.Text.{lineLength}
 use Rattle.columns.specs.Columns.{field, readNumbers}
-use Rattle.reader.proofs.Columns.{field-bound, signed-field}
-use Rattle.reader.proofs.Signs.{minus-read, plus-read, read-magnitude}
+use Rattle.reading.proofs.Columns.{field-bound, signed-field}
+use Rattle.reading.proofs.Signs.{minus-read, plus-read, read-magnitude}
 use Rattle.linefile.specs.Files.{columnsOf}
 use Rattle.linefile.specs.Walk.{twoDigits}
 use Rattle.viewing.specs.View.{trklOf, refsysOf}

@@ -4,8 +4,8 @@ use mathlib.Core.Path.{_≡_, ap, _∙_}
 use Prim.Native.Nat.{_-_, _≤_}
 use native.Mathlib.Omega.{arith}
 use lib.ListN.{length, length-drop}
-use Rattle.reader.specs.Read.{commentOffset}
-use Rattle.reader.proofs.Refusals.{offset-within}
+use Rattle.reader.specs.Comment.{commentOffset}
+use Rattle.reader.proofs.Comments.{offset-within}
 use borrow.Author.Needs.{needs}
 use Rattle.boundary.proofs.trackline_comment.Statement.{statement}
 use Rattle.boundary.proofs.trackline_comment.Tie as tie

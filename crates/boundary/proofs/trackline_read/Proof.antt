@@ -4,9 +4,9 @@ use mathlib.Core.Path.{ap, ap₂, _∙_}
 use native.Mathlib.Omega.{arith}
 use Rattle.reader.specs.declared.Reading.{Reading}
 use Rattle.reader.specs.Answers.{readReply}
-use Rattle.reader.proofs.Refusals.{accepted-case, accepted-values, refused-case, refused-number}
+use Rattle.reader.proofs.Readings.{accepted-case, accepted-values, refused-case, refused-number}
 use Rattle.columns.specs.Columns.{readLabels, readNumbers}
-use Rattle.reader.specs.Read.{readNumber}
+use Rattle.reading.specs.Read.{readNumber}
 use Rattle.boundary.specs.Values.{valuesOf, readAnswer, readAfter}
 use Rattle.boundary.proofs.Rows.{row-refused, row-put}
 use borrow.Author.Needs.{needs}

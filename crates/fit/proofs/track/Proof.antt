@@ -1,18 +1,17 @@
 -- `fit::track` meets its contract: its answer is the rule's, and so accurate where it is accepted.
 -- Assumes nothing.
-use mathlib.Core.Bool.{false, _||_}
-use mathlib.Core.Path.{_≡_, sym, ap, ap₂, _∙_}
-use Prim.Native.Nat.{_^_}
+use mathlib.Core.Path.{_≡_, _∙_}
+use Prim.Native.Nat.{_<_}
+use native.Mathlib.Omega.{arith}
 use mir.Facts.{toZ-ofZ}
-use Rattle.limits.specs.Limits.{beyond}
-use Rattle.limits.specs.Scan.{scanRule}
-use Rattle.limits.specs.declared.Scanned.{Scanned}
 use Rattle.exact.specs.Corrected.{Given}
 use Rattle.exact.specs.Accurate.{AccurateTrack}
+use Rattle.correcting.specs.Correct.{blocks, given}
+use Rattle.correcting.specs.Answer.{correctRule}
 use Rattle.fit.specs.declared.Tracked.{Tracked}
-use Rattle.fit.specs.Track.{blocks, given, wrongSizes, outOfLimits, trackRule}
+use Rattle.fit.specs.Track.{trackRule}
 use Rattle.fit.proofs.Accuracy.{tracked-accurate}
-use Rattle.fit.proofs.Tracks.{sizes-refused, limits-refused}
+use Rattle.fit.proofs.Tracks.{track-refused, blocks-sized, places-sized, track-judged}
 use borrow.Author.Needs.{needs}
 use Rattle.fit.proofs.track.Statement.{statement}
 use Rattle.fit.proofs.track.Tie as tie
@@ -24,42 +23,19 @@ g c =
     given (a .measurements .now) (a .int) (a .cab) (a .refdly) (a .gd) (a .geometry .now) (a .relativity .now) (a .ionosphere .now)
     (a .troposphere .now) (a .clock .now)
 
--- the lists' sizes are tested by the rule
-sizes-are : (c : tie.After-sizes-wrong) → c .sizes-wrong .result ≡ wrongSizes (g (c .before))
-unfolding wrongSizes
-sizes-are c = c .sizes-wrong .ensures
-
--- where they have passed
-sizes-fit : (c : tie.Else1) → wrongSizes (g (c .before .before)) ≡ false
-sizes-fit c = sym (sizes-are (c .before)) ∙ c .if1 .left
-
--- the delays are those that were passed
-delays-are : (c : tie.After-delays-beyond)
-    → let a = c .before .before .before .before .before .before .args in
-    c .delays-beyond .result
-    ≡ beyond (10 ^ 10) (a .int) || beyond (10 ^ 10) (a .cab) || beyond (10 ^ 10) (a .refdly) || beyond (10 ^ 10) (a .gd)
-delays-are c =
-    let f = c .before .before .before .before .before .before .fits in
-    simp (toZ-ofZ (f .int), toZ-ofZ (f .cab), toZ-ofZ (f .refdly), toZ-ofZ (f .gd)) at (c .delays-beyond .ensures)
-
--- and so are the numbers' limits
-limits-are : (c : tie.After-delays-beyond)
-    → let k = c .before .before in
-    let o = k .before in
-    o .scan .result .outside || k .columns-beyond .result || c .delays-beyond .result ≡ outOfLimits (g (o .before .before .before))
-unfolding outOfLimits scanRule
-limits-are c =
-    let k = c .before .before in
-    let o = k .before in
-    ap₂ _||_ (ap₂ _||_ (ap (λ (s : Scanned). s .outside) (o .scan .ensures)) (k .columns-beyond .ensures)) (delays-are c)
+-- its corrected values
+values-are : (c : tie.After-correct) → c .correct .result ≡ correctRule (g (c .before))
+values-are c =
+    let f = c .before .fits in
+    simp (toZ-ofZ (f .int), toZ-ofZ (f .cab), toZ-ofZ (f .refdly), toZ-ofZ (f .gd)) at (c .correct .ensures)
 
 -- both clauses, from the answer
 both : (s : tie.Start) (t : Tracked) → t ≡ trackRule (g s)
     → (t ≡ trackRule (g s)) × (t .refusal ≡ 0 → AccurateTrack (blocks (g s)) (g s) (t .«record» .numbers))
 both s t e = (e, tracked-accurate (g s) t e)
 
-sizes-wrong-requires : tie.Need-sizes-wrong-requires
-sizes-wrong-requires c κs = search needs
+correct-requires : tie.Need-correct-requires
+correct-requires c κs = search needs
 
 refused-requires : tie.Need-refused-requires
 refused-requires c κs = search needs
@@ -67,53 +43,20 @@ refused-requires c κs = search needs
 returns : tie.Need-returns
 returns c =
     let n = c .before .before in
-    both (n .before) (c .refused .result)
-    (c .refused .ensures ∙ sym (sizes-refused (g (n .before)) (sym (sizes-are n) ∙ c .before .if1 .taken)))
+    let some : 0 < n .correct .result .refusal = omega (arith, c .before .if1 .taken) in
+    both (n .before) (c .refused .result) (c .refused .ensures ∙ track-refused (g (n .before)) (n .correct .result) (values-are n) some)
 
-scan-requires : tie.Need-scan-requires
-scan-requires c κs = search needs
-
-columns-beyond-requires : tie.Need-columns-beyond-requires
-columns-beyond-requires c κs = search needs
-
-delays-beyond-requires : tie.Need-delays-beyond-requires
-delays-beyond-requires c κs = search needs
-
-refused-requires-2 : tie.Need-refused-requires-2
-refused-requires-2 c κs = search needs
+judged-requires : tie.Need-judged-requires
+judged-requires c κs =
+    let n = c .before in
+    let v = n .correct .result in
+    (blocks-sized (g (n .before)) v (values-are n) (c .if1 .left), places-sized (g (n .before)) v (values-are n) (c .if1 .left))
 
 returns-2 : tie.Need-returns-2
 returns-2 c =
     let n = c .before .before in
-    let e = n .before .before .before .before in
-    let s = e .before .before in
-    both s (c .refused2 .result)
-    (c .refused2 .ensures ∙ sym (limits-refused (g s) (sizes-fit e) (sym (limits-are n) ∙ c .before .if2 .taken)))
-
-corrected-track-requires : tie.Need-corrected-track-requires
-corrected-track-requires c κs =
-    let e = c .before .before .before .before .before in
-    let f = e .before .before .fits in
-    simp (toZ-ofZ (f .int), toZ-ofZ (f .cab), toZ-ofZ (f .refdly), toZ-ofZ (f .gd)) (sizes-fit e, sym (limits-are (c .before)) ∙ c .if2 .left)
-
-returns-3 : tie.Need-returns-3
-returns-3 c =
-    let s = c .before .before .before .before .before .before .before .before in
-    let f = s .fits in
-    both s (c .corrected-track .result)
-    (simp (toZ-ofZ (f .int), toZ-ofZ (f .cab), toZ-ofZ (f .refdly), toZ-ofZ (f .gd)) at (c .corrected-track .ensures))
+    both (n .before) (c .judged .result)
+    (c .judged .ensures ∙ track-judged (g (n .before)) (n .correct .result) (values-are n) (c .before .if1 .left))
 
 pub track-spec : {M : Type 1} → statement M
-track-spec =
-    tie.close
-    (tie.spec
-    sizes-wrong-requires
-    refused-requires
-    returns
-    scan-requires
-    columns-beyond-requires
-    delays-beyond-requires
-    refused-requires-2
-    returns-2
-    corrected-track-requires
-    returns-3)
+track-spec = tie.close (tie.spec correct-requires refused-requires returns judged-requires returns-2)

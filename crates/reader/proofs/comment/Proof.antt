@@ -10,8 +10,11 @@ use lib.Seq.{take-all}
 use base.Fml.{GName}
 use denote.Ref.{RefT}
 use Rattle.reader.specs.Part.{PartFrom}
-use Rattle.reader.specs.Read.{readNumber, commentOffset}
-use Rattle.reader.proofs.Refusals.{accepted, accepted-case, refused-case, offset-accepted, offset-refused}
+use Rattle.reader.specs.Comment.{commentOffset}
+use Rattle.reading.specs.Read.{readNumber}
+use Rattle.reading.proofs.Refusals.{accepted}
+use Rattle.reader.proofs.Readings.{accepted-case, refused-case}
+use Rattle.reader.proofs.Comments.{offset-accepted, offset-refused}
 use borrow.Author.Needs.{needs}
 use Rattle.reader.proofs.comment.Statement.{statement}
 use Rattle.reader.proofs.comment.Tie as tie

@@ -1,87 +1,58 @@
--- `fit::results::judged` meets its contract.
+-- `fit::results::judged` meets its contract: what is found of the values is the record's.
 -- Assumes nothing.
-use mathlib.Core.Bool.{true, false, _||_}
-use mathlib.Core.Path.{_≡_, sym, ap, ap₂, _∙_}
-use Prim.Native.Nat.{ℕ}
-use lib.Dec.{lit<}
-use Rattle.limits.specs.Refusal.{_when_, _then_}
+use mathlib.Core.Path.{_≡_, sym, ap, _∙_}
+use Prim.Native.Nat.{ℕ, _<_}
+use native.Mathlib.Omega.{arith}
+use mathlib.Core.List.{List}
+use lib.IntN.{ℤ}
+use Rattle.limits.specs.declared.Numbers.{Numbers}
 use Rattle.fit.specs.declared.TrackRecord.{TrackRecord}
-use Rattle.fit.specs.Track.{recordOf, correctedBeyond, numbersRule, recordNumber, tracked}
-use Rattle.fit.proofs.Tracks.{tracked-refused}
+use Rattle.fit.specs.Track.{recordOf, recordNumber, tracked}
+use Rattle.fit.proofs.Tracks.{tracked-refused, tracked-accepted}
 use borrow.Author.Needs.{needs}
 use Rattle.fit.proofs.results.judged.Statement.{statement}
 use Rattle.fit.proofs.results.judged.Tie as tie
 
--- where the function starts, seen from where the four tests are made, and the record
-abbrev start : tie.After-any-outside4 → tie.Start
-start c = c .before .before .before .before .before .before .before .before .before .before .before .before .before .before .before .before
+-- the record of the values
+abbrev t : tie.Start → TrackRecord
+t c = let v = c .args .t1 in recordOf (v .blocks) (v .a) (v .b) (v .c) (v .d)
 
-abbrev t : tie.After-any-outside4 → TrackRecord
-t c = let v = start c .args .t1 in recordOf (v .blocks) (v .a) (v .b) (v .c) (v .d)
+-- where the function starts, seen from where the numbers are found
+abbrev start : tie.After-ten-numbers → tie.Start
+start c = c .before .before .before .before .before .before .before .before .before .before
 
--- the four tests are the rule's
-beyond-is : (c : tie.After-any-outside4)
-    → let three = c .before .before .before .before in
-    let two = three .before .before .before .before in
-    let one = two .before .before .before .before in
-    one .any-outside .result || two .any-outside2 .result || three .any-outside3 .result || c .any-outside4 .result
-    ≡ correctedBeyond (t c)
-unfolding correctedBeyond recordOf
-beyond-is c =
-    let three = c .before .before .before .before in
-    let two = three .before .before .before .before in
-    let one = two .before .before .before .before in
-    ap₂ _||_ (ap₂ _||_ (ap₂ _||_ (one .any-outside .ensures) (two .any-outside2 .ensures)) (three .any-outside3 .ensures)) (c .any-outside4 .ensures)
+-- an accepted record is put together again with its numbers
+whole : (n : ℕ) (a b c d : List ℤ) (f : Numbers) → f ≡ recordOf n a b c d .numbers
+    → record { refusal = 0; «record» = record { blocks = n; a = a; b = b; c = c; d = d; numbers = f } } ≡ tracked 0 (recordOf n a b c d)
+unfolding recordOf
+whole n a b c d f e =
+    (λ z. record { refusal = 0; «record» = record { blocks = n; a = a; b = b; c = c; d = d; numbers = e z } })
+    ∙ sym (tracked-accepted (recordOf n a b c d))
 
--- the first refusal of the record
-first : (r : TrackRecord) → correctedBeyond r ≡ true → recordNumber r ≡ 10
-unfolding recordNumber _when_ _then_
-first r e = rw e
-
-next : (r : TrackRecord) → correctedBeyond r ≡ false → recordNumber r ≡ numbersRule r
-unfolding recordNumber _when_ _then_
-next r e = rw e
-
-any-outside-requires : tie.Need-any-outside-requires
-any-outside-requires c κs = search needs
-
-any-outside-requires-2 : tie.Need-any-outside-requires-2
-any-outside-requires-2 c κs = search needs
-
-any-outside-requires-3 : tie.Need-any-outside-requires-3
-any-outside-requires-3 c κs = search needs
-
-any-outside-requires-4 : tie.Need-any-outside-requires-4
-any-outside-requires-4 c κs = search needs
+ten-numbers-requires : tie.Need-ten-numbers-requires
+ten-numbers-requires c κs = search needs
 
 refused-requires : tie.Need-refused-requires
 refused-requires c κs = search needs
 
 returns : tie.Need-returns
 returns c =
-    let n = c .before .before in
-    let e : recordNumber (t n) ≡ 10 = first (t n) (sym (beyond-is n) ∙ c .before .if1 .taken) in
-    c .refused .ensures ∙ sym (ap (λ (k : ℕ). tracked k (t n)) e ∙ tracked-refused 10 (t n) (lit< tt))
-
-results-requires : tie.Need-results-requires
-results-requires c κs =
-    let p = start (c .before) .pre in
-    (p .0, (p .1, sym (beyond-is (c .before)) ∙ c .if1 .left))
+    let f = c .before .before in
+    let s = start f in
+    let some : 0 < f .ten-numbers .result .refusal = omega (arith, c .before .if1 .taken) in
+    c .refused .ensures
+    ∙ sym (tracked-refused (f .ten-numbers .result .refusal) (t s) some)
+    ∙ ap (λ (k : ℕ). tracked k (t s)) (f .ten-numbers .ensures .0)
 
 returns-2 : tie.Need-returns-2
 returns-2 c =
-    let n = c .before .before in
-    c .results .ensures ∙ ap (λ (k : ℕ). tracked k (t n)) (sym (next (t n) (sym (beyond-is n) ∙ c .before .if1 .left)))
+    let e = c .before .before .before .before .before in
+    let f = e .before in
+    let s = start f in
+    let v = s .args .t1 in
+    let z : f .ten-numbers .result .refusal ≡ 0 = e .if1 .left in
+    whole (v .blocks) (v .a) (v .b) (v .c) (v .d) (f .ten-numbers .result .numbers) (f .ten-numbers .ensures .1 z)
+    ∙ ap (λ (k : ℕ). tracked k (t s)) (sym z ∙ f .ten-numbers .ensures .0)
 
 pub judged-spec : {M : Type 1} → statement M
-judged-spec =
-    tie.close
-    (tie.spec
-    any-outside-requires
-    any-outside-requires-2
-    any-outside-requires-3
-    any-outside-requires-4
-    refused-requires
-    returns
-    results-requires
-    returns-2)
+judged-spec = tie.close (tie.spec ten-numbers-requires refused-requires returns returns-2)

@@ -8,7 +8,7 @@ use lib.ListN.{length, drop, length-append, length-drop}
 use Rattle.columns.specs.Placed.{placed}
 use borrow.Author.Needs.{needs}
 use borrow.Author.Tests.{ltb-true}
-use Rattle.reader.proofs.Allowed.{both}
+use Rattle.characters.proofs.Allowed.{both}
 use Rattle.linefile.specs.Files.{endedLength, lines}
 use Rattle.merging.specs.Merge.{merged, joined, mergedFile}
 use Rattle.linefile.proofs.Lines.{length-lines, lines-long, line-file}

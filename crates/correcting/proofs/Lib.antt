@@ -1,0 +1,5 @@
+pub mod Arrays
+pub mod Blocks
+pub mod Refusals
+pub mod Values
+pub mod Largest

@@ -1,0 +1,13 @@
+-- `correcting::refused` meets its contract.
+-- Assumes nothing.
+use mathlib.Core.Path.{refl}
+use Rattle.correcting.specs.Answer.{refusedBy}
+use Rattle.correcting.proofs.refused.Statement.{statement}
+use Rattle.correcting.proofs.refused.Tie as tie
+
+returns : tie.Need-returns
+unfolding refusedBy
+returns c = refl
+
+pub refused-spec : {M : Type 1} → statement M
+refused-spec = tie.close (tie.spec returns)

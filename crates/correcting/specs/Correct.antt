@@ -1,0 +1,70 @@
+-- Correcting (document 01; document 02, Job 3): the corrected values of each kind of a track of n blocks, what of it is refused, and what it is given.
+-- Assumes nothing.
+use Prim.Native.Nat.{ℕ, _*_, _-_, _^_}
+use mathlib.Core.Bool.{Bool, not, _||_}
+use mathlib.Core.List.{List, _++_}
+use lib.IntN.{ℤ, pos}
+use lib.ListN.{length, replicate}
+use Rattle.limits.specs.Limits.{beyond}
+use Rattle.limits.specs.Blocks.{blocksFit}
+use Rattle.limits.specs.Lists.{miscounted, anyBeyond}
+use Rattle.whole.specs.Table.{tabulate}
+use Rattle.exact.specs.Corrected.{at, Given, block, toA, toB}
+use Rattle.series.specs.Smooth.{smoothed}
+
+-- How many blocks a track has: as many as its first column, and 1 tells where the other lists disagree.
+abbrev pub blocks : Given → ℕ
+blocks g = length (g .geometry)
+
+-- The smoothed value of block j.
+unfoldable pub smoothedAt : Given → ℕ → ℤ
+smoothedAt g j = smoothed (block g j)
+
+-- The corrected values A, B, C and D of block j.
+unfoldable pub valueA : Given → ℕ → ℤ
+valueA g j = toA g (pos 1) j (smoothedAt g j)
+
+unfoldable pub valueB : Given → ℕ → ℤ
+valueB g j = toB g (pos 1) j (smoothedAt g j)
+
+unfoldable pub valueC : Given → ℕ → ℤ
+valueC g j = at (g .troposphere) j
+
+unfoldable pub valueD : Given → ℕ → ℤ
+valueD g j = at (g .ionosphere) j
+
+-- The 52 places of a record: the values of n blocks, and 0 in the others.
+unfoldable pub places : (n : ℕ) (value : ℕ → ℤ) → List ℤ
+places n value = tabulate value n ++ replicate (52 - n) (pos 0)
+
+-- 1: the blocks are not from 4 to 52, the measurements are not 15 a block, or the columns disagree.
+unfoldable pub wrongSizes : Given → Bool
+wrongSizes g =
+    let n = blocks g in
+    not (blocksFit n)
+    || (miscounted (15 * n) (g .measurements) || miscounted n (g .relativity) || miscounted n (g .ionosphere)
+    || miscounted n (g .troposphere) || miscounted n (g .clock))
+
+-- 2: some measurement exceeds 10^12 in magnitude, some geometry 2 × 10^11, or some other correction or delay 10^10.
+unfoldable pub outOfLimits : Given → Bool
+outOfLimits g =
+    anyBeyond (10 ^ 12) (g .measurements)
+    || (anyBeyond (2 * 10 ^ 11) (g .geometry) || anyBeyond (10 ^ 10) (g .relativity) || anyBeyond (10 ^ 10) (g .ionosphere)
+    || anyBeyond (10 ^ 10) (g .troposphere) || anyBeyond (10 ^ 10) (g .clock))
+    || (beyond (10 ^ 10) (g .int) || beyond (10 ^ 10) (g .cab) || beyond (10 ^ 10) (g .refdly) || beyond (10 ^ 10) (g .gd))
+
+-- What Track is given, in the order of its parameters.
+abbrev pub given : List ℤ → ℤ → ℤ → ℤ → ℤ → List ℤ → List ℤ → List ℤ → List ℤ → List ℤ → Given
+given measurements int cab refdly gd geometry relativity ionosphere troposphere clock =
+    record {
+      measurements = measurements;
+      int = int;
+      cab = cab;
+      refdly = refdly;
+      gd = gd;
+      geometry = geometry;
+      relativity = relativity;
+      ionosphere = ionosphere;
+      troposphere = troposphere;
+      clock = clock;
+    }

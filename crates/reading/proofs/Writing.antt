@@ -1,0 +1,167 @@
+-- What Line writes in a column may stand in it.
+-- Assumes nothing.
+use mathlib.Core.Path.{_≡_, refl, sym, ap, ap₂, _∙_}
+use mathlib.Core.Bool.{Bool, true, false, _&&_, _||_, or-true}
+use mathlib.Core.List.{List, [], _∷_, _++_, append-assoc}
+use Prim.Native.Nat.{ℕ, zero, suc, _+_, _-_, _/_, _%_, _≤_, _<_}
+use native.Mathlib.Omega.{arith}
+use lib.Dec.{ltb, leb, eqb}
+use lib.IntN.{ℤ, pos, negsuc, natAbs}
+use lib.ListN.{length, length-replicate, replicate-append-replicate}
+use borrow.Author.Tests.{ltb-true, ltb-false, le-leb}
+use Rattle.fields.specs.Text.{decimal, sign, signed, hexDigit, hexadecimal}
+use Rattle.fields.proofs.Laws.{length-decimal, length-signed, length-hexadecimal}
+use Rattle.labels.specs.declared.Labels.{Labels}
+use Rattle.limits.specs.declared.Numbers.{Numbers}
+use Rattle.labels.specs.Labels.{constellationFits, codeFits, labelsFit}
+use Rattle.columns.specs.Text.{clock, trackColumns, clockColumns, delayColumns, columns, spaced}
+use Rattle.columns.proofs.Widths.{length-clock}
+use Rattle.characters.specs.Kinds.{within, letterFits, allows, kinds, allowed}
+use Rattle.reading.specs.Fields.{digits, hexDigits}
+use Rattle.characters.proofs.Allowed.{both, either, letter-is, digit-is, hexadecimal-is, code-is, space-is, allowed-append}
+use Rattle.reading.proofs.AcceptedLine.{fieldKinds, kinds-spaced}
+
+and-true-both : {a b : Bool} → a ≡ true → b ≡ true → a && b ≡ true
+and-true-both p q = ap₂ _&&_ p q
+
+digit-allowed : (n : ℕ) → allows 57 (48 + n % 10) ≡ true
+digit-allowed n = digit-is (48 + n % 10) ∙ ap₂ _&&_ (le-leb 48 (48 + n % 10) (omega arith)) (le-leb (48 + n % 10) 57 (omega arith))
+
+decimal-allowed : (columns n : ℕ) → allowed (digits columns) (decimal columns n) ≡ true
+unfolding decimal allowed
+decimal-allowed zero n = refl
+decimal-allowed (suc columns) n =
+    ap (λ (k : List ℕ). allowed k (decimal columns (n / 10) ++ (48 + n % 10) ∷ [])) (one-more columns)
+    ∙ allowed-append (digits columns) (digits 1) (decimal columns (n / 10)) ((48 + n % 10) ∷ []) (length-replicate columns 57 ∙ sym (length-decimal columns (n / 10)))
+    (decimal-allowed columns (n / 10))
+    (and-true-both (digit-allowed n) refl)
+  where
+    one-more : (n : ℕ) → digits (suc n) ≡ digits n ++ digits 1
+    one-more n = ap digits (more n) ∙ sym (replicate-append-replicate n 1 57)
+      where
+        more : (n : ℕ) → suc n ≡ n + 1
+        more n = omega arith
+
+sign-allowed : (z : ℤ) → allows 43 (sign z) ≡ true
+unfolding allows sign
+sign-allowed (pos n) = refl
+sign-allowed (negsuc n) = refl
+
+signed-allowed : (columns : ℕ) (z : ℤ) → allowed (43 ∷ digits columns) (signed (suc columns) z) ≡ true
+unfolding signed allowed
+signed-allowed columns z = and-true-both (sign-allowed z) (decimal-allowed columns (natAbs z))
+
+figure-allowed : (d : ℕ) → d < 10 → allows 70 (48 + d) ≡ true
+figure-allowed d h =
+    hexadecimal-is (48 + d)
+    ∙ ap (λ (t : Bool). t || within 65 70 (48 + d)) (and-true-both (le-leb 48 (48 + d) (omega arith)) (le-leb (48 + d) 57 (omega arith)))
+
+letter-allowed : (d : ℕ) → 10 ≤ d → d < 16 → allows 70 (65 + d - 10) ≡ true
+letter-allowed d h k =
+    hexadecimal-is (65 + d - 10)
+    ∙ ap (λ (t : Bool). within 48 57 (65 + d - 10) || t) (and-true-both (le-leb 65 (65 + d - 10) (omega arith)) (le-leb (65 + d - 10) 70 (omega arith)))
+    ∙ or-true (within 48 57 (65 + d - 10))
+
+hex-allowed : (n : ℕ) → allows 70 (hexDigit n) ≡ true
+unfolding hexDigit
+hex-allowed n = elim (ltb (n % 16) 10) as (λ t. ltb (n % 16) 10 ≡ t → allows 70 (hexDigit n) ≡ true) [
+  | true ↦ λ e. simp e (figure-allowed (n % 16) (ltb-true (n % 16) 10 e))
+  | false ↦ λ e. simp e (letter-allowed (n % 16) (ltb-false (n % 16) 10 e) (omega arith))
+] refl
+
+hexadecimal-allowed : (n : ℕ) → allowed (hexDigits 2) (hexadecimal n) ≡ true
+unfolding hexadecimal allowed
+hexadecimal-allowed n = and-true-both (hex-allowed (n / 16)) (and-true-both (hex-allowed n) refl)
+
+clock-allowed : (second : ℕ) → allowed (digits 6) (clock second) ≡ true
+unfolding clock
+clock-allowed second =
+    allowed-append (digits 2) (digits 4) (decimal 2 _) _ (sym (length-decimal 2 _)) (decimal-allowed 2 _)
+    (allowed-append (digits 2) (digits 2) (decimal 2 _) _ (sym (length-decimal 2 _)) (decimal-allowed 2 _) (decimal-allowed 2 _))
+
+-- the letter and the code are those of labels that fit
+either-of : {a b c d : Bool} → (a ≡ true → c ≡ true) → (b ≡ true → d ≡ true) → a || b ≡ true → c || d ≡ true
+either-of {a} {b} {c} {d} f g e =
+    either a b e (λ t. ap (λ (x : Bool). x || d) (f t)) (λ t. ap (λ (x : Bool). c || x) (g t) ∙ or-true c)
+
+letter-fits : (letter ioe fr : ℕ) → constellationFits letter ioe fr ≡ true → letterFits letter ≡ true
+unfolding constellationFits letterFits
+letter-fits letter ioe fr =
+    either-of (either-of (either-of (either-of (other 71 255) glonass) (other 69 999)) (other 67 23)) (other 74 255)
+  where
+    other : (c most : ℕ) → eqb letter c && leb ioe most && eqb fr 0 ≡ true → eqb letter c ≡ true
+    other c most e = both (eqb letter c) _ (both (eqb letter c && leb ioe most) _ e .0) .0
+
+    glonass : eqb letter 82 && leb 1 ioe && leb ioe 96 && leb 1 fr && leb fr 24 ≡ true → eqb letter 82 ≡ true
+    glonass e =
+        both (eqb letter 82) _
+        (both (eqb letter 82 && leb 1 ioe) _
+        (both (eqb letter 82 && leb 1 ioe && leb ioe 96) _
+        (both (eqb letter 82 && leb 1 ioe && leb ioe 96 && leb 1 fr) _ e .0) .0) .0) .0
+
+code-fits : (l : Labels) → labelsFit l ≡ true → (constellationFits (l .constellation) (l .ioe) (l .fr) ≡ true)
+    × (codeFits (l .frc1) ≡ true)
+    × (codeFits (l .frc2) ≡ true)
+    × (codeFits (l .frc3) ≡ true)
+unfolding labelsFit
+code-fits l e =
+    let elv = both (letter && leb 1 (l .satellite) && leb (l .satellite) 99 && leb (l .hc) 99 && codes && leb (l .elv) 900) (leb (l .azth) 3599) e in
+    let code = both (letter && leb 1 (l .satellite) && leb (l .satellite) 99 && leb (l .hc) 99 && codes) (leb (l .elv) 900) (elv .0) in
+    let hc = both (letter && leb 1 (l .satellite) && leb (l .satellite) 99 && leb (l .hc) 99) codes (code .0) in
+    let most = both (letter && leb 1 (l .satellite) && leb (l .satellite) 99) (leb (l .hc) 99) (hc .0) in
+    let least = both (letter && leb 1 (l .satellite)) (leb (l .satellite) 99) (most .0) in
+    let third = both (codeFits (l .frc1) && codeFits (l .frc2)) (codeFits (l .frc3)) (hc .1) in
+    let second = both (codeFits (l .frc1)) (codeFits (l .frc2)) (third .0) in
+    (both letter (leb 1 (l .satellite)) (least .0) .0, second .0, second .1, third .1)
+  where
+    letter : Bool
+    letter = constellationFits (l .constellation) (l .ioe) (l .fr)
+
+    codes : Bool
+    codes = codeFits (l .frc1) && codeFits (l .frc2) && codeFits (l .frc3)
+
+-- ---- all columns
+
+-- Columns that may stand in fields of these kinds.
+data Fitting : (fields texts : List (List ℕ)) → Type 0 where
+  none : Fitting [] []
+  one : {k c : List ℕ} {ks cs : List (List ℕ)} → length k ≡ length c → allowed k c ≡ true → Fitting ks cs → Fitting (k ∷ ks) (c ∷ cs)
+
+spaced-allowed : {ks cs : List (List ℕ)} → Fitting ks cs → (rest : List ℕ) → allowed (spaced ks) (spaced cs ++ rest) ≡ true
+unfolding spaced allowed
+spaced-allowed none rest = refl
+spaced-allowed (one {k} {c} {ks} {cs} l e f) rest =
+    ap (allowed (k ++ 32 ∷ spaced ks)) (append-assoc c (32 ∷ spaced cs) rest)
+    ∙ allowed-append k (32 ∷ spaced ks) c (32 ∷ (spaced cs ++ rest)) l e (and-true-both space (spaced-allowed f rest))
+  where
+    space : allows 32 32 ≡ true
+    space = space-is 32
+
+fitting : (l : Labels) (n : Numbers) → labelsFit l ≡ true → Fitting fieldKinds (columns l n)
+unfolding columns trackColumns clockColumns delayColumns allowed
+fitting l n e =
+    let f = code-fits l e in
+    one (ap suc (sym (length-decimal 2 _))) (and-true-both (letter-is _ ∙ letter-fits (l .constellation) (l .ioe) (l .fr) (f .0)) (decimal-allowed 2 _))
+    (one (sym (length-hexadecimal _)) (hexadecimal-allowed _)
+    (one (sym (length-decimal 5 _)) (decimal-allowed 5 _)
+    (one (sym (length-clock _)) (clock-allowed _)
+    (one (sym (length-decimal 4 _)) (decimal-allowed 4 _)
+    (one (sym (length-decimal 3 _)) (decimal-allowed 3 _)
+    (one (sym (length-decimal 4 _)) (decimal-allowed 4 _)
+    (one (sym (length-signed 11 _)) (signed-allowed 10 _)
+    (one (sym (length-signed 6 _)) (signed-allowed 5 _)
+    (one (sym (length-signed 11 _)) (signed-allowed 10 _)
+    (one (sym (length-signed 6 _)) (signed-allowed 5 _)
+    (one (sym (length-decimal 4 _)) (decimal-allowed 4 _)
+    (one (sym (length-decimal 3 _)) (decimal-allowed 3 _)
+    (one (sym (length-decimal 4 _)) (decimal-allowed 4 _)
+    (one (sym (length-signed 4 _)) (signed-allowed 3 _)
+    (one (sym (length-decimal 4 _)) (decimal-allowed 4 _)
+    (one (sym (length-signed 4 _)) (signed-allowed 3 _)
+    (one (sym (length-decimal 2 _)) (decimal-allowed 2 _)
+    (one (sym (length-decimal 2 _)) (decimal-allowed 2 _)
+    (one refl (and-true-both (code-is _ ∙ f .1) (and-true-both (code-is _ ∙ f .2) (and-true-both (code-is _ ∙ f .3) refl))) none)))))))))))))))))))
+
+pub columns-allowed : (l : Labels) (n : Numbers) (rest : List ℕ) → labelsFit l ≡ true → allowed kinds (spaced (columns l n) ++ rest) ≡ true
+columns-allowed l n rest e =
+    ap (λ (k : List ℕ). allowed k (spaced (columns l n) ++ rest)) kinds-spaced ∙ spaced-allowed (fitting l n e) rest

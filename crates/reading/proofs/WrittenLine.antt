@@ -1,0 +1,192 @@
+-- What Line wrote is read back whole (document 02, Job 1), whatever comment may stand behind it.
+-- Assumes nothing.
+use mathlib.Core.Path.{_≡_, refl, sym, ap, ap₂, _∙_}
+use mathlib.Core.Bool.{true, false, _&&_}
+use mathlib.Core.List.{List, [], _++_, append-assoc, append-nil}
+use Prim.Native.Nat.{ℕ, suc, _+_, _-_, _/_, _%_, _≤_, _<_}
+use native.Mathlib.Nat.{add-zero, le-refl}
+use native.Mathlib.Omega.{arith}
+use lib.Dec.{eqb·suc-zero, lit<, lit≤}
+use lib.IntN.{ℤ, pos, negsuc}
+use lib.ListN.{length, take, drop, getD, length-append, length-drop}
+use lib.Seq.{take-at, drop-at, getD-drop, getD-take}
+use borrow.Author.Tests.{le-ltb, eq-eqb}
+use Rattle.limits.proofs.Laws as limits
+use Rattle.schedule.specs.Schedule.{startRule}
+use Rattle.schedule.proofs.Minutes as schedule
+use Rattle.fields.specs.Text.{bytesOf, decimal, sign, signed, hexDigit, hexadecimal, checksum}
+use Rattle.fields.specs.Read.{readDecimal, readSigned}
+use Rattle.fields.proofs.Laws.{length-decimal, read-decimal}
+use Rattle.labels.specs.declared.Labels.{Labels}
+use Rattle.limits.specs.declared.Numbers.{Numbers}
+use Rattle.labels.specs.Labels.{labelsFit, trackLengthFits}
+use Rattle.labels.specs.Content.{contentRule}
+use Rattle.columns.specs.Text.{lineLength, clock, trackColumns, clockColumns, delayColumns, columns, spaced, lineText}
+use Rattle.columns.specs.Columns.{byteIn, field, readLabels, readNumbers}
+use Rattle.columns.proofs.Widths.{columns-sized, columns-width, line-width, column-at}
+use Rattle.line.specs.Line.{lineAnswer, lineAfter}
+use Rattle.line.proofs.Accepted.{Accepted, accepted, after-is}
+use Rattle.line.proofs.Sample as sample
+use Rattle.line.proofs.ReadBack.{numbers-back, labels-back}
+use Rattle.characters.specs.Kinds.{printable, checked}
+use Rattle.characters.proofs.Spelled.{Spelled}
+use Rattle.reading.specs.Read.{signedFields, isMinusZero, minusZero, clockBeyond, readRule}
+use Rattle.reading.proofs.Columns.{columns-of, field-length}
+use Rattle.reading.proofs.Refusals.{Valued, accepted-zero, reply-line}
+use Rattle.reading.proofs.AcceptedLine.{time-joined, answer-zero}
+use Rattle.reading.proofs.Writing.{columns-allowed}
+
+-- a sign that is written is no minus before a zero
+sign-fits : (z : ℤ) → isMinusZero (sign z) z ≡ false
+unfolding isMinusZero sign
+sign-fits (pos n) = refl
+sign-fits (negsuc n) = eqb·suc-zero n
+
+-- the first byte of a field
+first-byte : (width at : ℕ) (line text : List ℕ) → take (suc width) (drop at line) ≡ text → getD line at 0 ≡ getD text 0 0
+first-byte width at line text e =
+    ap (λ (n : ℕ). getD line n 0) (sym (add-zero at))
+    ∙ sym (getD-take (suc width) (drop at line) 0 0 (lit<' width) ∙ getD-drop at line 0 0)
+    ∙ ap (λ (t : List ℕ). getD t 0 0) e
+  where
+    lit<' : (n : ℕ) → 0 < suc n
+    lit<' n = omega arith
+
+-- texts behind each other that are the same have the same parts, where the first ones are as long
+parted : {n : ℕ} {a b c d : List ℕ} → length a ≡ n → length c ≡ n → a ++ b ≡ c ++ d → (a ≡ c) × (b ≡ d)
+parted {n} {a} {b} {c} {d} p q e = (
+  sym (take-at a b n p) ∙ ap (take n) e ∙ take-at c d n q,
+  sym (drop-at a b n p) ∙ ap (drop n) e ∙ drop-at c d n q,
+)
+
+module _ (l : Labels) (n : Numbers) (comment : List ℕ) (a : Accepted l n lineLength) (cl : l .cl < 256) (p : printable comment ≡ true) (few : length comment ≤ 27) where
+  abbrev sum : ℕ
+  sum = checksum (spaced (columns l n))
+
+  abbrev behind : List ℕ
+  behind = hexadecimal sum ++ comment
+
+  abbrev line : List ℕ
+  line = spaced (columns l n) ++ behind
+
+  line-is : lineText l n ++ comment ≡ line
+  unfolding lineText
+  line-is = append-assoc (spaced (columns l n)) (hexadecimal sum) comment
+
+  labels-are : readLabels line ≡ l
+  labels-are = ap readLabels (sym line-is) ∙ labels-back l n lineLength comment a cl
+
+  numbers-are : readNumbers line ≡ n
+  numbers-are = ap readNumbers (sym line-is) ∙ numbers-back l n lineLength comment a
+
+  -- ---- the characters
+
+  before : take 111 line ≡ spaced (columns l n)
+  before = take-at (spaced (columns l n)) behind 111 (columns-width l n)
+
+  after : drop 111 line ≡ behind
+  after = drop-at (spaced (columns l n)) behind 111 (columns-width l n)
+
+  check : checked 111 line ≡ true
+  unfolding checked byteIn hexadecimal
+  check =
+      let first = sym (getD-drop 111 line 0 0) ∙ ap (λ (t : List ℕ). getD t 0 0) after in
+      let second = sym (getD-drop 111 line 1 0) ∙ ap (λ (t : List ℕ). getD t 1 0) after in
+      let s = ap checksum before in
+      ap₂ _&&_ (eq-eqb _ _ (first ∙ ap (λ (k : ℕ). hexDigit (k / 16)) (sym s))) (eq-eqb _ _ (second ∙ ap hexDigit (sym s)))
+
+  length-is : length line ≡ lineLength + length comment
+  length-is = ap length (sym line-is) ∙ length-append (lineText l n) comment ∙ ap (λ (k : ℕ). k + length comment) (line-width l n)
+
+  comment-is : drop lineLength line ≡ comment
+  comment-is = ap (drop lineLength) (sym line-is) ∙ drop-at (lineText l n) comment lineLength (line-width l n)
+
+  spelled : Spelled line
+  spelled =
+      record {
+        least = omega (arith, length-is);
+        most = omega (arith, length-is);
+        check = check;
+        columns = columns-allowed l n behind (a .labels);
+        comment = ap printable comment-is ∙ p;
+      }
+
+  -- ---- the values
+
+  sign-fits-in : (first width : ℕ) (z : ℤ) → take (suc width) (drop (first - 1) line) ≡ signed (suc width) z → readSigned (field first (first + width) line) ≡ z
+      → isMinusZero (byteIn first line) (readSigned (field first (first + width) line)) ≡ false
+  unfolding byteIn signed
+  sign-fits-in first width z e r = ap₂ isMinusZero (first-byte width (first - 1) line _ e) r ∙ sign-fits z
+
+  no-minus : minusZero signedFields line ≡ false
+  unfolding minusZero readNumbers columns trackColumns clockColumns delayColumns
+  no-minus =
+      simp (
+        sign-fits-in 35 10 (n .refsv) (column-at (columns-sized l n) 7 (lit< tt) behind) (ap (λ (m : Numbers). m .refsv) numbers-are),
+        sign-fits-in 47 5 (n .srsv) (column-at (columns-sized l n) 8 (lit< tt) behind) (ap (λ (m : Numbers). m .srsv) numbers-are),
+        sign-fits-in 54 10 (n .refsys) (column-at (columns-sized l n) 9 (lit< tt) behind) (ap (λ (m : Numbers). m .refsys) numbers-are),
+        sign-fits-in 66 5 (n .srsys) (column-at (columns-sized l n) 10 (lit< tt) behind) (ap (λ (m : Numbers). m .srsys) numbers-are),
+        sign-fits-in 87 3 (n .smdt) (column-at (columns-sized l n) 14 (lit< tt) behind) (ap (λ (m : Numbers). m .smdt) numbers-are),
+        sign-fits-in 97 3 (n .smdi) (column-at (columns-sized l n) 16 (lit< tt) behind) (ap (λ (m : Numbers). m .smdi) numbers-are),
+      )
+
+  -- the parts of the time
+  time : (field 14 15 line ≡ decimal 2 (l .start / 3600))
+      × (field 16 17 line ≡ decimal 2 (l .start / 60 % 60))
+      × (field 18 19 line ≡ decimal 2 (l .start % 60))
+  unfolding clock columns trackColumns
+  time =
+      let whole = time-joined line ∙ column-at (columns-sized l n) 3 (lit< tt) behind in
+      let c = columns-of line (spelled .columns) in
+      let hour = parted (field-length (c .hour)) (length-decimal 2 _) whole in
+      let rest = parted (field-length (c .minute)) (length-decimal 2 _) (hour .1) in
+      (hour .0, rest .0, rest .1)
+
+  time-fits : clockBeyond line ≡ false
+  unfolding clockBeyond
+  time-fits =
+      let s = schedule.accepted (l .mjd) (l .start) (a .start) in
+      let hour = ap readDecimal (time .0) ∙ read-decimal 2 (l .start / 3600) (omega (arith, s)) in
+      let minute = ap readDecimal (time .1) ∙ read-decimal 2 (l .start / 60 % 60) (omega arith) in
+      let second = ap readDecimal (time .2) ∙ read-decimal 2 (l .start % 60) (omega arith) in
+      simp (hour, minute, second, le-ltb 23 (l .start / 3600) (omega (arith, s)), le-ltb 59 (l .start / 60 % 60) (omega arith), le-ltb 59 (l .start % 60) (omega arith))
+
+  valued : Valued line
+  valued =
+      record {
+        minus = no-minus;
+        labels = ap labelsFit labels-are ∙ a .labels;
+        trkl = ap (λ (m : Numbers). trackLengthFits (m .trkl)) numbers-are ∙ a .trkl;
+        start = ap (λ (m : Labels). startRule (m .mjd) (m .start)) labels-are ∙ a .start;
+        clock = time-fits;
+      }
+
+  reply-is : readRule (lineText l n ++ comment) ≡ record { number = 0; values = (l, n) }
+  reply-is = ap readRule line-is ∙ sym (reply-line line (accepted-zero line spelled valued) (sym labels-are) (sym numbers-are))
+
+-- ---- the theorems
+
+-- The text of content that Line accepts reads to that content, with a comment of up to 27 printable bytes behind it. CL is a byte.
+pub text-reads-back : (l : Labels) (n : Numbers) (comment : List ℕ) → contentRule l n ≡ 0 → l .cl < 256 → printable comment ≡ true → length comment ≤ 27
+    → readRule (lineText l n ++ comment) ≡ record { number = 0; values = (l, n) }
+text-reads-back l n comment e cl p few =
+    reply-is l n comment (accepted l n lineLength (answer-zero l n lineLength e (le-refl lineLength))) cl p few
+
+-- A lent line in which Line wrote reads to what was written, where it is at most 140 bytes long and what stands behind the columns may be a comment.
+pub written-reads-back : (l : Labels) (n : Numbers) (lent : List ℕ) → lineAnswer l n (length lent) ≡ 0 → l .cl < 256 → length lent ≤ 140
+    → printable (drop lineLength lent) ≡ true → readRule (lineAfter l n lent) ≡ record { number = 0; values = (l, n) }
+unfolding lineAnswer
+written-reads-back l n lent e cl most p =
+    ap readRule (after-is l n lent e)
+    ∙ text-reads-back l n (drop lineLength lent) (limits.then-zero _ _ e .0) cl p (rw length-drop (few (length lent) most))
+  where
+    few : (k : ℕ) → k ≤ 140 → k - 113 ≤ 27
+    few k h = omega arith
+
+-- The sample line of document 01 reads to its labels and numbers.
+pub sample-reads : readRule (bytesOf "G05 FF 50722 000200 0780 450 1800 +0000000010 +00000 +0000000010 +00000 0000 007 0000 +000 0000 +000 00 00 L1C 26")
+    ≡ record { number = 0; values = (sample.labels, sample.numbers) }
+unfolding lineAnswer printable
+sample-reads =
+    ap readRule (sym (append-nil (lineText sample.labels sample.numbers) ∙ sample.sample))
+    ∙ text-reads-back sample.labels sample.numbers [] (limits.then-zero _ _ sample.sample-accepted .0) (lit< tt) refl (lit≤ tt)

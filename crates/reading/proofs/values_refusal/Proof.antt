@@ -1,0 +1,57 @@
+-- `reading::values_refusal` meets its contract: the row of tests is the rule's, for a line whose characters are those of its columns.
+-- Assumes nothing.
+use mathlib.Core.Path.{ap, ap₂, _∙_}
+use mathlib.Core.Bool.{Bool}
+use Rattle.limits.specs.Refusal.{_when_, _then_}
+use Rattle.labels.specs.Content.{contentRule}
+use Rattle.reading.proofs.Refusals.{values-row}
+use borrow.Author.Needs.{needs}
+use Rattle.reading.proofs.values_refusal.Statement.{statement}
+use Rattle.reading.proofs.values_refusal.Tie as tie
+
+minus-zero-requires : tie.Need-minus-zero-requires
+minus-zero-requires c κs = search needs
+
+when-requires : tie.Need-when-requires
+when-requires c κs = search needs
+
+refusal-requires : tie.Need-refusal-requires
+refusal-requires c κs = search needs
+
+clock-beyond-requires : tie.Need-clock-beyond-requires
+clock-beyond-requires c κs = search needs
+
+when-requires-2 : tie.Need-when-requires-2
+when-requires-2 c κs = search needs
+
+then-requires : tie.Need-then-requires
+then-requires c κs = search needs
+
+then-requires-2 : tie.Need-then-requires-2
+then-requires-2 c κs = search needs
+
+returns : tie.Need-returns
+returns c =
+    let clock = c .before .before in
+    let label = clock .before .before in
+    let minus = label .before in
+    let s = minus .before .before .before in
+    c .then2 .ensures
+    ∙ ap₂ _then_ (minus .when .ensures ∙ ap (λ (t : Bool). 13 when t) (minus .before .minus-zero .ensures))
+    (c .before .«then» .ensures
+    ∙ ap₂ _then_ (label .refusal .ensures ∙ ap₂ contentRule (s .pre .1 .0) (s .pre .1 .1))
+    (clock .when2 .ensures ∙ ap (λ (t : Bool). 8 when t) (clock .before .clock-beyond .ensures)))
+    ∙ values-row (s .args .line .now) (s .pre .0)
+
+pub values-refusal-spec : {M : Type 1} → statement M
+values-refusal-spec =
+    tie.close
+    (tie.spec
+    minus-zero-requires
+    when-requires
+    refusal-requires
+    clock-beyond-requires
+    when-requires-2
+    then-requires
+    then-requires-2
+    returns)
