@@ -16,7 +16,7 @@
 # make install       the programs, the libraries, the header, the manual pages: make install PREFIX=/usr/local DESTDIR=
 # make uninstall     remove what install put there, with the same PREFIX and DESTDIR; folders stay
 # make clean         remove target/, which holds everything that was built
-VERSION := 1.3.0
+VERSION := 1.4.0
 BLOCK ?= examples/sample.blk
 PREFIX ?= /usr/local
 SECONDS ?= 120
@@ -48,7 +48,7 @@ PROGRAM_SOURCES := $(shell find crates -name must-fail -prune -o -path 'crates/t
 PROGRAMS := $(PROGRAM) $(CGGTTS) tools/hireblock
 PAGES := $(wildcard man/*.[1-8])
 DOCUMENTS := docs/REFUSALS.md docs/HIRE-BLOCK.md docs/COMMON-VIEW.md docs/common-view.svg docs/SHARED-OFFSET.md
-EXAMPLES := examples/receiver.c examples/sample.txt examples/sample.blk examples/short.txt examples/short.blk examples/first.cggtts examples/second.cggtts examples/week.cggtts examples/roof-a.cggtts examples/roof-b.cggtts
+EXAMPLES := examples/receiver.c examples/sample.txt examples/sample.blk examples/short.txt examples/short.blk examples/changed.txt examples/changed.blk examples/first.cggtts examples/second.cggtts examples/week.cggtts examples/roof-a.cggtts examples/roof-b.cggtts
 TWO_TRACKS := $(wildcard examples/shared/*)
 INSTALLS := $(addprefix bin/,$(notdir $(PROGRAMS))) include/trackline.h lib/libtrackline.a lib/$(SONAME) \
 	lib/libtrackline.so lib/pkgconfig/trackline.pc \
@@ -128,11 +128,14 @@ described:
 	python3 tests/edits/test_edits.py
 	tools/edits
 	python3 tests/published/expected.py --check
+	python3 tests/boundary/mutants.py --applies
 	tools/hireblock pack examples/sample.txt | cmp - examples/sample.blk
 	tools/worked | cmp - examples/worked.txt
 	tools/hireblock pack examples/worked.txt | cmp - examples/worked.blk
 	tools/worked --short | cmp - examples/short.txt
 	tools/hireblock pack examples/short.txt | cmp - examples/short.blk
+	tools/worked --changed | cmp - examples/changed.txt
+	tools/hireblock pack examples/changed.txt | cmp - examples/changed.blk
 	tools/week first | cmp - examples/first.cggtts
 	tools/week second | cmp - examples/second.cggtts
 	tools/week both | cmp - examples/week.cggtts
@@ -145,6 +148,7 @@ described:
 	tools/lastdigit --check docs/LAST-DIGIT.md
 	tools/lastdigit --program target/bin/trackline
 	tools/lastdigit examples/short.blk --program target/bin/trackline
+	tools/lastdigit examples/changed.blk --program target/bin/trackline
 	tools/lastdigit --svg target/last-digit.svg && cmp target/last-digit.svg docs/last-digit.svg
 	tools/definitions --check docs/TRUST.md
 	tools/architecture --check docs/ARCHITECTURE.md

@@ -1,14 +1,16 @@
 /*
  * Refusals 3 to 6: which of the figures does not fit. The library answers the number alone, so the figures are worked
- * out here once more, by the rules of the paper and for the message only; nothing here is proved. The sizes and the
- * limits on the block's numbers are known to hold, so everything but the sum of squares fits 64 bits.
+ * out here once more, by the rules of the paper and for the message only; nothing here is proved. Values are in tenths of a
+ * ps. The sizes and the limits on the block's numbers are known to hold, so a value is below 1.7e13, and everything but the sum
+ * of squares fits 64 bits: the largest number there is stays below 6e18.
  */
 #include "cggtts.h"
 
 #include <inttypes.h>
 #include <math.h>
 
-enum { MOST = TRACKLINE_GROUPS, SPAN = TRACKLINE_MEASUREMENTS_OF(1) };
+/* The most blocks, the measurements of one, and the steps of a ps. */
+enum { MOST = TRACKLINE_GROUPS, SPAN = TRACKLINE_MEASUREMENTS_OF(1), STEPS = 10 };
 
 static const int64_t WEIGHTS[SPAN] = {-78, -13, 42, 87, 122, 147, 162, 167, 162, 147, 122, 87, 42, -13, -78};
 
@@ -18,7 +20,7 @@ static int64_t smoothed(const uint8_t *block, size_t j)
     for (size_t i = 0; i < SPAN; i++) {
         sum += WEIGHTS[i] * measurement_at(block, SPAN * j + i);
     }
-    return nearest(sum, 1105);
+    return nearest(STEPS * sum, 1105);
 }
 
 /* The corrected values of each kind, and how many there are. */
@@ -27,17 +29,23 @@ struct values {
     int64_t a[MOST], b[MOST], c[MOST], d[MOST];
 };
 
+/* A correction, which the block has in ps. */
+static int64_t steps_at(const uint8_t *block, size_t j, size_t in_group)
+{
+    return STEPS * correction_at(block, j, in_group);
+}
+
 static void correct(const uint8_t *block, struct values *values)
 {
-    int64_t delays = ps_at(block, TRACKLINE_AT_INT) + ps_at(block, TRACKLINE_AT_CAB) - ps_at(block, TRACKLINE_AT_REF)
-        + ps_at(block, TRACKLINE_AT_GD);
+    int64_t delays = STEPS * (ps_at(block, TRACKLINE_AT_INT) + ps_at(block, TRACKLINE_AT_CAB)
+                              - ps_at(block, TRACKLINE_AT_REF) + ps_at(block, TRACKLINE_AT_GD));
     values->count = groups_of(block);
     for (size_t j = 0; j < values->count; j++) {
-        values->c[j] = correction_at(block, j, TRACKLINE_IN_GROUP_TROPOSPHERE);
-        values->d[j] = correction_at(block, j, TRACKLINE_IN_GROUP_IONOSPHERE);
-        values->a[j] = smoothed(block, j) - delays - correction_at(block, j, TRACKLINE_IN_GROUP_GEOMETRY)
-            + correction_at(block, j, TRACKLINE_IN_GROUP_RELATIVITY) - values->d[j] - values->c[j];
-        values->b[j] = values->a[j] + correction_at(block, j, TRACKLINE_IN_GROUP_CLOCK);
+        values->c[j] = steps_at(block, j, TRACKLINE_IN_GROUP_TROPOSPHERE);
+        values->d[j] = steps_at(block, j, TRACKLINE_IN_GROUP_IONOSPHERE);
+        values->a[j] = smoothed(block, j) - delays - steps_at(block, j, TRACKLINE_IN_GROUP_GEOMETRY)
+            + steps_at(block, j, TRACKLINE_IN_GROUP_RELATIVITY) - values->d[j] - values->c[j];
+        values->b[j] = values->a[j] + steps_at(block, j, TRACKLINE_IN_GROUP_CLOCK);
     }
 }
 
@@ -70,11 +78,11 @@ static double scatter(const int64_t *values, size_t n)
     double squares = 0;
     sum_up(values, n, &total, &moment);
     for (size_t j = 0; j < n; j++) {
-        int64_t over_span = span * values[j] - span / (int64_t)n * total - 3 * place(j, n) * moment;
-        double residual = (double)nearest(over_span, span);
+        int64_t line = span / (int64_t)n * total + 3 * place(j, n) * moment;
+        double residual = (double)(values[j] + nearest(-line, span));
         squares += residual * residual;
     }
-    return floor((sqrt(squares / (double)n) + 50) / 100);
+    return floor((sqrt(squares / (double)n) + 50 * STEPS) / (100 * STEPS));
 }
 
 static void judge(const char *name, int64_t figure, int64_t low, int64_t high)
@@ -89,14 +97,14 @@ static int64_t midpoint(const int64_t *values, size_t n)
 {
     int64_t total, moment;
     sum_up(values, n, &total, &moment);
-    return nearest(total, 100 * (int64_t)n);
+    return nearest(total, 100 * STEPS * (int64_t)n);
 }
 
 static int64_t slope(const int64_t *values, size_t n)
 {
     int64_t total, moment;
     sum_up(values, n, &total, &moment);
-    return nearest(4 * moment, span_of(n));
+    return nearest(4 * moment, STEPS * span_of(n));
 }
 
 void explain_figures(const uint8_t *block, uint32_t number)

@@ -7,9 +7,8 @@
 /* The nearest whole number to numerator / divisor, a tie going up. The divisor is above 0. */
 int64_t nearest(int64_t numerator, int64_t divisor)
 {
-    int64_t doubled = 2 * numerator + divisor;
-    int64_t quotient = doubled / (2 * divisor);
-    return quotient - (doubled % (2 * divisor) < 0);
+    int64_t raised = numerator + divisor / 2;
+    return raised / divisor - (raised % divisor < 0);
 }
 
 /* A whole number of tenths, or of hundredths and so on, in a room of DECIMAL_ROOM bytes. */

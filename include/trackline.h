@@ -117,6 +117,11 @@ enum trackline_refusal {
 /*
  * The line of a hire block. Tried in this order: 11 for a block under 4 bytes, 1, 11 for any other wrong length, 2, 10, 3,
  * 4, 5, 6, then the labels' 7 and 8, then 9.
+ *
+ * A block is in whole ps; since version 1.4.0 the values that are made of it are kept in tenths of a ps. For some tracks
+ * REFSV, SRSV, REFSYS, SRSYS or DSG is another by one unit than from earlier versions, and no other column but CK; next to
+ * a limit 3, 4 or 6 can come or go.
+ * "pkg-config --modversion trackline" says which version is installed.
  */
 uint32_t trackline_block(const uint8_t *block, size_t block_len, uint8_t *line, size_t line_len);
 

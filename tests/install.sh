@@ -47,7 +47,7 @@ sed -n 's/^    \$ \(cggtts merge\|cmp\) /\1 /p' README.md >"$scratch/commands"
     cd "$prefix/share/trackline/examples"
     PATH=$prefix/bin:$PATH bash -eu "$scratch/commands"
     rm merged.cggtts
-) || fail "the README's merge"
+) & wait $! || fail "the README's merge"
 cmp examples/week.cggtts "$prefix/share/trackline/examples/week.cggtts"
 
 # the installed paper's run on the installed examples, and its picture
@@ -59,18 +59,18 @@ cmp examples/week.cggtts "$prefix/share/trackline/examples/week.cggtts"
     sed -n '/^    \$ cggtts view/,/^$/ s/^    \([^$].*\)/\1/p' "$prefix/share/doc/trackline/COMMON-VIEW.md" | cmp - "$scratch/report"
     cmp common-view.svg "$prefix/share/doc/trackline/common-view.svg"
     rm common-view.svg
-) || fail "the run in COMMON-VIEW.md"
+) & wait $! || fail "the run in COMMON-VIEW.md"
 (
     cd "$prefix/share/trackline/examples/shared"
-    sed -n 's/^    \$ \(cggtts .*\)/\1/p' "$prefix/share/doc/trackline/SHARED-OFFSET.md" >"$scratch/commands"
-    [ "$(wc -l <"$scratch/commands")" -eq 4 ]
+    sed -n 's/^    \$ \(cggtts .*\)/\1/p' "$prefix/share/doc/trackline/SHARED-OFFSET.md" | grep -v mine >"$scratch/commands"
+    [ "$(wc -l <"$scratch/commands")" -eq 5 ]
     PATH=$prefix/bin:$PATH bash -eu "$scratch/commands" | tr -d '\r' >"$scratch/report"
     sed -n 's/^    \([^$].*\)/\1/p' "$prefix/share/doc/trackline/SHARED-OFFSET.md" | cmp - "$scratch/report"
-    for track in one two one-plus-50 two-plus-50 one-plus-300 two-plus-300; do
+    for track in one two one-plus-10 two-plus-10 one-plus-50 two-plus-50 one-plus-300 two-plus-300; do
         "$prefix/bin/hireblock" pack $track.txt | cmp - $track.blk
         "$prefix/bin/cggtts" line $track.blk | cmp - $track.cggtts
     done
-) || fail "the runs in SHARED-OFFSET.md"
+) & wait $! || fail "the runs in SHARED-OFFSET.md"
 cmp docs/REFUSALS.md "$prefix/share/doc/trackline/REFUSALS.md"
 cmp docs/HIRE-BLOCK.md "$prefix/share/doc/trackline/HIRE-BLOCK.md"
 
@@ -92,7 +92,7 @@ HOME=$scratch/home bash -eu "$scratch/commands" >"$scratch/log" 2>&1 || {
     PKG_CONFIG_PATH=$prefix/lib/pkgconfig bash -eu "$scratch/commands"
     env -u LD_LIBRARY_PATH ./receiver | cmp - "$expected"
     rm receiver
-) || fail "the command in the head of receiver.c"
+) & wait $! || fail "the command in the head of receiver.c"
 
 # the commands in the samples' own heads, with the installed programs
 (
@@ -107,7 +107,7 @@ HOME=$scratch/home bash -eu "$scratch/commands" >"$scratch/log" 2>&1 || {
     done
     cut -c21-24 "$scratch/line" | grep -qx 0300
     "$prefix/bin/cggtts" line sample.blk | cmp - "$expected"
-) || fail "the commands in the heads of the samples"
+) & wait $! || fail "the commands in the heads of the samples"
 
 # what the installed papers name is there: no link leads out of the folder, and no path is that of the sources
 for paper in "$prefix"/share/doc/trackline/*.md; do

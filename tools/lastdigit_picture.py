@@ -64,8 +64,8 @@ class Axes:
 
 
 def correction(track, j):
-    """What turns the smoothed value of a block into its B."""
-    return track.rounded['B'][j] - track.smoothed[j]
+    """What turns the smoothed value of a block into its B, in ps."""
+    return Fraction(track.rounded['B'][j] - track.smoothed[j], track.steps)
 
 
 def corrected(track, second):
@@ -89,7 +89,7 @@ def values_panel(track, exact):
     middle = Fraction(779, 2)
     yield stroke(axes.x(t1 + middle), axes.y(y1), axes.x(t2 + middle), axes.y(y2), RED, 2)
     values = enumerate(track.rounded['B'])
-    yield from (dot(axes.x(7 + 15 * j), axes.y(Fraction(b, 1000)), 3.4, BLUE) for j, b in values)
+    yield from (dot(axes.x(7 + 15 * j), axes.y(Fraction(b, 1000 * track.steps)), 3.4, BLUE) for j, b in values)
     yield from midpoint_mark(axes, exact)
     yield from legend(RIGHT - 330, 74)
 
@@ -110,7 +110,8 @@ def legend(x, y):
 
 
 def residuals_panel(fit, exact):
-    reach = 300 * (1 + max(abs(r) for r in fit.residuals) // 300)
+    residuals = [Fraction(r, fit.steps) for r in fit.residuals]
+    reach = 300 * (1 + max(map(abs, residuals)) // 300)
     axes = Axes(494, 644, -reach, reach, 300)
     yield words(LEFT, 480, 'Residuals of B from the line, enlarged', kind='head')
     for sign in (1, -1):
@@ -118,7 +119,7 @@ def residuals_panel(fit, exact):
         yield stroke(LEFT, y, RIGHT, y, RED, 1.2, '6 4')
     yield from axes.draw('residual in ps')
     yield stroke(LEFT, axes.y(0), RIGHT, axes.y(0))
-    for j, r in enumerate(fit.residuals):
+    for j, r in enumerate(residuals):
         x = axes.x(7 + 15 * j)
         yield stroke(x, axes.y(0), x, axes.y(r), BLUE, 2)
         yield dot(x, axes.y(r), 2.6, BLUE)
@@ -192,15 +193,16 @@ def nearest_tie(value, unit):
 def refsys_panel(fit, exact):
     decides, tie = Fraction(fit.s, fit.midpoints), nearest_tie(exact.midpoint, Fraction(1))
     labels = ('S / %d = %.6f' % (fit.midpoints, float(decides)), 'exact: %.6f' % float(exact.midpoint))
-    yield from digit_panel(726, 'REFSYS', fit.midpoint, tie, Fraction(1), Fraction(1, 200), (decides, exact.midpoint),
-                           labels, '%.4f', '0.1 ns')
+    yield from digit_panel(726, 'REFSYS', fit.midpoint, tie, Fraction(1), Fraction(1, 200 * fit.steps),
+                           (decides, exact.midpoint), labels, '%.5f', '0.1 ns')
 
 
 def dsg_panel(fit, exact):
-    decides, root = Fraction((fit.q / fit.n) ** 0.5), Fraction(exact.root)
+    decides, root = Fraction(fit.root()), Fraction(exact.root)
     tie = nearest_tie(root, Fraction(100))
-    labels = ('root of Q / %d = %.4f' % (fit.n, float(decides)), 'exact root mean square: %.4f' % float(root))
-    yield from digit_panel(930, 'DSG', fit.dsg, tie, Fraction(100), Fraction(1), (decides, root), labels, '%.1f', 'ps')
+    labels = ('root of Q / %d: %.4f' % (fit.n, float(decides)), 'exact root mean square: %.4f' % float(root))
+    yield from digit_panel(930, 'DSG', fit.dsg, tie, Fraction(100), Fraction(1, fit.steps), (decides, root), labels, '%.2f',
+                           'ps')
 
 
 def note():

@@ -9,7 +9,7 @@ import re
 from fractions import Fraction
 
 # the last rounding of a REFSYS, and what is promised of it, in 0.1 ns
-ROUNDING, PROMISE = Fraction(1, 2), Fraction(51, 100)
+ROUNDING, PROMISE = Fraction(1, 2), Fraction(5005, 10000)
 UNITS = ('0.1 ns',)
 # what makes a phrase behind it a part of another figure
 PARTS = tuple('0123456789.')

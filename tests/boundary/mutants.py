@@ -2,6 +2,7 @@
 """Shows that the boundary test notices a wrong program.
 
     python3 tests/boundary/mutants.py [WORD..]     all, or those whose name has one of the words
+    python3 tests/boundary/mutants.py --applies    only whether each can still be made, without building it
 
 For each mutant the plain Rust implementation is copied, made wrong in one way, built as an archive with the C
 functions, and put in the place of the proved one. The boundary test must then fail. A twin is wrong in the same way in
@@ -85,11 +86,16 @@ pub unsafe extern "C" fn trackline_view(
 }
 '''
 LEFT = 'n * (n * n - 1) * v - (n * n - 1) * s - 3 * place(n, j) * t'
-RESIDUAL = 'let residual = nearest(%s, n * (n * n - 1));' % LEFT
-MIDPOINT = 'nearest(s, 100 * n)'
-SLOPE = 'nearest(4 * t, n * (n * n - 1))'
+RESIDUAL = 'let residual = v + nearest(-(n * n - 1) * s - 3 * place(n, j) * t, n * (n * n - 1));'
+MIDPOINT = 'nearest(s, 100 * STEPS * n)'
+SLOPE = 'nearest(4 * t, STEPS * n * (n * n - 1))'
 SQUARE = 'q += i128::from(residual) * i128::from(residual);'
-SMOOTHED = 'Ok(nearest(sum, 1105))'
+MOST_SQUARES = 'q >= threshold::<STEPS>(n, MOST_DSG + 1)'
+SMOOTHED = 'Ok(nearest(STEPS * sum, 1105))'
+TROPOSPHERE = 'c[j] = STEPS * columns.troposphere[j]'
+IONOSPHERE = 'd[j] = STEPS * columns.ionosphere[j]'
+SCATTERED = 'numbers.dsg = scatter_in::<STEPS>(&b[..n])?;'
+DELAYS = 'smoothed - STEPS * (delays.int + delays.cab - delays.refdly)'
 COPY = 'lent[..LINE_BYTES].copy_from_slice(&line_text(labels, numbers));'
 JUDGED = 'if let Err(refusal) = judge(labels, numbers, lent.len()) {'
 LABELS = 'if !labels.in_range() || !numbers.length_fits() {'
@@ -122,29 +128,29 @@ REPORT = 'lent[..REPORT_VALUES].copy_from_slice(&[pairs, sum, smallest, largest]
 # name, then file, text and what to write for it, as often as needed
 MUTANTS = [
     # what the paper calls plausible and wrong
-    ('ties away from zero', 'lib.rs', '(2 * n + d).div_euclid(2 * d)',
-     '(2 * n.abs() + d).div_euclid(2 * d) * n.signum()'),
+    ('ties away from zero', 'lib.rs', '(n + d / 2).div_euclid(d)',
+     '(n.abs() + d / 2).div_euclid(d) * n.signum()'),
     ('residuals divided by 50', 'fit.rs', 'n as i128 * root * root', '50 * root * root'),
-    ('midpoint at second 390', 'fit.rs', MIDPOINT, 'nearest(5 * (n * n - 1) * s + t, 500 * n * (n * n - 1))'),
+    ('midpoint at second 390', 'fit.rs', MIDPOINT, 'nearest(5 * (n * n - 1) * s + t, 500 * STEPS * n * (n * n - 1))'),
     ('REFSYS from rounded terms', 'track.rs', 'refsys: line_b.midpoint',
-     'refsys: line_a.midpoint + fit(columns.clock)?.midpoint'),
+     'refsys: line_a.midpoint + fit(&columns.clock.iter().map(|v| STEPS * v).collect::<Vec<i64>>())?.midpoint'),
     ('REF subtracted with CAB', 'track.rs', 'delays.cab - delays.refdly', 'delays.cab + delays.refdly'),
     ('checksum through its own columns', 'line.rs', 'text.hexadecimal(check);',
      'text.hexadecimal(check); let own = text.sum(); text.len -= 2; text.hexadecimal(own);'),
     # roundings
-    ('smoothed value floored', 'fit.rs', SMOOTHED, 'Ok(sum.div_euclid(1105))'),
-    ('smoothed value cut', 'fit.rs', SMOOTHED, 'Ok(sum / 1105)'),
-    ('smoothed value up a little early', 'fit.rs', SMOOTHED, 'Ok((sum + 553).div_euclid(1105))'),
-    ('smoothed value up a little late', 'fit.rs', SMOOTHED, 'Ok((sum + 551).div_euclid(1105))'),
+    ('smoothed value floored', 'fit.rs', SMOOTHED, 'Ok((STEPS * sum).div_euclid(1105))'),
+    ('smoothed value cut', 'fit.rs', SMOOTHED, 'Ok(STEPS * sum / 1105)'),
+    ('smoothed value up a little early', 'fit.rs', SMOOTHED, 'Ok((STEPS * sum + 555).div_euclid(1105))'),
+    ('smoothed value up a little late', 'fit.rs', SMOOTHED, 'Ok((STEPS * sum + 549).div_euclid(1105))'),
     ('smoothed value the plain mean', 'fit.rs', SMOOTHED,
-     '{ let _ = sum; Ok(nearest(measurements.iter().sum(), 15)) }'),
-    ('midpoint ties away', 'fit.rs', MIDPOINT, 'nearest(s.abs(), 100 * n) * s.signum()'),
-    ('midpoint ties down', 'fit.rs', MIDPOINT, '-nearest(-s, 100 * n)'),
-    ('midpoint cut', 'fit.rs', MIDPOINT, '(s + 50 * n) / (100 * n)'),
-    ('slope cut', 'fit.rs', SLOPE, '(8 * t + n * (n * n - 1)) / (2 * n * (n * n - 1))'),
-    ('slope ties down', 'fit.rs', SLOPE, '-nearest(-4 * t, n * (n * n - 1))'),
-    ('slope up a little early', 'fit.rs', SLOPE, 'nearest(4 * t + 4, n * (n * n - 1))'),
-    ('slope over 35140', 'fit.rs', SLOPE, 'nearest(4 * t, n * (n * n - 1) + 4)'),
+     '{ let _ = sum; Ok(nearest(STEPS * measurements.iter().sum::<i64>(), 15)) }'),
+    ('midpoint ties away', 'fit.rs', MIDPOINT, 'nearest(s.abs(), 100 * STEPS * n) * s.signum()'),
+    ('midpoint ties down', 'fit.rs', MIDPOINT, '-nearest(-s, 100 * STEPS * n)'),
+    ('midpoint cut', 'fit.rs', MIDPOINT, '(s + 50 * STEPS * n) / (100 * STEPS * n)'),
+    ('slope cut', 'fit.rs', SLOPE, '(8 * t + STEPS * n * (n * n - 1)) / (2 * STEPS * n * (n * n - 1))'),
+    ('slope ties down', 'fit.rs', SLOPE, '-nearest(-4 * t, STEPS * n * (n * n - 1))'),
+    ('slope up a little early', 'fit.rs', SLOPE, 'nearest(4 * t + 4, STEPS * n * (n * n - 1))'),
+    ('slope over 351391', 'fit.rs', SLOPE, 'nearest(4 * t, STEPS * n * (n * n - 1) + 4)'),
     ('residual ties away', 'fit.rs', RESIDUAL, 'let x = %s; '
      'let residual = nearest(x.abs(), n * (n * n - 1)) * x.signum();' % LEFT),
     ('residual ties down', 'fit.rs', RESIDUAL, 'let residual = -nearest(-(%s), n * (n * n - 1));' % LEFT),
@@ -153,25 +159,26 @@ MUTANTS = [
     ('squares summed in 64 bits', 'fit.rs', SQUARE,
      'q = i128::from((q as u64).wrapping_add((residual as u64).wrapping_mul(residual as u64)));'),
     ('squares in 64 bits', 'fit.rs', SQUARE, 'q += i128::from(residual.wrapping_mul(residual));'),
-    ('DSG below its threshold', 'fit.rs', 'if threshold(n, d) <= q', 'if threshold(n, d) < q'),
-    ('DSG one too many', 'fit.rs', 'q >= threshold(n, MOST_DSG + 1)', 'q > threshold(n, MOST_DSG + 1)'),
-    ('DSG one too few', 'fit.rs', 'q >= threshold(n, MOST_DSG + 1)', 'q >= threshold(n, MOST_DSG)'),
+    ('DSG below its threshold', 'fit.rs', 'if threshold::<STEPS>(n, d) <= q', 'if threshold::<STEPS>(n, d) < q'),
+    ('DSG one too many', 'fit.rs', MOST_SQUARES, 'q > threshold::<STEPS>(n, MOST_DSG + 1)'),
+    ('DSG one too few', 'fit.rs', MOST_SQUARES, 'q >= threshold::<STEPS>(n, MOST_DSG)'),
     ('DSG floored', 'fit.rs', '100 * d - 50', '100 * d'),
     ('a weight moved', 'fit.rs', '147, 162, 167, 162', '147, 161, 168, 162'),
     ('weights askew', 'fit.rs', '42, -13, -78]', '42, -14, -77]'),
     ('first block copied', 'track.rs', '[BLOCK_SECONDS * j..BLOCK_SECONDS * (j + 1)]', '[..BLOCK_SECONDS]'),
     # corrections
-    ('geometry added', 'track.rs', '- columns.geometry[j]', '+ columns.geometry[j]'),
-    ('relativity subtracted', 'track.rs', '+ columns.relativity[j]', '- columns.relativity[j]'),
-    ('ionosphere added', 'track.rs', '- columns.ionosphere[j]', '+ columns.ionosphere[j]'),
-    ('troposphere added', 'track.rs', '- columns.troposphere[j]', '+ columns.troposphere[j]'),
-    ('GD added', 'track.rs', '- delays.gd;', '+ delays.gd;'),
-    ('GD forgotten', 'track.rs', '- delays.gd;', ';'),
-    ('clock subtracted', 'track.rs', 'a[j] + columns.clock[j]', 'a[j] - columns.clock[j]'),
-    ('C and D exchanged', 'track.rs', 'c[j] = columns.troposphere[j]', 'c[j] = columns.ionosphere[j]',
-     'track.rs', 'd[j] = columns.ionosphere[j]', 'd[j] = columns.troposphere[j]'),
-    ('a picosecond lost in A', 'track.rs', '- delays.gd;', '- delays.gd - i64::from(j == 17);'),
-    ('a picosecond lost in B', 'track.rs', '+ columns.clock[j];', '+ columns.clock[j] - i64::from(j + 1 == n);'),
+    ('geometry added', 'track.rs', '- STEPS * columns.geometry[j]', '+ STEPS * columns.geometry[j]'),
+    ('relativity subtracted', 'track.rs', '+ STEPS * columns.relativity[j]', '- STEPS * columns.relativity[j]'),
+    ('ionosphere added', 'track.rs', '- STEPS * columns.ionosphere[j]', '+ STEPS * columns.ionosphere[j]'),
+    ('troposphere added', 'track.rs', '- STEPS * columns.troposphere[j]', '+ STEPS * columns.troposphere[j]'),
+    ('GD added', 'track.rs', '- STEPS * delays.gd;', '+ STEPS * delays.gd;'),
+    ('GD forgotten', 'track.rs', '- STEPS * delays.gd;', ';'),
+    ('clock subtracted', 'track.rs', 'a[j] + STEPS * columns.clock[j]', 'a[j] - STEPS * columns.clock[j]'),
+    ('C and D exchanged', 'track.rs', TROPOSPHERE, TROPOSPHERE.replace('tropo', 'iono'),
+     'track.rs', IONOSPHERE, IONOSPHERE.replace('iono', 'tropo')),
+    ('a tenth lost in A', 'track.rs', '- STEPS * delays.gd;', '- STEPS * delays.gd - i64::from(j == 17);'),
+    ('a tenth lost in B', 'track.rs', '+ STEPS * columns.clock[j];',
+     '+ STEPS * columns.clock[j] - i64::from(j + 1 == n);'),
     # limits
     ('measurement limit up', 'fit.rs', 'i64 = 1_000_000_000_000', 'i64 = 1_000_000_000_001'),
     ('measurement limit down', 'fit.rs', 'i64 = 1_000_000_000_000', 'i64 = 999_999_999_999'),
@@ -201,8 +208,8 @@ MUTANTS = [
     ('4 before 3', 'track.rs', 'if !within(self.refsv',
      'if !within(self.srsv, 99_999) { return Err(4); }\nif !within(self.refsv'),
     ('5 before 4', 'track.rs', 'let slopes =', 'if self.mdio < 0 { return Err(5); }\nlet slopes ='),
-    ('6 before 3 in Track', 'track.rs', 'numbers.check_fits()?;\n    numbers.dsg = scatter(&b[..n])?;',
-     'numbers.dsg = scatter(&b[..n])?;\n    numbers.check_fits()?;'),
+    ('6 before 3 in Track', 'track.rs', 'numbers.check_fits()?;\n    ' + SCATTERED,
+     SCATTERED + '\n    numbers.check_fits()?;'),
     ('6 before 3 in Line', 'line.rs', 'numbers.check_fits()?;\n',
      'numbers.check_dsg()?;\n    numbers.check_fits()?;\n'),
     ('3 before 8 in Line', 'line.rs', 'if start(labels.mjd', 'numbers.check_fits()?;\n    if start(labels.mjd'),
@@ -353,22 +360,57 @@ MUTANTS = [
      '[6298.min(block.len() - 40 * n - 8)..]'),
     ('all 52 places fitted', 'track.rs', '(fit(&a[..n])?, fit(&b[..n])?, fit(&c[..n])?, fit(&d[..n])?)',
      '(fit(&a)?, fit(&b)?, fit(&c)?, fit(&d)?)'),
-    ('all 52 places scattered', 'track.rs', 'scatter(&b[..n])?', 'scatter(&b)?'),
+    ('all 52 places scattered', 'track.rs', 'scatter_in::<STEPS>(&b[..n])?', 'scatter_in::<STEPS>(&b)?'),
     ('last block of a short track left out', 'track.rs', 'for j in 0..n {', 'for j in 0..n - usize::from(n < 52) {'),
     # the rules of 52 for every track
     ('weights of 52', 'fit.rs', PLACE, '2 * j as i64 - 51'),
     ('weights of an even number', 'fit.rs', PLACE, '2 * j as i64 - (n / 2 * 2 - 1)'),
-    ('midpoint over 5200', 'fit.rs', MIDPOINT, 'nearest(s, 5200)'),
-    ('slope over 35139', 'fit.rs', SLOPE, 'nearest(t, 35139)'),
-    ('slope over a whole quarter', 'fit.rs', SLOPE, 'nearest(t, n * (n * n - 1) / 4)'),
-    ('slope by n cubed', 'fit.rs', SLOPE, 'nearest(4 * t, n * n * n)'),
+    ('midpoint over 52000', 'fit.rs', MIDPOINT, 'nearest(s, 52000)'),
+    ('slope over 351390', 'fit.rs', SLOPE, 'nearest(t, 351390)'),
+    ('slope over a whole quarter', 'fit.rs', SLOPE, 'nearest(t, STEPS * (n * (n * n - 1) / 4))'),
+    ('slope by n cubed', 'fit.rs', SLOPE, 'nearest(4 * t, STEPS * n * n * n)'),
     ('residual over 46852', 'fit.rs', RESIDUAL, 'let residual = nearest(46852 * v - 901 * s - place(n, j) * t, 46852);'),
     ('residual over a whole third', 'fit.rs', RESIDUAL, 'let third = n * (n * n - 1) / 3; '
      'let residual = nearest(third * v - (n * n - 1) / 3 * s - place(n, j) * t, third);'),
     ('DSG of 52 values', 'fit.rs', 'n as i128 * root * root', '52 * root * root'),
-    ('DSG 0 under 130000', 'fit.rs', 'if q >= threshold(n, MOST_DSG + 1)',
-     'if q < 130_000 {\n        return Ok(0);\n    }\n    if q >= threshold(n, MOST_DSG + 1)'),
-    ('DSG too high from 52 values on', 'fit.rs', 'q >= threshold(n, MOST_DSG + 1)', 'q >= threshold(52, MOST_DSG + 1)'),
+    ('DSG 0 under 13000000', 'fit.rs', 'if ' + MOST_SQUARES, 'if q < 13_000_000 { return Ok(0); }\n    if ' + MOST_SQUARES),
+    ('DSG too high from 52 values on', 'fit.rs', MOST_SQUARES, 'q >= threshold::<STEPS>(52, MOST_DSG + 1)'),
+    # tenths of a ps
+    ('smoothed values of whole ps', 'fit.rs', SMOOTHED, 'Ok(STEPS * nearest(sum, 1105))'),
+    ('smoothed values of half a ps', 'fit.rs', SMOOTHED, 'Ok(5 * nearest(2 * sum, 1105))'),
+    ('smoothed values in ps', 'fit.rs', SMOOTHED, 'Ok(nearest(sum, 1105))'),
+    ('C in ps', 'track.rs', TROPOSPHERE, TROPOSPHERE.replace('STEPS * ', '')),
+    ('D in ps', 'track.rs', IONOSPHERE, IONOSPHERE.replace('STEPS * ', '')),
+    ('INT, CAB and REF added in ps', 'track.rs', DELAYS, DELAYS.replace('STEPS * ', '')),
+    ('REF alone added in ps', 'track.rs', DELAYS, 'smoothed - STEPS * (delays.int + delays.cab) + delays.refdly'),
+    ('GD added in ps', 'track.rs', '- STEPS * delays.gd;', '- delays.gd;'),
+    ('geometry added in ps', 'track.rs', '- STEPS * columns.geometry[j]', '- columns.geometry[j]'),
+    ('relativity added in ps', 'track.rs', '+ STEPS * columns.relativity[j]', '+ columns.relativity[j]'),
+    ('ionosphere added in ps', 'track.rs', '- STEPS * columns.ionosphere[j]', '- columns.ionosphere[j]'),
+    ('troposphere added in ps', 'track.rs', '- STEPS * columns.troposphere[j]', '- columns.troposphere[j]'),
+    ('clock added in ps', 'track.rs', 'a[j] + STEPS * columns.clock[j]', 'a[j] + columns.clock[j]'),
+    ('A and B rounded to ps', 'track.rs', 'c[j] = STEPS *', 'a[j] = 10 * crate::nearest(a[j], 10);\n'
+     '        b[j] = 10 * crate::nearest(b[j], 10);\n        c[j] = STEPS *'),
+    ('midpoint over 100n', 'fit.rs', MIDPOINT, 'nearest(s, 100 * n)'),
+    ('slope over n(n^2 - 1)', 'fit.rs', SLOPE, 'nearest(4 * t, n * (n * n - 1))'),
+    ('midpoint of whole ps', 'fit.rs', MIDPOINT, 'nearest(nearest(s, STEPS), 100 * n)'),
+    ('slope of whole ps', 'fit.rs', SLOPE, 'nearest(4 * nearest(t, STEPS), n * (n * n - 1))'),
+    ('a residual over ten times its divisor', 'fit.rs', RESIDUAL,
+     RESIDUAL.replace('t, n * (n', 't, TENTHS * n * (n')),
+    ('residuals of whole ps', 'fit.rs', RESIDUAL, 'let residual = TENTHS * nearest(%s, TENTHS * n * (n * n - 1));' % LEFT),
+    ('thresholds in ps', 'fit.rs', 'STEPS * (100 * d - 50)', '100 * d - 50'),
+    ('first threshold in ps', 'fit.rs', 'if ' + MOST_SQUARES,
+     'if q >= 2500 * n as i128 && q < threshold::<STEPS>(n, 1) { return Ok(1); }\n    if ' + MOST_SQUARES),
+    ('last threshold in ps', 'fit.rs', MOST_SQUARES, 'q >= threshold::<1>(n, MOST_DSG + 1)'),
+    ('too high from a residual of 10^7 on', 'fit.rs', SQUARE,
+     'if residual.abs() > 10_000_000 { return i128::MAX; }\n        ' + SQUARE),
+    ('too high from a residual of 7 x 10^7 on', 'fit.rs', SQUARE,
+     'if residual.abs() > 70_000_000 { return i128::MAX; }\n        ' + SQUARE),
+    ('limit of Fit and Scatter in ps', 'fit.rs', 'within(v, STEPS * VALUE_LIMIT)', 'within(v, VALUE_LIMIT)'),
+    ('10 in ps', 'track.rs', 'all_within(kind, STEPS * VALUE_LIMIT)', 'all_within(kind, VALUE_LIMIT)'),
+    ('measurements up to 10^12 tenths', 'track.rs', 'all_within(measurements, MEASUREMENT_LIMIT)',
+     'all_within(measurements, MEASUREMENT_LIMIT / STEPS_OF_A_PS)',
+     'track.rs', 'const GEOMETRY_LIMIT', 'const STEPS_OF_A_PS: i64 = TENTHS;\nconst GEOMETRY_LIMIT'),
     # the track length
     ('track length of 780', 'track.rs', 'trkl: measurements.len() as i64', 'trkl: 780'),
     ('0780 written', 'line.rs', 'text.decimal(4, numbers.trkl as u64)', 'text.decimal(4, 780)'),
@@ -547,10 +589,11 @@ MUTANTS = [
 TWINS = [
     # a shared offset does not drop out
     ('weights that add up to 1106, twice', 'fit.rs', '162, 167, 162', '162, 168, 162'),
-    ('smoothed value cut, twice', 'fit.rs', SMOOTHED, 'Ok(sum / 1105)'),
-    ('midpoint cut, twice', 'fit.rs', MIDPOINT, '(s + 50 * n) / (100 * n)'),
-    ('midpoint ties away, twice', 'fit.rs', MIDPOINT, 'nearest(s.abs(), 100 * n) * s.signum()'),
-    ('midpoint over 101 n, twice', 'fit.rs', MIDPOINT, 'nearest(s, 101 * n)'),
+    ('smoothed value cut, twice', 'fit.rs', SMOOTHED, 'Ok(STEPS * sum / 1105)'),
+    ('midpoint cut, twice', 'fit.rs', MIDPOINT, '(s + 50 * STEPS * n) / (100 * STEPS * n)'),
+    ('midpoint ties away, twice', 'fit.rs', MIDPOINT, 'nearest(s.abs(), 100 * STEPS * n) * s.signum()'),
+    ('smoothed values in ps, twice', 'fit.rs', SMOOTHED, 'Ok(nearest(sum, 1105))'),
+    ('midpoint over 101 n, twice', 'fit.rs', MIDPOINT, 'nearest(s, 101 * STEPS * n)'),
     ('weights of an even number, twice', 'fit.rs', PLACE, '2 * j as i64 - (n / 2 * 2 - 1)'),
     ('residuals halved below 0, twice', 'fit.rs', SQUARE,
      'let residual = if *v < 0 { residual / 2 } else { residual };\n        ' + SQUARE),
@@ -608,7 +651,21 @@ def passes(folder, edits, twin):
     return test.returncode == 0
 
 
+def applies():
+    """Whether each mutant has a name of its own, and can be made."""
+    names = [mutant[0] for mutant in MUTANTS + TWINS]
+    with tempfile.TemporaryDirectory() as name:
+        folder = pathlib.Path(name)
+        prepare(folder)
+        for mutant in MUTANTS + TWINS:
+            write_mutant(folder, mutant[1:])
+    print('mutants: %d, of which %d are put into both; each can be made' % (len(names), len(TWINS)))
+    return 0 if len(names) == len(set(names)) else 1
+
+
 def main(words):
+    if words == ['--applies']:
+        return applies()
     chosen = [m for m in MUTANTS + TWINS if not words or any(word in m[0] for word in words)]
     with tempfile.TemporaryDirectory() as name:
         folder = pathlib.Path(name)

@@ -473,6 +473,110 @@ static void scatter_of(size_t n)
     }
 }
 
+/* ---- tenths of a picosecond */
+
+/* Block j of a track of n: fifteen measurements of a level, the middle one higher. */
+static void put_block(uint8_t *block, size_t j, int64_t level, int64_t higher)
+{
+    for (size_t i = 0; i < 15; i++) {
+        put_ps(block, 58 + 8 * (15 * j + i), level + (i == 7 ? higher : 0));
+    }
+}
+
+/* Columns 35 to 76 of the line of a block, or the refusal. */
+static void figures(const char *what, const uint8_t *block, size_t n, uint32_t refusal, const char *wanted)
+{
+    fill();
+    expect(what, trackline_block(block, 58 + 160 * n, room + EDGE, 113), refusal);
+    expect_true(what, refusal ? kept_but("", 0) : memcmp(room + EDGE + 34, wanted, 42) == 0);
+}
+
+/*
+ * 4 ps more in the middle of a block are 4 * 167 / 1105 = 0.6045 ps, six tenths: 49.6 ps in every block are 0.496 of a unit and
+ * -50.4 ps are -0.504, where 50 and -50 ps are ties, which go up; 999999999949.6 ps fit ten digits, and 999999999950 do not. Where 4
+ * divides n, 49.6 ps up and down is a root mean square below half a unit.
+ */
+static void middle_of(size_t n)
+{
+    static uint8_t block[8378];
+    static const struct {
+        int64_t level, higher;
+        uint32_t refusal;
+        const char *wanted;
+    } cases[] = {
+        {49, 4, 0, "+0000000000 +00000 +0000000000 +00000 0000"}, {50, 0, 0, "+0000000001 +00000 +0000000001 +00000 0000"},
+        {-51, 4, 0, "-0000000001 +00000 -0000000001 +00000 0000"}, {-50, 0, 0, "+0000000000 +00000 +0000000000 +00000 0000"},
+        {31149, 4, 0, "+0000000311 +00000 +0000000311 +00000 0000"}, {31150, 0, 0, "+0000000312 +00000 +0000000312 +00000 0000"},
+        {999999999949, 4, 0, "+9999999999 +00000 +9999999999 +00000 0000"}, {999999999950, 0, 3, ""}};
+    sample_of(block, n);
+    for (size_t i = 0; i < sizeof cases / sizeof cases[0]; i++) {
+        for (size_t j = 0; j < n; j++) {
+            put_block(block, j, cases[i].level, cases[i].higher);
+        }
+        figures("a middle measurement", block, n, cases[i].refusal, cases[i].wanted);
+    }
+    for (size_t i = 0; i < 2 && n % 4 == 0; i++) {
+        for (size_t j = 0; j < n; j++) {
+            int64_t sign = j % 4 == 0 || j % 4 == 3 ? 1 : -1;
+            put_block(block, j, sign * (49 + (int64_t)i), i == 0 ? 4 * sign : 0);
+        }
+        figures("DSG of tenths", block, n, 0, i == 0 ? "+0000000000 +00000 +0000000000 +00000 0000"
+                                                      : "+0000000000 +00000 +0000000000 +00000 0001");
+    }
+}
+
+/*
+ * Four blocks of 0, 0, -1 and 2.6 ps: T is -1 + 3 * 2.6 = 6.8 ps, and the slope T / 15 = 0.45; the residuals are below 2 ps. Three
+ * blocks of 49.5 ps (3 ps more in the middle are 0.4534, five tenths) and one of 52: their sum is 200.5 ps, a midpoint of 1. With
+ * the 52 in the second place T is -2.5 ps, and the slope -0.17.
+ */
+static void four_blocks(void)
+{
+    static uint8_t block[698];
+    sample_of(block, 4);
+    put_block(block, 0, 0, 0);
+    put_block(block, 1, 0, 0);
+    put_block(block, 2, -1, 0);
+    put_block(block, 3, 2, 4);
+    figures("a slope of tenths", block, 4, 0, "+0000000000 +00000 +0000000000 +00000 0000");
+    for (size_t j = 0; j < 4; j++) {
+        put_block(block, j, j == 1 ? 52 : 49, j == 1 ? 0 : 3);
+    }
+    figures("a midpoint of tenths", block, 4, 0, "+0000000001 +00000 +0000000001 +00000 0000");
+}
+
+/* Block j with the measurements and the corrections that make A and B largest, of this sign; 0 for a sign of 0. */
+static void put_largest(uint8_t *block, size_t n, size_t j, int64_t sign)
+{
+    static const int64_t tops[5] = {-200000000000, 10000000000, -10000000000, -10000000000, 10000000000};
+    for (size_t i = 0; i < 15; i++) {
+        int outer = i < 2 || i > 12;
+        put_ps(block, 58 + 8 * (15 * j + i), sign * (outer ? -1000000000000 : 1000000000000));
+    }
+    for (size_t k = 0; k < 5; k++) {
+        put_ps(block, 58 + 120 * n + 40 * j + 8 * k, sign * tops[k]);
+    }
+}
+
+/* The largest numbers that are legal: A and B of one sign are 3, by the side of the mean date 4, up and down 6. */
+static void largest_of(size_t n, int64_t sign)
+{
+    static uint8_t one[8378], sides[8378], waves[8378];
+    sample_of(one, n);
+    sample_of(sides, n);
+    sample_of(waves, n);
+    for (size_t j = 0; j < n; j++) {
+        put_largest(one, n, j, sign);
+        put_largest(sides, n, j, 2 * j + 1 == n ? 0 : 2 * j + 1 > n ? sign : -sign);
+        put_block(waves, j, sign * (j % 4 == 0 || j % 4 == 3 ? 1000000000000 : -1000000000000), 0);
+    }
+    figures("the largest values", one, n, 3, "");
+    figures("the largest values by their side", sides, n, 4, "");
+    if (n % 4 == 0) {
+        figures("the largest values up and down", waves, n, 6, "");
+    }
+}
+
 static void short_tracks(void)
 {
     static uint8_t block[58 + 160 * 53];
@@ -494,6 +598,9 @@ static void short_tracks(void)
                     && TRACKLINE_AT_GROUPS_OF(n) == 58 + 120 * n && TRACKLINE_MEASUREMENTS_OF(n) == 15 * n);
         places_of(n);
         sizes_of(n);
+        middle_of(n);
+        largest_of(n, 1);
+        largest_of(n, -1);
         if (n % 4 == 0) {
             scatter_of(n);
         }
@@ -507,6 +614,7 @@ static void short_tracks(void)
         expect("bytes of 0", trackline_block(block, length, room, 113), length < 4 ? 11 : 1);
     }
     few_values();
+    four_blocks();
 }
 
 /* ---- reading a line back */

@@ -6,6 +6,8 @@
 Expected lines and messages are written out by hand; the numbers that a refusal is explained with are those of the blocks
 that are made here.
 """
+import fractions
+import math
 import os
 import pathlib
 import re
@@ -24,10 +26,13 @@ from blocks import SAMPLE_LINE, block, scattered  # noqa: E402
 
 PROGRAM = os.environ.get('CGGTTS', str(ROOT / 'target' / 'cggtts' / 'cggtts'))
 SAMPLE, WORKED, SHORT = 'examples/sample.blk', 'examples/worked.blk', 'examples/short.blk'
+CHANGED = 'examples/changed.blk'
 WORKED_LINE = (b'G17 FF 60600 133000 0780 583 2145 +0001233431 +00009 -0000000315 -00041 0003 087 0097 +005 0202 -021 '
                b'00 05 L1C 8C\r\n')
 SHORT_LINE = (b'G23 FF 60600 134600 0300 103 3021 +0001203805 -00039 -0000000112 -00089 0004 041 0558 +267 0390 +073 '
               b'00 07 L1C 92\r\n')
+CHANGED_LINE = (b'G17 FF 60600 133000 0780 583 2145 +0001233431 +00009 -0000000314 -00041 0002 087 0097 +005 0202 -021 '
+                b'00 05 L1C 8A\r\n')
 MEANINGS = {1: "the block's two sizes are not 15 n and n, n from 4 to 52",
             2: 'a measurement, a correction or a delay is beyond its limit',
             3: 'REFSV or REFSYS has more than ten digits',
@@ -44,6 +49,8 @@ MEANINGS = {1: "the block's two sizes are not 15 n and n, n from 4 to 52",
             16: 'the lines do not ascend by MJD, start, letter and satellite',
             18: 'no two lines, one of each file, have the same MJD, start, letter, satellite and TRKL',
             19: 'a file is longer than 1150000 bytes, which are 10000 lines'}
+# each column in 10^10 ps where it makes A and B largest
+TOPS = {'geometry': -20, 'relativity': 1, 'ionosphere': -1, 'troposphere': -1, 'clock': 1}
 OWN = ' (worked out by cggtts, not by the library)'
 ONE_TOO_MANY = "starts: '50723' is one word too many"
 
@@ -120,6 +127,7 @@ class Line(Scratch):
         self.assertEqual(run('line', SAMPLE), (0, SAMPLE_LINE, ''))
         self.assertEqual(run('line', SAMPLE, WORKED, SAMPLE), (0, SAMPLE_LINE + WORKED_LINE + SAMPLE_LINE, ''))
         self.assertEqual(run('line', SHORT, SAMPLE), (0, SHORT_LINE + SAMPLE_LINE, ''))
+        self.assertEqual(run('line', CHANGED), (0, CHANGED_LINE, ''))
         self.assertEqual(run('line', '-', data=block()), (0, SAMPLE_LINE, ''))
         self.assertEqual(run('line', WORKED, '-', data=block()), (0, WORKED_LINE + SAMPLE_LINE, ''))
         self.assertEqual(run('line', '--', SAMPLE), (0, SAMPLE_LINE, ''))
@@ -467,6 +475,55 @@ class Check(Scratch):
         self.explained(6, block(clock=scattered(999950)), 'DSG is about 10000, not 0 to 9999' + OWN)
         self.explained(6, block(clock=scattered(1234567)), 'DSG is about 12346, not 0 to 9999' + OWN)
         self.explained(6, block(clock=scattered(2 ** 32)), 'DSG is about 42949673, not 0 to 9999' + OWN)
+
+    def test_midpoints_of_the_largest_values(self):
+        """Each measurement and each correction at the limit that makes A and B largest. A block smooths to 1469 / 1105 of 10^12 ps,
+        13294117647059 tenths; 27 x 10^10 ps of corrections make A 15994117647059, and the clock makes B 16094117647059."""
+        limits = ', not -9999999999 to 9999999999' + OWN
+        for n in range(4, 53):
+            for sign in (1, -1):
+                top = sign * 10 ** 10
+                columns = {name: [times * top] * n for name, times in TOPS.items()}
+                delays = {'INT': -top, 'CAB': -top, 'REF': top, 'GD': -top}
+                self.explained(3, block(delays, n, measurements=[100 * top * (1 - 2 * (i % 15 in (0, 1, 13, 14)))
+                                                                 for i in range(15 * n)], **columns),
+                               'REFSV is %d' % (sign * 15994117647) + limits, 'REFSYS is %d' % (sign * 16094117647) + limits)
+
+    def test_slopes_of_the_largest_values(self):
+        """The same by the side of the mean date, without delays: A is 15594117647059 and B 15694117647059 tenths behind it, C and D
+        -10^11, and the sum of the places' sizes is n^2 / 2, rounded down: S is 0 and T that much times the value."""
+        for n in range(4, 53):
+            side = [(2 * j > n - 1) - (2 * j < n - 1) for j in range(n)]
+            columns = {name: [times * 10 ** 10 * side[j] for j in range(n)] for name, times in TOPS.items()}
+            measurements = [10 ** 12 * side[i // 15] * (1 - 2 * (i % 15 in (0, 1, 13, 14))) for i in range(15 * n)]
+            told = []
+            for name, value, limit in (('SRSV', 15594117647059, 99999), ('SRSYS', 15694117647059, 99999),
+                                       ('SMDT', -10 ** 11, 999), ('SMDI', -10 ** 11, 999)):
+                slope = math.floor(fractions.Fraction(4 * (n * n // 2) * value, 10 * n * (n * n - 1)) + fractions.Fraction(1, 2))
+                told.append('%s is %d, not -%d to %d' % (name, slope, limit, limit) + OWN)
+            self.explained(4, block(groups=n, measurements=measurements, **columns), *told)
+
+    def test_scatter_of_the_largest_values(self):
+        """10^12 ps and its opposite in turns; and about half as much, with the midpoint and the sum far from 0."""
+        for n in range(4, 53, 4):
+            for wave, dsg in ([10 ** 12, -10 ** 12, -10 ** 12, 10 ** 12], 10 ** 10), ([10 ** 12, 0, 0, 10 ** 12], 5 * 10 ** 9):
+                for sign in (1, -1):
+                    self.explained(6, block(groups=n, measurements=[sign * wave[i // 15 % 4] for i in range(15 * n)]),
+                                   'DSG is about %d, not 0 to 9999' % dsg + OWN)
+
+    def test_figures_in_tenths(self):
+        """A ps in the middle of a block is 167 / 1105 ps, and a tenth decides: 999950 - 0.4 ps are no 10000 of 0.1 ns."""
+        def levels(*blocks):
+            return [level + more * (i == 7) for level, more in blocks for i in range(15)]
+
+        limits = ', not -9999999999 to 9999999999' + OWN
+        for n in range(4, 53):
+            # smoothed to 999999999949.6 ps, in whole ps to a tie
+            accepted = run('line', '-', data=block(groups=n, measurements=levels(*[(999999999949, 4)] * n)))
+            self.assertEqual((accepted[0], accepted[1][34:45], accepted[2]), (0, b'+9999999999', ''))
+        # three times 999999999949.5 ps and once 999999999952 ps: 1000.5 ps above four times 999999999700 ps; 999 in whole ps
+        self.explained(3, block(groups=4, measurements=levels(*[(999999999949, 3)] * 3, (999999999952, 0))),
+                       'REFSV is 10000000000' + limits, 'REFSYS is 10000000000' + limits)
 
     def test_labels(self):
         for part, value, explanation in (

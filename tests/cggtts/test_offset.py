@@ -30,10 +30,11 @@ TWO = START + b'%s -00044 %s -00044 0001 001 0214 +000 0310 +000 00 08 L2I %s\r\
 # the line of each file
 LINES = {
     'one': ONE % (b'+0002364413', b'+0000000312', b'64'), 'two': TWO % (b'+0002364288', b'+0000000188', b'78'),
+    'one-plus-10': ONE % (b'+0002364413', b'+0000000313', b'65'), 'two-plus-10': TWO % (b'+0002364288', b'+0000000188', b'78'),
     'one-plus-50': ONE % (b'+0002364413', b'+0000000313', b'65'), 'two-plus-50': TWO % (b'+0002364288', b'+0000000188', b'78'),
     'one-plus-300': ONE % (b'+0002364416', b'+0000000315', b'6A'), 'two-plus-300': TWO % (b'+0002364291', b'+0000000191', b'6C')}
 # what is added to both, in ps, and the difference of the pair
-DIFFERENCES = {0: 124, 1: 125, 50: 125, 99: 124, 300: 124, 100: 124, -50: 125, -100: 124, -200: 124, 1000000: 124, -31250: 125}
+DIFFERENCES = {0: 124, 1: 125, 10: 125, 50: 125, 99: 124, 300: 124, 100: 124, -50: 125, -100: 124, -200: 124, 1000000: 124, -31250: 125}
 
 
 def shifted(block, by, delay=None):
@@ -84,7 +85,7 @@ class Examples(Shifts):
         """A shifted block is the other but for its measurements."""
         for receiver in ('one', 'two'):
             block = (SHARED / (receiver + '.blk')).read_bytes()
-            for by in (50, 300):
+            for by in (10, 50, 300):
                 self.assertEqual((SHARED / ('%s-plus-%d.blk' % (receiver, by))).read_bytes(), shifted(block, by))
 
     def test_the_differences(self):
@@ -92,14 +93,14 @@ class Examples(Shifts):
         for by, difference in DIFFERENCES.items():
             rows = self.viewed(*(self.lines([shifted(block, by)]) for block in blocks))
             self.assertEqual(rows, [('60630', '181000', 'C05', difference)], by)
-        for end, by in (('', 0), ('-plus-50', 50), ('-plus-300', 300)):
+        for end, by in (('', 0), ('-plus-10', 10), ('-plus-50', 50), ('-plus-300', 300)):
             rows = self.viewed(*((SHARED / (receiver + end + '.cggtts')).read_bytes() for receiver in ('one', 'two')))
             self.assertEqual(rows[0][3], DIFFERENCES[by])
 
     def test_the_papers_runs(self):
         """What docs/SHARED-OFFSET.md shows is what is printed of the examples."""
         runs = re.findall(r'(?m)^    \$ cggtts (.*)\n((?:    (?!\$).*\n)+)', PAPER.read_text())
-        self.assertEqual(len(runs), 4)
+        self.assertEqual(len(runs), 5)
         for words, shown in runs:
             made = subprocess.run([PROGRAM, *words.split()], cwd=SHARED, stdout=subprocess.PIPE, check=True).stdout
             self.assertEqual(made.replace(b'\r\n', b'\n'), re.sub(r'(?m)^    ', '', shown).encode(), words)
@@ -126,9 +127,9 @@ class Examples(Shifts):
         # a tenth of a ps above or below each whole one decides how the receiver rounds
         for_more = [1 if w > 0 else -1 for w in WEIGHTS]
         for_less = [-sign for sign in for_more]
-        # REFSYS 0 of S = 196, and 1 of S = 200; the 1 in some seconds brings a smoothed value near its tie
-        one = [constant + 49 + (i in (6, 7, 9)) for i in range(15)]
-        two = [constant + 49 + (i in (5, 6, 7, 8)) for i in range(15)]
+        # REFSYS 0 of S = 196 ps, and 1 of S = 200; with the cable each block is 1287 / 1105 ps higher than 100 more, which makes
+        # S = 600.8 and REFSYS 2, or 182 / 1105 ps lower, which makes S = 599.2 and REFSYS 1
+        one, two = [constant + 49] * 15, [constant + 50] * 15
         rows = {}
         for cable in (0, 1005):
             files = []

@@ -64,8 +64,8 @@ static size_t below(struct bytes *b, size_t count)
 /* A number: small, any, or near a limit of the paper. */
 static int64_t number(struct bytes *b)
 {
-    static const int64_t edges[] = {0, 15, 50, 60, 345, 765, 780, 999, 9999, 99999, 999949, 9999999999, 10000000000,
-                                    200000000000, 999900000000, 1000000000000, INT64_MAX};
+    static const int64_t edges[] = {0, 15, 49, 60, 345, 765, 780, 999, 9999, 99999, 999949, 9999999999, 10000000000,
+                                    200000000000, 999999999949, 1000000000000, INT64_MAX};
     size_t kind = take(b, 1);
     switch (kind & 3) {
     case 0: return (int16_t)take(b, 2);
@@ -283,6 +283,17 @@ static void measure(struct hire *h, struct bytes *b)
     }
 }
 
+/* Some ps more in the middle of a block, or in the middle of each, from one to the next by a step: parts of a ps. */
+static void raise_middle(struct hire *h, struct bytes *b)
+{
+    size_t first = below(b, 2 * h->n);
+    uint64_t more = (uint64_t)(int64_t)(int8_t)take(b, 1), step = take(b, 1);
+    for (size_t j = first < h->n ? first : 0; j < (first < h->n ? first + 1 : h->n); j++) {
+        uint8_t *at = measurement(h, 15 * j + 7);
+        put(at, get(at, 8) + more + step * j, 8);
+    }
+}
+
 /*
  * A line through a column, or a wave a, -a, -a, a added to it, which where 4 divides n changes neither its sum nor its
  * slope.
@@ -323,7 +334,7 @@ static void edit(struct hire *h, struct bytes *b)
 {
     uint8_t *block = h->bytes;
     size_t at;
-    switch (take(b, 1) % 14) {
+    switch (take(b, 1) % 15) {
     case 0: at = below(b, 64); block[at < 26 ? at : 4 + at % 22] = (uint8_t)take(b, 1); break;
     case 1: put(block + 16, a_start((uint32_t)get(block + 12, 4), below(b, 89)), 4); break;
     case 2: put(block + 12, (uint32_t)number(b), 4); break;
@@ -337,6 +348,7 @@ static void edit(struct hire *h, struct bytes *b)
     case 10: correct(h, b, 1); break;
     case 11:
     case 12: label(block, b); break;
+    case 13: raise_middle(h, b); break;
     default:
         if (take(b, 1) % 2 > 0) {
             resize(h, b);

@@ -22,6 +22,7 @@ PROGRAM = ROOT / 'target' / 'bin' / 'trackline'
 WORKED = (ROOT / 'examples' / 'worked.blk').read_bytes()
 SAMPLE = (ROOT / 'examples' / 'sample.blk').read_bytes()
 SHORT = (ROOT / 'examples' / 'short.blk').read_bytes()
+CHANGED = (ROOT / 'examples' / 'changed.blk').read_bytes()
 
 sys.dont_write_bytecode = True
 sys.path.insert(0, str(ROOT / 'tools'))
@@ -99,16 +100,78 @@ def run_tool(*arguments):
     return subprocess.run([sys.executable, str(TOOL), *map(str, arguments)], capture_output=True, text=True)
 
 
+class Tenths(unittest.TestCase):
+    """Expected figures are worked out here by hand; 1 for steps is whole ps, as before version 1.4.0."""
+
+    def middle(self, value, every=0):
+        """A track of four blocks, every measurement the one number and the middle one of each block more by the other."""
+        return sample(4, tuple(every + value * (i == 7) for i in range(15)))
+
+    def test_smoothing(self):
+        """The middle weight is 167: 10 x 167 x 3 / 1105 is 4.53, of 4 it is 6.05; in whole ps 0.45 and 0.60."""
+        for value, tenths, whole in (3, 5, 0), (4, 6, 1), (-4, -6, -1), (1105, 1670, 167), (0, 0, 0):
+            for steps, smoothed in (10, tenths), (1, whole):
+                self.assertEqual(lastdigit.Track(self.middle(value), steps).smoothed, [smoothed] * 4)
+
+    def test_corrections_and_columns(self):
+        """Every correction counts ten times, and so do C and D: INT 1, CAB 2, REF 4, GD 8, then five columns."""
+        block = changed(self.middle(0, 100), (26, '<q', 1), (34, '<q', 2), (42, '<q', 4), (50, '<q', 8),
+                        *((58 + 480 + 40 * j + 8 * k, '<q', 16 << k) for j in range(4) for k in range(5)))
+        a = 100 - (1 + 2 - 4) - 16 + 32 - 64 - 128 - 8
+        for steps in 1, 10:
+            values = {'A': a, 'B': a + 256, 'C': 128, 'D': 64}
+            self.assertEqual(lastdigit.Track(block, steps).rounded, {k: [steps * v] * 4 for k, v in values.items()})
+
+    def test_a_midpoint_that_changed(self):
+        """49 ps and 53 in the middle: 54813 / 1105 is 49.60 ps, so 50 ps and a tie that goes up, or 496 tenths and none."""
+        block = self.middle(4, 49)
+        self.assertEqual(lastdigit.numbers(lastdigit.Track(block, 1))['REFSYS'], 1)
+        self.assertEqual(lastdigit.numbers(lastdigit.Track(block))['REFSYS'], 0)
+        self.assertEqual(lastdigit.ExactFit(lastdigit.Track(block).exact['B']).midpoint, lastdigit.Fraction(54813, 110500))
+
+    def test_the_changed_track(self):
+        """Its REFSYS was -315 and its DSG 3; both lie on the other side of the tie now, where the exact figures are."""
+        old, new = (lastdigit.numbers(lastdigit.Track(CHANGED, steps)) for steps in (1, 10))
+        self.assertEqual({name: (old[name], new[name]) for name in old if old[name] != new[name]},
+                         {'REFSYS': (-315, -314), 'DSG': (3, 2)})
+        result = run_tool(ROOT / 'examples' / 'changed.blk', '--steps', '1')
+        self.assertEqual((result.returncode, result.stderr), (0, ''))
+        for row in 'S / 5 200 = -314.500192', 'REFSYS = -315', 'Q = 3 251 109', 'promised: 62 001 <= M <= 123 201':
+            self.assertIn(row, result.stdout.splitlines())
+
+    def test_share_in_the_manual(self):
+        """The shares that trackline(3) names are those that tests/reference counts."""
+        page = ' '.join((ROOT / 'man' / 'trackline.3').read_text().split())
+        # of each row: the tracks, the lines, then the five figures, REFSYS the third
+        full, _, short = lastdigit_prose.shares(lastdigit)
+        shares = [100 * row[k] / row[0] for row in (full, short) for k in (1, 4)]
+        self.assertIn('for %.2g %% of the full ones, REFSYS for %.2g %%. With 4 blocks they are %.2g %% and %.2g %%.' % tuple(shares), page)
+
+    def test_one_unit_at_most(self):
+        """Of seeded tracks no figure moves by more than one, and C's and D's not at all."""
+        seeded, moved = random.Random(1105), set()
+        for _ in range(200):
+            n = seeded.choice([4, 4, 5, 6, 13])
+            block = changed(sample(n, tuple(seeded.randrange(-400, 400) for _ in range(15 * n))),
+                            *((58 + 120 * n + 8 * k, '<q', seeded.randrange(0, 5000)) for k in range(5 * n)))
+            old, new = (lastdigit.numbers(lastdigit.Track(block, steps)) for steps in (1, 10))
+            for name, value in old.items():
+                self.assertLessEqual(abs(value - new[name]), 1)
+                moved |= {name} if value != new[name] else set()
+        self.assertLessEqual({'SRSV', 'SRSYS'}, moved)
+        self.assertLessEqual(moved, {'REFSV', 'REFSYS', 'SRSV', 'SRSYS', 'DSG'})
+
+
 class ShortTracks(unittest.TestCase):
     """Expected figures are worked out here by hand."""
 
     def test_four_values(self):
-        """Values 0, 0, 0, 100: S is 100, T 300 and n(n² - 1) 60, worked out on paper."""
-        fit = lastdigit.Fit([0, 0, 0, 100])
-        self.assertEqual((fit.s, fit.t, fit.midpoint, fit.slope), (100, 300, 0, 20))
-        # the line through (-3, 0), (-1, 0), (1, 0), (3, 100) is 25 + 15 x
-        self.assertEqual(fit.residuals, [20, -10, -40, 30])
-        self.assertEqual((fit.q, fit.dsg), (3000, 0))
+        """Values 0, 0, 0, 1000 tenths: S is 1000, T 3000 and n(n² - 1) 60, worked out on paper."""
+        fit = lastdigit.Fit([0, 0, 0, 1000])
+        self.assertEqual((fit.s, fit.t, fit.midpoint, fit.slope), (1000, 3000, 0, 20))
+        # the line through (-3, 0), (-1, 0), (1, 0), (3, 1000) is 250 + 150 x
+        self.assertEqual(fit.residuals, [200, -100, -400, 300])
+        self.assertEqual((fit.q, fit.dsg), (300000, 0))
         exact = lastdigit.ExactFit([0, 0, 0, 100])
         # 15 ps for half of 15 seconds are 2 ps/s, 20 units
         self.assertEqual((exact.midpoint * 100, exact.slope, exact.mean_square), (25, 20, 750))
@@ -118,7 +181,7 @@ class ShortTracks(unittest.TestCase):
         """Values on a line of 15 b ps a block: midpoint at the mean date, slope 10 b, no residual."""
         for n in range(4, 53):
             for b in (-7, 1, 100):
-                fit = lastdigit.Fit([500 + 15 * b * j for j in range(n)])
+                fit = lastdigit.Fit([10 * (500 + 15 * b * j) for j in range(n)])
                 self.assertEqual(fit.slope, 10 * b)
                 self.assertEqual(fit.midpoint, (2 * 500 + 15 * b * (n - 1) + 100) // 200)
                 self.assertEqual((set(fit.residuals), fit.dsg), ({0}, 0))
@@ -126,28 +189,35 @@ class ShortTracks(unittest.TestCase):
     def test_thresholds(self):
         """The pattern a, -a, -a, a has neither mean nor slope where n is a multiple of 4, so Q is n a²."""
         for n in range(4, 53, 4):
-            for a, dsg in (49, 0), (50, 1), (149, 1), (150, 2), (999949, 9999), (999950, 10000):
+            for a, dsg in (499, 0), (500, 1), (1499, 1), (1500, 2), (9999499, 9999), (9999500, 10000):
                 self.assertEqual(lastdigit.Fit([a, -a, -a, a] * (n // 4)).dsg, dsg)
 
     def test_promise(self):
-        self.assertEqual([lastdigit.rounded_up(lastdigit.slope_promise(n), 4) for n in (4, 20, 52)],
-                         ['0.7667', '0.5502', '0.5193'])
+        for steps, wanted in (10, ['0.5267', '0.5051', '0.502', '0.5005', '0.501']), (1, ['0.7667', '0.5502', '0.5193', '0.505', '0.51']):
+            slopes = [lastdigit.promise('slope', n, steps) for n in (4, 20, 52)]
+            others = [lastdigit.promise(kind, 52, steps) for kind in ('midpoint', 'DSG')]
+            self.assertEqual([lastdigit.rounded_up(value, 4) for value in slopes + others], wanted)
 
     def test_the_short_sample_needs_its_promise(self):
         track = lastdigit.Track(SHORT)
         distances = {name: (abs(value - exact), kind) for name, kind, value, exact, _ in lastdigit.figures(track)}
-        self.assertGreater(distances['SRSYS'][0], lastdigit.Fraction(52, 100))
+        self.assertGreater(distances['SRSYS'][0], lastdigit.promise('slope', 52))
         for name, (distance, kind) in distances.items():
             self.assertLessEqual(distance, lastdigit.promise(kind, 20), name)
+
+    def test_the_worked_track_needs_its_promises(self):
+        distances = {name: abs(value - exact) for name, _, value, exact, _ in lastdigit.figures(lastdigit.Track(WORKED))}
+        for name in 'REFSYS', 'DSG':
+            self.assertGreater(distances[name], lastdigit.Fraction(1, 2))
 
     def test_printed(self):
         result = run_tool(ROOT / 'examples' / 'short.blk')
         self.assertEqual((result.returncode, result.stderr), (0, ''))
-        for row in ('== Smoothing block 10', '== B of the 20 blocks, in ps', 'T / 1 995 = -88.500251',
-                    '133 x S = -29 889 888',
-                    'threshold of 4 = 20 x (100 x 4 - 50)^2 = 20 x 350^2 = 2 450 000', 'columns  21 to  24  TRKL    0300'):
+        for row in ('== Smoothing block 10', '== B of the 20 blocks, in 0.1 ps', 'T / 19 950 = -88.500050',
+                    '133 x S = -298 495 890',
+                    'threshold of 4 = 20 x (1000 x 4 - 500)^2 = 20 x 3500^2 = 245 000 000', 'columns  21 to  24  TRKL    0300'):
             self.assertIn(row, result.stdout.splitlines())
-        for n, row in (6, '2T / 105 = 0.000000'), (9, '3 x (2j - 8) x T = 0'), (4, '== Smoothing block 2'):
+        for n, row in (6, 'T / 525 = 0.000000'), (9, '3 x (2j - 8) x T = 0'), (4, '== Smoothing block 2'):
             self.assertIn(row, subprocess.run([sys.executable, str(TOOL), '-'], input=sample(n),
                                               capture_output=True).stdout.decode().splitlines())
 
@@ -167,12 +237,12 @@ class Blocks(unittest.TestCase):
         return [row for row in rows if row.startswith(('threshold', 'DSG', 'promised'))]
 
     def test_dsg_of_0_has_only_the_upper_promise(self):
-        first = 'threshold of 1 = 52 x (100 x 1 - 50)^2 = 52 x 50^2 = 130 000'
+        first = 'threshold of 1 = 52 x (1000 x 1 - 500)^2 = 52 x 500^2 = 13 000 000'
         for a in 0, 49:
-            self.assertEqual(self.scatter(pattern(a)), [first, 'DSG = 0', 'promised: M <= 2 601'])
+            self.assertEqual(self.scatter(pattern(a)), [first, 'DSG = 0', 'promised: M <= 2 510.01'])
         self.assertEqual(self.scatter(pattern(50)),
-                         [first, 'threshold of 2 = 52 x (100 x 2 - 50)^2 = 52 x 150^2 = 1 170 000', 'DSG = 1',
-                          'promised: 2 401 <= M <= 22 801'])
+                         [first, 'threshold of 2 = 52 x (1000 x 2 - 500)^2 = 52 x 1500^2 = 117 000 000', 'DSG = 1',
+                          'promised: 2 490.01 <= M <= 22 530.01'])
 
     def test_a_refused_block_has_no_line(self):
         for block, number in REFUSED[::4]:
@@ -222,12 +292,12 @@ class Blocks(unittest.TestCase):
         self.assertEqual((result.returncode, result.stderr), (2, message))
         result = run_tool(ROOT / 'examples' / 'short.blk', '-r', '20')
         self.assertEqual((result.returncode, result.stderr), (2, 'lastdigit: block 20: the track has 20, 0 to 19\n'))
-        for arguments in ('-j', '52'), ('-j', '-1'), ('-j', 'x'), ('a.blk', '--check', DOCUMENT), ('a.blk', '--svg', 'a.svg'):
+        for arguments in ('-j', '52'), ('-j', '-1'), ('-j', 'x'), ('a.blk', '--check', DOCUMENT), ('a.blk', '--svg', 'a.svg'), ('--steps', '2'):
             self.assertEqual(run_tool(*arguments).returncode, 2)
-        own = 'lastdigit: error: the picture is of the worked track alone, the document of the worked and the short track\n'
+        own = 'lastdigit: error: picture and document are of their own tracks, and in tenths of a ps\n'
         for option in '--check', '--svg':
             self.assertTrue(run_tool('a.blk', option, 'a').stderr.endswith(own))
-        self.assertIn('on the worked and the short track', ' '.join(run_tool('--help').stdout.split()))
+            self.assertTrue(run_tool('--steps', '1', option, 'a').stderr.endswith(own))
 
 
 class Streams(unittest.TestCase):
@@ -264,7 +334,7 @@ class Document(unittest.TestCase):
     @classmethod
     def setUpClass(cls):
         cls.track = lastdigit.Track(WORKED)
-        cls.phrases = lastdigit_prose.phrases(cls.track, lastdigit.Track(SHORT), lastdigit)
+        cls.phrases = lastdigit_prose.phrases(cls.track, lastdigit.Track(SHORT), CHANGED, lastdigit)
         cls.prose = lastdigit_prose.read(DOCUMENT.read_text())[1]
 
     def faults(self, prose):
@@ -289,7 +359,8 @@ class Document(unittest.TestCase):
 
     def test_every_word_between_figures_is_checked(self):
         text = '\n'.join(self.prose)
-        for word, other in (' below the tie', ' above the tie'), ('more than 0.5', 'less than 0.5'), ('- 32j', '+ 32j'):
+        for word, other in ((' below the tie', ' above the tie'), ('more than 0.5;', 'less than 0.5;'), ('- 32j', '+ 32j'),
+                            ('below -314.5 and above 250', 'above -314.5 and below 250')):
             self.assertIn(word, text)
             self.assertTrue(self.faults(text.replace(word, other).split('\n')), word)
 
@@ -301,8 +372,9 @@ class Document(unittest.TestCase):
         rows = DOCUMENT.read_text().splitlines(keepends=True)
         with tempfile.TemporaryDirectory() as folder:
             wrong = pathlib.Path(folder, 'a.md')
-            # of the worked track, and of the short one
-            for line, other in ('DSG = 3\n', 'DSG = 4\n'), ('columns  66 to  71  SRSYS   -00089\n', 'SRSYS\n'):
+            # of the worked track, of the short one, and of the one that changed
+            for line, other in (('DSG = 3\n', 'DSG = 4\n'), ('columns  66 to  71  SRSYS   -00089\n', 'SRSYS\n'),
+                                ('exact REFSYS = -314.499572\n', 'exact REFSYS = -314.499573\n')):
                 at = rows.index(line)
                 before, here, after = rows[:at], rows[at], rows[at + 1:]
                 for changes in [other, *after], after, [here, here, *after], [after[0], here, *after[1:]]:

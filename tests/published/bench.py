@@ -5,20 +5,21 @@ FILL = b'.'
 SAMPLE = ('G05 FF 50722 000200 0780 450 1800 +0000000010 +00000 +0000000010 +00000 0000 007 0000 +000 0000 +000 '
           '00 00 L1C 26')
 # Document 01, "What the technician tries", without what is marked P, and some refusals of "Each operation and its refusals,
-# in order"; the starts are those of document 02, Job 2, the counts of Fit and Scatter those of Job 3. Document 01 leaves out
-# the value of fifteen equal measurements, the slope of 52 equal values, and the midpoint of 344 in the last place (344 / 5200).
+# in order"; the starts are those of document 02, Job 2, the counts of Fit and Scatter those of Job 3, and values are in tenths
+# of a ps, as in Job 8. Document 01 leaves out the value of fifteen equal measurements, the slope of 52 equal values, and the
+# midpoint of 3440 in the last place (3440 / 52000).
 TECHNICIAN = [
-    ('smooth', '10^12 everywhere', 'value 1000000000000'),
+    ('smooth', '10^12 everywhere', 'value 10000000000000'),
     ('smooth', 'last 10^12 + 1', 'refused 2'),
     ('smooth', '14 measurements', 'refused 1'),
     ('smooth', '16 measurements', 'refused 1'),
-    ('fit', 'all -51', 'midpoint -1 slope 0'),
-    ('fit', 'last value 344', 'midpoint 0 slope 0'),
-    ('fit', 'last 2 x 10^12 + 1', 'refused 2'),
+    ('fit', 'all -510', 'midpoint -1 slope 0'),
+    ('fit', 'last value 3440', 'midpoint 0 slope 0'),
+    ('fit', 'last 2 x 10^13 + 1', 'refused 2'),
     ('fit', '3 values', 'refused 1'),
     ('fit', '53 values', 'refused 1'),
-    ('scatter', 'a = 150', 'DSG 2'),
-    ('scatter', 'a = 999950', 'refused 6'),
+    ('scatter', 'a = 1500', 'DSG 2'),
+    ('scatter', 'a = 9999500', 'refused 6'),
     ('scatter', 'a = 2^32', 'refused 6'),
     ('scatter', '3 values', 'refused 1'),
     ('scatter', '53 values', 'refused 1'),

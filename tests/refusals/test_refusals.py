@@ -143,7 +143,7 @@ class Card(unittest.TestCase):
     def test_blocks_missing_in_mid_track(self):
         """A gap makes the slopes steep; what follows it is taken for earlier."""
         full, gap = fields(hireblock.pack(WORKED)), fields(without(range(10, 40)))
-        self.assertEqual((full[4], full[10], gap[4], gap[10]), ('0780', '-00041', '0330', '-00123'))
+        self.assertEqual((full[4], full[10], gap[4], gap[10]), ('0780', '-00041', '0330', '-00125'))
         self.assertEqual(gap[:4], full[:4])
         self.all_are(0, [answer(without(range(first, first + count))) for first in (1, 20, 47) for count in (1, 4)])
 

@@ -22,6 +22,9 @@ WORKED_LINE = (b'G17 FF 60600 133000 0780 583 2145 +0001233431 +00009 -000000031
                b'00 05 L1C 8C\r\n')
 SHORT_LINE = (b'G23 FF 60600 134600 0300 103 3021 +0001203805 -00039 -0000000112 -00089 0004 041 0558 +267 0390 +073 '
               b'00 07 L1C 92\r\n')
+# the last digits of REFSYS and DSG are those of tenths of a ps
+CHANGED_LINE = (b'G17 FF 60600 133000 0780 583 2145 +0001233431 +00009 -0000000314 -00041 0002 087 0097 +005 0202 -021 '
+                b'00 05 L1C 8A\r\n')
 
 
 def printed(data):
@@ -62,6 +65,7 @@ class Trackline(unittest.TestCase):
         self.assertEqual(printed((ROOT / 'examples' / 'sample.blk').read_bytes()), SAMPLE_LINE)
         self.assertEqual(printed((ROOT / 'examples' / 'worked.blk').read_bytes()), WORKED_LINE)
         self.assertEqual(printed((ROOT / 'examples' / 'short.blk').read_bytes()), SHORT_LINE)
+        self.assertEqual(printed((ROOT / 'examples' / 'changed.blk').read_bytes()), CHANGED_LINE)
 
     def test_sizes(self):
         for sizes in ((779, 52), (780, 51), (765, 52), (52, 780), (780, 0), (65535, 65535), (0x0C03, 52), (795, 53), (45, 3),
@@ -141,6 +145,32 @@ class Trackline(unittest.TestCase):
         self.assertEqual(printed(block(clock=scattered(999949))),
                          line('G05 FF 50722 000200 0780 450 1800 +0000000010 +00000 +0000000010 +00000 9999 007 0000 +000 '
                               '0000 +000 00 00 L1C'))
+
+    def test_tenths(self):
+        """Each block of one level and 4 ps more in its middle, which make 4 x 167 / 1105 = 0.6045 ps, six tenths."""
+        def figures(*levels):
+            measurements = [level + more * (i == 7) for level, more in levels for i in range(15)]
+            return printed(block(groups=len(levels), measurements=measurements))[34:76].split()
+
+        for n in range(4, 53):
+            # 49.6 ps; in whole ps it would be 50, and 1 in REFSV and REFSYS
+            self.assertEqual(figures(*[(49, 4)] * n), [b'+0000000000', b'+00000', b'+0000000000', b'+00000', b'0000'])
+            self.assertEqual(figures(*[(50, 0)] * n), [b'+0000000001', b'+00000', b'+0000000001', b'+00000', b'0000'])
+            # 31149.6 ps, 311 and not 312
+            self.assertEqual(figures(*[(31149, 4)] * n)[0], b'+0000000311')
+        # T is -1 + 3 x 2.6 = 6.8 ps and the slope T / 15 = 0.45; in whole ps T would be 8 and the slope 1
+        self.assertEqual(figures((0, 0), (0, 0), (-1, 0), (2, 4))[1::2], [b'+00000', b'+00000'])
+        for n in range(4, 53, 4):
+            # the root mean square is 49.6 ps; in whole ps it would be 50, and 1 in DSG
+            self.assertEqual(figures(*[(49, 4), (-49, -4), (-49, -4), (49, 4)] * (n // 4))[4], b'0000')
+            self.assertEqual(figures(*[(50, 0), (-50, 0), (-50, 0), (50, 0)] * (n // 4))[4], b'0001')
+
+    def test_one_high_value(self):
+        """A residual of some microseconds is no 6 where the others are small: one block of 52 lies 7 us higher."""
+        clock = [0] * 52
+        clock[25] = 7 * 10 ** 6
+        # the line's level takes 1 / 52 of it off, its slope next to nothing: 51 / 52 of 7^2 / 52 us^2 are 961346 ps squared
+        self.assertEqual(printed(block(clock=clock))[72:76], b'9613')
 
     def test_labels(self):
         for part, value in (('constellation', ord('S')), ('constellation', 0), ('constellation', ord('R')),

@@ -1,4 +1,5 @@
--- The thirteen worked cases that document 01 marks P ("What the technician tries"), as one table.
+-- The thirteen worked cases that document 01 marks P ("What the technician tries"), with the figures of document 02, Job 8, as one table: Smooth gives
+-- tenths, Fit and Scatter take them.
 -- Assumes nothing.
 use mathlib.Core.Path.{_≡_, refl}
 use Prim.Native.Nat.{ℕ, zero, suc, _*_}
@@ -38,19 +39,19 @@ pattern (suc n) a = a ∷ negℤ a ∷ negℤ a ∷ a ∷ pattern n a
 -- A case and its answer: the number, then the values.
 pub cases : List (Case × List ℤ)
 cases =
-    (smooth (replicate 15 (negℤ (pos 7))), pos 0 ∷ negℤ (pos 7) ∷ [])
-    ∷ (smooth (lone 7 (pos 1105) 7), pos 0 ∷ pos 167 ∷ [])
-    ∷ (smooth (lone 14 (pos 1105) 0), pos 0 ∷ negℤ (pos 78) ∷ [])
-    ∷ (smooth (lone 7 (pos 3) 7), pos 0 ∷ pos 0 ∷ [])
-    ∷ (smooth (lone 7 (pos 4) 7), pos 0 ∷ pos 1 ∷ [])
-    ∷ (smooth (lone 7 (negℤ (pos 4)) 7), pos 0 ∷ negℤ (pos 1) ∷ [])
-    ∷ (fit (replicate 52 (pos 50)), pos 0 ∷ pos 1 ∷ pos 0 ∷ [])
-    ∷ (fit (replicate 52 (negℤ (pos 50))), pos 0 ∷ pos 0 ∷ pos 0 ∷ [])
-    ∷ (fit (tabulate (λ j. pos (15 * j)) 52), pos 0 ∷ pos 4 ∷ pos 10 ∷ [])
-    ∷ (fit (lone 51 (pos 345) 0), pos 0 ∷ pos 0 ∷ pos 1 ∷ [])
-    ∷ (scatter (pattern 13 (pos 49)), pos 0 ∷ pos 0 ∷ [])
-    ∷ (scatter (pattern 13 (pos 50)), pos 0 ∷ pos 1 ∷ [])
-    ∷ (scatter (pattern 13 (pos 999949)), pos 0 ∷ pos 9999 ∷ [])
+    (smooth (replicate 15 (negℤ (pos 7))), pos 0 ∷ negℤ (pos 70) ∷ [])
+    ∷ (smooth (lone 7 (pos 1105) 7), pos 0 ∷ pos 1670 ∷ [])
+    ∷ (smooth (lone 14 (pos 1105) 0), pos 0 ∷ negℤ (pos 780) ∷ [])
+    ∷ (smooth (lone 7 (pos 3) 7), pos 0 ∷ pos 5 ∷ [])
+    ∷ (smooth (lone 7 (pos 4) 7), pos 0 ∷ pos 6 ∷ [])
+    ∷ (smooth (lone 7 (negℤ (pos 4)) 7), pos 0 ∷ negℤ (pos 6) ∷ [])
+    ∷ (fit (replicate 52 (pos 500)), pos 0 ∷ pos 1 ∷ pos 0 ∷ [])
+    ∷ (fit (replicate 52 (negℤ (pos 500))), pos 0 ∷ pos 0 ∷ pos 0 ∷ [])
+    ∷ (fit (tabulate (λ j. pos (150 * j)) 52), pos 0 ∷ pos 4 ∷ pos 10 ∷ [])
+    ∷ (fit (lone 51 (pos 3450) 0), pos 0 ∷ pos 0 ∷ pos 1 ∷ [])
+    ∷ (scatter (pattern 13 (pos 490)), pos 0 ∷ pos 0 ∷ [])
+    ∷ (scatter (pattern 13 (pos 500)), pos 0 ∷ pos 1 ∷ [])
+    ∷ (scatter (pattern 13 (pos 9999490)), pos 0 ∷ pos 9999 ∷ [])
     ∷ []
 
 pub worked : map (λ (c : Case × List ℤ). run (c .0)) cases ≡ map (λ (c : Case × List ℤ). c .1) cases

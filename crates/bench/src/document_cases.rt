@@ -1,5 +1,6 @@
 // The cases of document 01, "What the technician tries", that are not marked P, and some refusals beside them. The starts are
-// those of document 02, Job 2, and the counts of values those of Job 3.
+// those of document 02, Job 2, the counts of values those of Job 3, and the values and answers those of Job 8: Smooth gives tenths,
+// Fit and Scatter take them.
 use crate::counts::Tally;
 use crate::lines::FILL;
 use crate::lines::report_line;
@@ -49,7 +50,7 @@ const MOST: i64 = 1_000_000_000_000;
 
 pub fn smooth_cases(tally: Tally) -> Tally {
     let mut values = [MOST; 15];
-    let first = tally.with(try_smooth(b"10^12 everywhere", &values, Reply::values(MOST, 0)));
+    let first = tally.with(try_smooth(b"10^12 everywhere", &values, Reply::values(10 * MOST, 0)));
     values[14] = MOST + 1;
     first
         .with(try_smooth(b"last 10^12 + 1", &values, Reply::refused(2)))
@@ -59,12 +60,12 @@ pub fn smooth_cases(tally: Tally) -> Tally {
 
 pub fn fit_cases(tally: Tally) -> Tally {
     let mut values = [0i64; 52];
-    let first = tally.with(try_fit(b"all -51", &[-51; 52], Reply::values(-1, 0)));
-    values[51] = 344;
-    let second = first.with(try_fit(b"last value 344", &values, Reply::values(0, 0)));
-    values[51] = 2 * MOST + 1;
+    let first = tally.with(try_fit(b"all -510", &[-510; 52], Reply::values(-1, 0)));
+    values[51] = 3440;
+    let second = first.with(try_fit(b"last value 3440", &values, Reply::values(0, 0)));
+    values[51] = 20 * MOST + 1;
     second
-        .with(try_fit(b"last 2 x 10^12 + 1", &values, Reply::refused(2)))
+        .with(try_fit(b"last 2 x 10^13 + 1", &values, Reply::refused(2)))
         .with(try_fit(b"3 values", &[0; 3], Reply::refused(1)))
         .with(try_fit(b"53 values", &[0; 53], Reply::refused(1)))
 }
@@ -83,13 +84,13 @@ fn pattern(a: i64, b: i64) -> [i64; 52] {
 }
 
 pub fn scatter_cases(tally: Tally) -> Tally {
-    let small = pattern(150, -150);
-    let large = pattern(999_950, -999_950);
+    let small = pattern(1500, -1500);
+    let large = pattern(9_999_500, -9_999_500);
     // the squares' sum is 0 modulo 2^64
     let wrapping = pattern(4_294_967_296, -4_294_967_296);
     tally
-        .with(try_scatter(b"a = 150", &small, Reply::values(2, 0)))
-        .with(try_scatter(b"a = 999950", &large, Reply::refused(6)))
+        .with(try_scatter(b"a = 1500", &small, Reply::values(2, 0)))
+        .with(try_scatter(b"a = 9999500", &large, Reply::refused(6)))
         .with(try_scatter(b"a = 2^32", &wrapping, Reply::refused(6)))
         .with(try_scatter(b"3 values", &[0; 3], Reply::refused(1)))
         .with(try_scatter(b"53 values", &[0; 53], Reply::refused(1)))

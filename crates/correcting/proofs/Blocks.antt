@@ -11,7 +11,7 @@ use lib.Seq.{length-take-le, getD-take, getD-drop}
 use Rattle.whole.specs.Nearest.{nearest}
 use Rattle.whole.specs.Sums.{sum-cong}
 use Rattle.series.specs.declared.Smoothed.{Smoothed}
-use Rattle.exact.specs.Corrected.{at}
+use Rattle.exact.specs.Corrected.{at, steps}
 use Rattle.exact.specs.Weights.{weights}
 use Rattle.limits.specs.Lists.{anyBeyond}
 use Rattle.series.specs.Answers.{smoothReply, smoothNumbered}
@@ -28,7 +28,7 @@ module _ (m : List ℤ) (from : ℕ) (fits : from + 15 ≤ length m) where
   part-smoothed : smoothed (at (take 15 (drop from m))) ≡ smoothed (λ i. at m (from + i))
   unfolding smoothed
   part-smoothed =
-      ap (λ (z : ℤ). nearest z 1105)
+      ap (λ (z : ℤ). nearest (pos steps *ℤ z) 1105)
       (sum-cong 15 (λ i h. ap (λ (z : ℤ). at weights i *ℤ z) (getD-take 15 (drop from m) i (pos 0) h ∙ getD-drop from m i (pos 0))))
 
   -- within the limits, Smooth answers with it

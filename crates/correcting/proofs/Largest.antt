@@ -1,26 +1,26 @@
 -- How large smoothed and corrected values can be where no number is refused with 2 (document 01, "Each operation and its refusals, in order"):
--- the limits on what a track is given keep every corrected value below 2 × 10^12.
+-- the limits on what a track is given keep every corrected value below 2 × 10^13 tenths.
 -- Assumes nothing.
 use mathlib.Core.Path.{_≡_}
 use mathlib.Core.Bool.{false}
 use Prim.Native.Nat.{ℕ, _+_, _*_, _^_, _≤_}
 use lib.IntN.{natAbs}
 use Rattle.whole.specs.Words.{Word, Within, known, bound, bounds}
-use Rattle.exact.specs.Corrected.{Given, at, block, toA, toB}
+use Rattle.exact.specs.Corrected.{Given, at, block, toA, toB, steps}
 use Rattle.limits.proofs.Lists.{within-limit}
 use Rattle.series.proofs.Weights.{smoothed-bound}
 use Rattle.correcting.specs.Correct.{smoothedAt, valueA, valueB, valueC, valueD, outOfLimits}
 use Rattle.correcting.proofs.Refusals.{limited}
 
--- The smoothed value of a block, and its four corrected values, with measurements within 10^12, geometry within 2 × 10^11 and all else
--- within 10^10. Smoothing magnifies by at most 1469 / 1105, and all else is added or taken off. (That some track reaches each bound is not proved here.)
+-- The smoothed value of a block, and its four corrected values, in tenths, with measurements within 10^12 ps, geometry within 2 × 10^11 ps and all else
+-- within 10^10 ps. Smoothing magnifies by at most 1469 / 1105, and all else is added or taken off. (That some track reaches each bound is not proved here.)
 module _ (g : Given) (e : outOfLimits g ≡ false) (j : ℕ) where
-  pub smoothed-within : natAbs (smoothedAt g j) ≤ 1329411764706
+  pub smoothed-within : natAbs (smoothedAt g j) ≤ 13294117647059
   unfolding smoothedAt block
   smoothed-within =
       smoothed-bound (block g j) (λ i. within-limit (10 ^ 12) (g .measurements) (limited g e .in-measurements) (15 * j + i))
 
-  pub a-within : natAbs (valueA g j) ≤ 1599411764706
+  pub a-within : natAbs (valueA g j) ≤ 15994117647059
   unfolding valueA toA
   a-within =
       let l = limited g e in
@@ -33,19 +33,23 @@ module _ (g : Given) (e : outOfLimits g ≡ false) (j : ℕ) where
       let rel : Word (at (g .relativity) j) = known (within-limit (10 ^ 10) _ (l .in-relativity) j) in
       let ion : Word (at (g .ionosphere) j) = known (within-limit (10 ^ 10) _ (l .in-ionosphere) j) in
       let tro : Word (at (g .troposphere) j) = known (within-limit (10 ^ 10) _ (l .in-troposphere) j) in
-      let w : Within 1599411764706 (valueA g j) = bound (search bounds depth 20) tt in w .within
+      let w : Within 15994117647059 (valueA g j) = bound (search bounds depth 20) tt in w .within
 
-  pub b-within : natAbs (valueB g j) ≤ 1609411764706
+  pub b-within : natAbs (valueB g j) ≤ 16094117647059
   unfolding valueA valueB toB
   b-within =
       let a : Word (valueA g j) = known a-within in
       let clock : Word (at (g .clock) j) = known (within-limit (10 ^ 10) _ (limited g e .in-clock) j) in
-      let w : Within 1609411764706 (valueB g j) = bound (search bounds depth 12) tt in w .within
+      let w : Within 16094117647059 (valueB g j) = bound (search bounds depth 12) tt in w .within
 
-  pub c-within : natAbs (valueC g j) ≤ 10 ^ 10
+  pub c-within : natAbs (valueC g j) ≤ steps * 10 ^ 10
   unfolding valueC
-  c-within = within-limit (10 ^ 10) (g .troposphere) (limited g e .in-troposphere) j
+  c-within =
+      let tro : Word (at (g .troposphere) j) = known (within-limit (10 ^ 10) _ (limited g e .in-troposphere) j) in
+      let w : Within (steps * 10 ^ 10) (valueC g j) = bound (search bounds depth 12) tt in w .within
 
-  pub d-within : natAbs (valueD g j) ≤ 10 ^ 10
+  pub d-within : natAbs (valueD g j) ≤ steps * 10 ^ 10
   unfolding valueD
-  d-within = within-limit (10 ^ 10) (g .ionosphere) (limited g e .in-ionosphere) j
+  d-within =
+      let ion : Word (at (g .ionosphere) j) = known (within-limit (10 ^ 10) _ (limited g e .in-ionosphere) j) in
+      let w : Within (steps * 10 ^ 10) (valueD g j) = bound (search bounds depth 12) tt in w .within

@@ -1,37 +1,37 @@
--- Correcting (document 01; document 02, Job 3): the corrected values of each kind of a track of n blocks, what of it is refused, and what it is given.
+-- Correcting (document 01; document 02, Jobs 3 and 8): the corrected values of each kind of a track of n blocks, what of it is refused, and what it is given.
 -- Assumes nothing.
 use Prim.Native.Nat.{ℕ, _*_, _-_, _^_}
 use mathlib.Core.Bool.{Bool, not, _||_}
 use mathlib.Core.List.{List, _++_}
-use lib.IntN.{ℤ, pos}
+use lib.IntN.{ℤ, pos, _*ℤ_}
 use lib.ListN.{length, replicate}
 use Rattle.limits.specs.Limits.{beyond}
 use Rattle.limits.specs.Blocks.{blocksFit}
 use Rattle.limits.specs.Lists.{miscounted, anyBeyond}
 use Rattle.whole.specs.Table.{tabulate}
-use Rattle.exact.specs.Corrected.{at, Given, block, toA, toB}
+use Rattle.exact.specs.Corrected.{at, steps, Given, block, toA, toB}
 use Rattle.series.specs.Smooth.{smoothed}
 
 -- How many blocks a track has: as many as its first column, and 1 tells where the other lists disagree.
 abbrev pub blocks : Given → ℕ
 blocks g = length (g .geometry)
 
--- The smoothed value of block j.
+-- The smoothed value of block j, in tenths.
 unfoldable pub smoothedAt : Given → ℕ → ℤ
 smoothedAt g j = smoothed (block g j)
 
--- The corrected values A, B, C and D of block j.
+-- The corrected values A, B, C and D of block j, in tenths.
 unfoldable pub valueA : Given → ℕ → ℤ
-valueA g j = toA g (pos 1) j (smoothedAt g j)
+valueA g j = toA g (pos steps) j (smoothedAt g j)
 
 unfoldable pub valueB : Given → ℕ → ℤ
-valueB g j = toB g (pos 1) j (smoothedAt g j)
+valueB g j = toB g (pos steps) j (smoothedAt g j)
 
 unfoldable pub valueC : Given → ℕ → ℤ
-valueC g j = at (g .troposphere) j
+valueC g j = pos steps *ℤ at (g .troposphere) j
 
 unfoldable pub valueD : Given → ℕ → ℤ
-valueD g j = at (g .ionosphere) j
+valueD g j = pos steps *ℤ at (g .ionosphere) j
 
 -- The 52 places of a record: the values of n blocks, and 0 in the others.
 unfoldable pub places : (n : ℕ) (value : ℕ → ℤ) → List ℤ
@@ -45,7 +45,7 @@ wrongSizes g =
     || (miscounted (15 * n) (g .measurements) || miscounted n (g .relativity) || miscounted n (g .ionosphere)
     || miscounted n (g .troposphere) || miscounted n (g .clock))
 
--- 2: some measurement exceeds 10^12 in magnitude, some geometry 2 × 10^11, or some other correction or delay 10^10.
+-- 2: some measurement exceeds 10^12 ps in magnitude, some geometry 2 × 10^11 ps, or some other correction or delay 10^10 ps.
 unfoldable pub outOfLimits : Given → Bool
 outOfLimits g =
     anyBeyond (10 ^ 12) (g .measurements)

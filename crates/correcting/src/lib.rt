@@ -1,15 +1,15 @@
 // The corrected values of a track of 4 to 52 blocks ("Correcting" of document 01; document 02, Job 3), from what Track is given: the refusals 1 and 2
 // of its lists and delays, the smoothed value of each block, and A, B, C and D.
 // Lists of any length and numbers of any size are taken, and nothing traps.
-// All quantities are whole picoseconds unless a unit is given.
+// What is given is in whole picoseconds; smoothed and corrected values are in tenths of one (document 02, Job 8).
 
 mod correction;
 mod inputs;
 
 use correction::a_values;
 use correction::b_values;
-use correction::copied;
 use correction::delay;
+use correction::in_tenths;
 use correction::smooth_blocks;
 use inputs::columns_beyond;
 use inputs::delays_beyond;
@@ -21,7 +21,7 @@ ghost use Rattle.correcting.specs.Correct.{given, wrongSizes, outOfLimit
 ghost use Rattle.correcting.specs.Answer.{refusedBy, correctRule};
 
 // The number of the refusal, 0 where there is none; then how many of the 52 places are in use and the corrected values of each kind,
-// A, B, C and D of document 01, with 0 in the other places; 0 throughout where it is refused.
+// A, B, C and D of document 01 in tenths, with 0 in the other places; 0 throughout where it is refused.
 pub struct Corrected {
     pub refusal: u32,
     pub blocks: usize,
@@ -84,8 +84,8 @@ fn corrected_values(
         gd,
     );
     let b = b_values(&a, clock);
-    let c = copied(troposphere);
-    let d = copied(ionosphere);
+    let c = in_tenths(troposphere);
+    let d = in_tenths(ionosphere);
     Corrected {
         refusal: 0,
         blocks: n,

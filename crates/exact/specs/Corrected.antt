@@ -1,10 +1,15 @@
--- What a track is made of, and its corrected values (document 01, "Correcting" and "Exact figures", second point; document 000,
--- equations 1 and 2).
+-- What a track is made of, and its corrected values (document 01, "Correcting" and "Exact figures", second point; document 02, Job 8;
+-- document 000, equations 1 and 2).
 -- Assumes nothing.
 use Prim.Native.Nat.{ℕ, _+_, _*_}
 use mathlib.Core.List.{List}
 use lib.IntN.{ℤ, pos, _+ℤ_, _-ℤ_, _*ℤ_}
 use lib.ListN.{getD}
+
+-- How many steps a picosecond has. Smoothed and corrected values and residuals are whole steps: tenths of a picosecond. What a track is given
+-- is in picoseconds.
+abbrev pub steps : ℕ
+steps = 10
 
 -- What stands at place j of a list, counted from 0; 0 past the end.
 abbrev pub at : List ℤ → ℕ → ℤ
@@ -27,7 +32,7 @@ pub record Given : Type 0 where
 unfoldable pub block : Given → ℕ → ℕ → ℤ
 block g j i = at (g .measurements) (15 * j + i)
 
--- A of block j, times e, from its smoothed value y / e. The whole values have e = 1; the exact ones, in Accurate, have other e.
+-- A of block j, times e, from its smoothed value y / e, in picoseconds. Values in tenths have e = steps; the exact ones, in Accurate, have other e.
 unfoldable pub toA : Given → ℤ → ℕ → ℤ → ℤ
 toA g e j y =
     y -ℤ e *ℤ (g .int +ℤ g .cab -ℤ g .refdly) -ℤ e *ℤ at (g .geometry) j +ℤ e *ℤ at (g .relativity) j

@@ -244,3 +244,37 @@ module _ {n : ℕ} {Y Y′ : ℕ → ℤ} {e e′ P P′ Q Q′ d d′ : ℤ} (h
       sum-eq n (search sums depth 12)
       (λ j k. square-mul (e′ *ℤ d′) (lineResidual n Y e P Q d j) ∙ ap squared (residual-unique j k)
       ∙ sym (square-mul (e *ℤ d) (lineResidual n Y′ e′ P′ Q′ d′ j)))
+
+-- ---- values k times as large have a line k times as large: the same figures, counted in steps of which there are k
+
+module _ (n : ℕ) (Y : ℕ → ℤ) (e k : ℤ) where
+  -- the least sum is k² times as large
+  pub misfit-scaled : (P Q d : ℤ) → lineMisfit n (λ j. k *ℤ Y j) e (k *ℤ P) (k *ℤ Q) d ≡ squared k *ℤ lineMisfit n Y e P Q d
+  unfolding lineMisfit lineResidual
+  misfit-scaled P Q d =
+      sum-eq n (search sums depth 12)
+      (λ j h. identity (k ∷ d ∷ e ∷ P ∷ Q ∷ Y j ∷ twiceSeconds n j ∷ []) (search quote depth 30 fits 8000) tt)
+
+  -- any line over d is one through the values themselves over k d
+  misfit-divided : (P Q d : ℤ) → lineMisfit n (λ j. k *ℤ Y j) e P Q d ≡ lineMisfit n Y e P Q (k *ℤ d)
+  unfolding lineMisfit lineResidual
+  misfit-divided P Q d =
+      sum-eq n (search sums depth 12)
+      (λ j h. identity (k ∷ d ∷ e ∷ P ∷ Q ∷ Y j ∷ twiceSeconds n j ∷ []) (search quote depth 30 fits 8000) tt)
+
+  pub least-scaled : pos 0 ⋖ k → {P Q d : ℤ} → LeastLine n Y e P Q d → LeastLine n (λ j. k *ℤ Y j) e (k *ℤ P) (k *ℤ Q) d
+  least-scaled k-pos {P} {Q} {d} l =
+      record {
+        positive = l .positive;
+        least = λ P′ Q′ d′ h.
+            subst₂ (λ (a b : ℤ). a ⩽ squared d *ℤ b) (before d′) (sym (misfit-divided P′ Q′ d′))
+            (l .least P′ Q′ (k *ℤ d′) (mul-pos k-pos h));
+      }
+    where
+      moved : (k d′ W : ℤ) → squared (k *ℤ d′) *ℤ W ≡ squared d′ *ℤ (squared k *ℤ W)
+      moved k d′ W = identity (k ∷ d′ ∷ W ∷ []) (search quote depth 30 fits 4000) tt
+
+      before : (d′ : ℤ)
+          → squared (k *ℤ d′) *ℤ lineMisfit n Y e P Q d
+          ≡ squared d′ *ℤ lineMisfit n (λ j. k *ℤ Y j) e (k *ℤ P) (k *ℤ Q) d
+      before d′ = moved k d′ (lineMisfit n Y e P Q d) ∙ ap (λ (z : ℤ). squared d′ *ℤ z) (sym (misfit-scaled P Q d))

@@ -2,23 +2,24 @@
 -- Assumes nothing.
 use mathlib.Core.Path.{_≡_}
 use mathlib.Core.Bool.{false}
-use Prim.Native.Nat.{ℕ, _*_, _^_, _≤_}
+use Prim.Native.Nat.{ℕ, _≤_}
 use native.Mathlib.Nat.{le-trans}
 use lib.Dec.{lit≤}
 use lib.IntN.{ℤ, natAbs}
 use Rattle.exact.specs.Corrected.{Given}
 use Rattle.limits.specs.Lists.{anyBeyond}
 use Rattle.limits.proofs.Lists.{limit-within}
+use Rattle.series.specs.Fit.{valuesLimit}
 use Rattle.correcting.specs.Correct.{blocks, places, valueA, valueB, valueC, valueD, outOfLimits}
 use Rattle.correcting.proofs.Arrays.{places-bound}
 use Rattle.correcting.proofs.Largest.{a-within, b-within, c-within, d-within}
 use Rattle.fit.specs.Track.{recordOf, results, correctedBeyond}
 
 -- values within a bound that is not above Fit's limit pass its test
-passes : (n : ℕ) (f : ℕ → ℤ) (b : ℕ) → b ≤ 2 * 10 ^ 12 → ((j : ℕ) → natAbs (f j) ≤ b) → anyBeyond (2 * 10 ^ 12) (places n f) ≡ false
-passes n f b h k = limit-within (2 * 10 ^ 12) (places n f) (places-bound f n (2 * 10 ^ 12) (λ j. le-trans (k j) h))
+passes : (n : ℕ) (f : ℕ → ℤ) (b : ℕ) → b ≤ valuesLimit → ((j : ℕ) → natAbs (f j) ≤ b) → anyBeyond valuesLimit (places n f) ≡ false
+passes n f b h k = limit-within valuesLimit (places n f) (places-bound f n valuesLimit (λ j. le-trans (k j) h))
 
--- No corrected value is outside ±2 × 10^12: what 2 lets through, 10 never refuses.
+-- No corrected value is outside ±2 × 10^13 tenths: what 2 lets through, 10 never refuses.
 pub corrected-within : (g : Given) → outOfLimits g ≡ false → correctedBeyond (results g) ≡ false
 unfolding results recordOf correctedBeyond
 corrected-within g e =

@@ -4,7 +4,7 @@
 use mathlib.Core.Path.{_≡_, refl, sym, ap, _∙_}
 use mathlib.Core.Bool.{false, _||_}
 use mathlib.Core.List.{List}
-use Prim.Native.Nat.{ℕ, zero, suc, _*_, _^_, _≤_, _<_}
+use Prim.Native.Nat.{ℕ, zero, suc, _^_, _≤_, _<_}
 use native.Mathlib.Nat.{not-suc-le-zero}
 use native.Mathlib.Omega.{arith}
 use lib.IntN.{ℤ}
@@ -16,12 +16,12 @@ use Rattle.whole.specs.Words.{back-of}
 use Rattle.limits.specs.Refusal.{_when_, _then_}
 use Rattle.limits.proofs.Laws.{then-refused, then-passed, then-assoc, or-false}
 use Rattle.fit.specs.declared.TrackRecord.{TrackRecord}
-use Rattle.exact.specs.Corrected.{Given, at}
+use Rattle.exact.specs.Corrected.{Given, at, steps}
 use Rattle.limits.specs.Lists.{anyBeyond}
 use Rattle.limits.specs.Reply.{Reply}
 use Rattle.series.specs.declared.Fitted.{Fitted}
 use Rattle.series.specs.Answers.{fitReply, fitNumbered}
-use Rattle.series.specs.Fit.{midpoint, slope, fitRule}
+use Rattle.series.specs.Fit.{midpoint, slope, fitRule, valuesLimit}
 use Rattle.series.proofs.Fitting.{fit-part}
 use Rattle.correcting.specs.declared.Corrected.{Corrected}
 use Rattle.correcting.specs.Correct.{blocks, valueA, valueB, valueC, valueD, wrongSizes, outOfLimits}
@@ -41,18 +41,18 @@ tracked-accepted t = refl
 
 -- the four lists of corrected values inside their limit
 pub record Inside (a b c d : List ℤ) : Type 0 where
-  pub in-a : anyBeyond (2 * 10 ^ 12) a ≡ false
-  pub in-b : anyBeyond (2 * 10 ^ 12) b ≡ false
-  pub in-c : anyBeyond (2 * 10 ^ 12) c ≡ false
-  pub in-d : anyBeyond (2 * 10 ^ 12) d ≡ false
+  pub in-a : anyBeyond valuesLimit a ≡ false
+  pub in-b : anyBeyond valuesLimit b ≡ false
+  pub in-c : anyBeyond valuesLimit c ≡ false
+  pub in-d : anyBeyond valuesLimit d ≡ false
 
 pub inside : (n : ℕ) (a b c d : List ℤ) → correctedBeyond (recordOf n a b c d) ≡ false → Inside a b c d
 unfolding correctedBeyond recordOf
 inside n a b c d e =
-    let A = anyBeyond (2 * 10 ^ 12) a in
-    let B = anyBeyond (2 * 10 ^ 12) b in
-    let C = anyBeyond (2 * 10 ^ 12) c in
-    let D = anyBeyond (2 * 10 ^ 12) d in
+    let A = anyBeyond valuesLimit a in
+    let B = anyBeyond valuesLimit b in
+    let C = anyBeyond valuesLimit c in
+    let D = anyBeyond valuesLimit d in
     let abc = or-false (A || B || C) D e in
     let ab = or-false (A || B) C (abc .0) in
     let one = or-false A B (ab .0) in
@@ -60,9 +60,9 @@ inside n a b c d e =
 
 -- Fit's answer to the first n places of values that are not refused
 abbrev pub lineThrough : ℕ → List ℤ → Fitted
-lineThrough n l = Fitted.Line (midpoint 1 n (at l)) (slope 1 n (at l))
+lineThrough n l = Fitted.Line (midpoint steps n (at l)) (slope steps n (at l))
 
-pub fit-value : (n : ℕ) (l : List ℤ) → 4 ≤ n → n ≤ 52 → n ≤ length l → anyBeyond (2 * 10 ^ 12) l ≡ false
+pub fit-value : (n : ℕ) (l : List ℤ) → 4 ≤ n → n ≤ 52 → n ≤ length l → anyBeyond valuesLimit l ≡ false
     → (r : Fitted) → fitReply r ≡ fitRule (take n l) → fitNumbered r → r ≡ lineThrough n l
 fit-value n l h k m e (Fitted.Line x y) a f = ap (λ (r : Reply (ℤ × ℤ)). Fitted.Line (r .values .0) (r .values .1)) (a ∙ fit-part n l h k m e)
 fit-value n l h k m e (Fitted.Refused i) a f = absurd (never (ap (λ (r : Reply (ℤ × ℤ)). r .number) (a ∙ fit-part n l h k m e)) f)

@@ -1,6 +1,6 @@
--- Track (document 01; document 02, Job 3): the corrected values of each kind and the ten numbers of a track of n blocks.
+-- Track (document 01; document 02, Jobs 3 and 8): the corrected values of each kind and the ten numbers of a track of n blocks.
 -- Assumes nothing.
-use Prim.Native.Nat.{ℕ, zero, suc, _*_, _^_}
+use Prim.Native.Nat.{ℕ, zero, suc, _*_}
 use mathlib.Core.Bool.{Bool, _||_}
 use mathlib.Core.List.{List}
 use lib.IntN.{ℤ, pos}
@@ -10,9 +10,9 @@ use Rattle.limits.specs.Refusal.{_when_, _then_}
 use Rattle.limits.specs.Limits.{limitsRule, dsgRule}
 use Rattle.fit.specs.declared.TrackRecord.{TrackRecord}
 use Rattle.fit.specs.declared.Tracked.{Tracked}
-use Rattle.exact.specs.Corrected.{at, Given}
+use Rattle.exact.specs.Corrected.{at, steps, Given}
 use Rattle.limits.specs.Lists.{anyBeyond}
-use Rattle.series.specs.Fit.{midpoint, slope}
+use Rattle.series.specs.Fit.{midpoint, slope, valuesLimit}
 use Rattle.series.specs.Scatter.{squares, dsg}
 use Rattle.correcting.specs.Correct.{blocks, valueA, valueB, valueC, valueD, places, wrongSizes, outOfLimits}
 
@@ -20,14 +20,14 @@ use Rattle.correcting.specs.Correct.{blocks, valueA, valueB, valueC, valueD, pl
 unfoldable pub numbersWith : (dsg : ℤ) (n : ℕ) (a b c d : List ℤ) → Numbers
 numbersWith dsg n a b c d =
     record {
-      refsv = midpoint 1 n (at a);
-      srsv = slope 1 n (at a);
-      refsys = midpoint 1 n (at b);
-      srsys = slope 1 n (at b);
-      mdtr = midpoint 1 n (at c);
-      smdt = slope 1 n (at c);
-      mdio = midpoint 1 n (at d);
-      smdi = slope 1 n (at d);
+      refsv = midpoint steps n (at a);
+      srsv = slope steps n (at a);
+      refsys = midpoint steps n (at b);
+      srsys = slope steps n (at b);
+      mdtr = midpoint steps n (at c);
+      smdt = slope steps n (at c);
+      mdio = midpoint steps n (at d);
+      smdi = slope steps n (at d);
       dsg = dsg;
       trkl = pos (15 * n);
     }
@@ -41,18 +41,18 @@ recordOf n a b c d =
       b = b;
       c = c;
       d = d;
-      numbers = numbersWith (pos (dsg 1 n (squares n (at b)))) n a b c d;
+      numbers = numbersWith (pos (dsg steps n (squares n (at b)))) n a b c d;
     }
 
 unfoldable pub results : Given → TrackRecord
 results g =
     let n = blocks g in recordOf n (places n (valueA g)) (places n (valueB g)) (places n (valueC g)) (places n (valueD g))
 
--- 10: some corrected value exceeds 2 × 10^12 in magnitude.
+-- 10: some corrected value exceeds 2 × 10^13 tenths in magnitude.
 unfoldable pub correctedBeyond : TrackRecord → Bool
 correctedBeyond t =
-    anyBeyond (2 * 10 ^ 12) (t .a) || anyBeyond (2 * 10 ^ 12) (t .b)
-    || anyBeyond (2 * 10 ^ 12) (t .c) || anyBeyond (2 * 10 ^ 12) (t .d)
+    anyBeyond valuesLimit (t .a) || anyBeyond valuesLimit (t .b)
+    || anyBeyond valuesLimit (t .c) || anyBeyond valuesLimit (t .d)
 
 -- 3, 4, 5 and 6 on the numbers.
 unfoldable pub numbersRule : TrackRecord → ℕ

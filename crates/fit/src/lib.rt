@@ -2,7 +2,7 @@
 // and beside it Smooth, Fit and Scatter, of which it is made and which are those of crate series.
 // Each operation takes lists of any length and numbers of any size and never traps: what it can't use it refuses with
 // the number of the first refusal, in the order of document 01, "Each operation and its refusals, in order".
-// All quantities are whole picoseconds unless a unit is given.
+// What is given is in whole picoseconds; smoothed and corrected values are in tenths of one (document 02, Job 8).
 
 mod answers;
 mod results;
@@ -20,11 +20,12 @@ pub use series::smooth;
 ghost use mathlib.Core.Path.{_≡_};
 ghost use lib.ListN.{length};
 ghost use Rattle.exact.specs.Accurate.{AccurateTrack};
+ghost use Rattle.exact.specs.Corrected.{steps};
 ghost use Rattle.correcting.specs.Correct.{given};
 ghost use Rattle.fit.specs.Track.{trackRule};
 
-// How many of the 52 places are in use, a track's corrected values of each kind, A, B, C and D of document 01, with 0 in the
-// other places, and its ten numbers.
+// How many of the 52 places are in use, a track's corrected values of each kind, A, B, C and D of document 01 in tenths, with 0
+// in the other places, and its ten numbers.
 pub struct TrackRecord {
     pub blocks: usize,
     pub a: [i64; 52],
@@ -57,7 +58,7 @@ pub fn track(
     ensures answer { λ r. ⌜ r ≡ trackRule (given (now (measurements .entry)) int cab refdly gd
         (now (geometry .entry)) (now (relativity .entry)) (now (ionosphere .entry)) (now (troposphere .entry))
         (now (clock .entry))) ⌝ }
-    ensures accurate { λ r. ⌜ (r .refusal ≡ 0 → AccurateTrack (length (now (geometry .entry)))
+    ensures accurate { λ r. ⌜ (r .refusal ≡ 0 → AccurateTrack steps (length (now (geometry .entry)))
         (given (now (measurements .entry)) int cab refdly gd
         (now (geometry .entry)) (now (relativity .entry)) (now (ionosphere .entry)) (now (troposphere .entry))
         (now (clock .entry))) (r .«record» .numbers)) ⌝ }

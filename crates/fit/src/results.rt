@@ -13,16 +13,16 @@ use limits::any_outside;
 use limits::limits;
 ghost use mathlib.Core.Path.{_≡_};
 ghost use mathlib.Core.Bool.{false, _||_};
-ghost use Prim.Native.Nat.{_*_, _^_, _≤_};
+ghost use Prim.Native.Nat.{_*_, _≤_};
 ghost use lib.IntN.{pos};
 ghost use lib.ListN.{length};
-ghost use Rattle.exact.specs.Corrected.{at};
+ghost use Rattle.exact.specs.Corrected.{at, steps};
 ghost use Rattle.limits.specs.Limits.{dsgRule};
 ghost use Rattle.limits.specs.Lists.{anyBeyond};
 ghost use Rattle.limits.specs.Reply.{reply};
 ghost use Rattle.series.specs.declared.Fitted.{Fitted};
 ghost use Rattle.series.specs.Answers.{scatterReply, scatterNumbered};
-ghost use Rattle.series.specs.Fit.{midpoint, slope};
+ghost use Rattle.series.specs.Fit.{midpoint, slope, valuesLimit};
 ghost use Rattle.series.specs.Scatter.{squares, dsg};
 ghost use Rattle.fit.specs.Track.{numbersWith, recordOf, correctedBeyond, recordNumber, zeros, tracked};
 
@@ -75,18 +75,18 @@ pub fn refused(number: u32) -> Tracked
 
 // The line through the first n of 52 places, which are inside their limit.
 fn fit_blocks(n: usize, values: &[i64]) -> Fitted
-    requires { ⌜ (4 ≤ n) × (n ≤ 52) × (length (now values) ≡ 52) × (anyBeyond (2 * 10 ^ 12) (now values) ≡ false) ⌝ }
-    ensures { λ r. ⌜ r ≡ Fitted.Line (midpoint 1 n (at (now (values .entry))))
-        (slope 1 n (at (now (values .entry)))) ⌝ }
+    requires { ⌜ (4 ≤ n) × (n ≤ 52) × (length (now values) ≡ 52) × (anyBeyond valuesLimit (now values) ≡ false) ⌝ }
+    ensures { λ r. ⌜ r ≡ Fitted.Line (midpoint steps n (at (now (values .entry))))
+        (slope steps n (at (now (values .entry)))) ⌝ }
 {
     fit(&values[0..n])
 }
 
 // DSG of the first n of 52 places, which are inside their limit.
 fn scatter_blocks(n: usize, values: &[i64]) -> Scattered
-    requires { ⌜ (4 ≤ n) × (n ≤ 52) × (length (now values) ≡ 52) × (anyBeyond (2 * 10 ^ 12) (now values) ≡ false) ⌝ }
-    ensures { λ r. ⌜ (scatterReply r ≡ reply (pos 0) (dsgRule (pos (dsg 1 n (squares n (at (now (values .entry)))))))
-        (pos (dsg 1 n (squares n (at (now (values .entry))))))) × scatterNumbered r ⌝ }
+    requires { ⌜ (4 ≤ n) × (n ≤ 52) × (length (now values) ≡ 52) × (anyBeyond valuesLimit (now values) ≡ false) ⌝ }
+    ensures { λ r. ⌜ (scatterReply r ≡ reply (pos 0) (dsgRule (pos (dsg steps n (squares n (at (now (values .entry)))))))
+        (pos (dsg steps n (squares n (at (now (values .entry))))))) × scatterNumbered r ⌝ }
 {
     scatter(&values[0..n])
 }
@@ -116,14 +116,14 @@ fn no_lines(number: u32) -> Lines
 // The lines through the first n of 52 places of two kinds, which are inside their limit.
 fn fit_two(n: usize, one: &[i64], other: &[i64]) -> Lines
     requires { ⌜ (4 ≤ n) × (n ≤ 52) ⌝ }
-    requires { ⌜ (length (now one) ≡ 52) × (anyBeyond (2 * 10 ^ 12) (now one) ≡ false) ⌝ }
-    requires { ⌜ (length (now other) ≡ 52) × (anyBeyond (2 * 10 ^ 12) (now other) ≡ false) ⌝ }
+    requires { ⌜ (length (now one) ≡ 52) × (anyBeyond valuesLimit (now one) ≡ false) ⌝ }
+    requires { ⌜ (length (now other) ≡ 52) × (anyBeyond valuesLimit (now other) ≡ false) ⌝ }
     ensures { λ r. ⌜ r ≡ record {
       refusal = 0;
-      midpoint = midpoint 1 n (at (now (one .entry)));
-      slope = slope 1 n (at (now (one .entry)));
-      «other_midpoint» = midpoint 1 n (at (now (other .entry)));
-      «other_slope» = slope 1 n (at (now (other .entry)));
+      midpoint = midpoint steps n (at (now (one .entry)));
+      slope = slope steps n (at (now (one .entry)));
+      «other_midpoint» = midpoint steps n (at (now (other .entry)));
+      «other_slope» = slope steps n (at (now (other .entry)));
     } ⌝ }
 {
     let first = fit_blocks(n, one);
@@ -182,18 +182,18 @@ fn fitted(n: usize, a: &[i64], b: &[i64], c: &[i64], d: &[i64]) -> Found
     }
 }
 
-// Whether a corrected value is outside ±2 × 10^12.
+// Whether a corrected value is outside ±2 × 10^13 tenths.
 fn corrected_beyond(a: &[i64], b: &[i64], c: &[i64], d: &[i64]) -> bool
-    ensures { λ r. ⌜ r ≡ anyBeyond (2 * 10 ^ 12) (now (a .entry)) || anyBeyond (2 * 10 ^ 12) (now (b .entry))
-        || anyBeyond (2 * 10 ^ 12) (now (c .entry)) || anyBeyond (2 * 10 ^ 12) (now (d .entry)) ⌝ }
+    ensures { λ r. ⌜ r ≡ anyBeyond valuesLimit (now (a .entry)) || anyBeyond valuesLimit (now (b .entry))
+        || anyBeyond valuesLimit (now (c .entry)) || anyBeyond valuesLimit (now (d .entry)) ⌝ }
 {
-    any_outside(a, -2_000_000_000_000, 2_000_000_000_000)
-        | any_outside(b, -2_000_000_000_000, 2_000_000_000_000)
-        | any_outside(c, -2_000_000_000_000, 2_000_000_000_000)
-        | any_outside(d, -2_000_000_000_000, 2_000_000_000_000)
+    any_outside(a, -20_000_000_000_000, 20_000_000_000_000)
+        | any_outside(b, -20_000_000_000_000, 20_000_000_000_000)
+        | any_outside(c, -20_000_000_000_000, 20_000_000_000_000)
+        | any_outside(d, -20_000_000_000_000, 20_000_000_000_000)
 }
 
-// The ten numbers of corrected values, or what they are refused for: 10 where one is outside ±2 × 10^12, then 3 to 5 by the fitted
+// The ten numbers of corrected values, or what they are refused for: 10 where one is outside ±2 × 10^13 tenths, then 3 to 5 by the fitted
 // numbers, then Scatter's 6.
 fn ten_numbers<'a>(n: usize, a: &'a [i64], b: &'a [i64], c: &'a [i64], d: &'a [i64]) -> Found
     requires { ⌜ (4 ≤ n) × (n ≤ 52) ⌝ }

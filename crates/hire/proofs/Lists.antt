@@ -15,7 +15,7 @@ use Rattle.limits.specs.Blocks.{blocksFit}
 use Rattle.limits.specs.Refusal.{_when_, _then_}
 use Rattle.decode.specs.Number.{signedsAt}
 use Rattle.decode.proofs.Signeds.{length-signeds}
-use Rattle.exact.specs.Corrected.{Given}
+use Rattle.exact.specs.Corrected.{Given, steps}
 use Rattle.exact.specs.Accurate.{AccurateTrack}
 use Rattle.fit.specs.declared.Tracked.{Tracked}
 use Rattle.correcting.specs.Correct.{wrongSizes}
@@ -48,7 +48,7 @@ fits-most n e = leb→le n 52 (and-yes (leb 4 n) (leb n 52) (subst T (sym e) tt)
 
 -- What is promised of a track of n blocks.
 abbrev pub Promised : (b : List ℕ) → Tracked → (n : ℕ) → Type 0
-Promised b x n = (x ≡ trackRule (givenIn n b)) × (x .refusal ≡ 0 → AccurateTrack n (givenIn n b) (x .«record» .numbers))
+Promised b x n = (x ≡ trackRule (givenIn n b)) × (x .refusal ≡ 0 → AccurateTrack steps n (givenIn n b) (x .«record» .numbers))
 
 -- the answer to the lists of n blocks
 module _ (n : ℕ) (b : List ℕ) {m g r i t c : List ℤ}
@@ -64,12 +64,12 @@ module _ (n : ℕ) (b : List ℕ) {m g r i t c : List ℤ}
 
   pub answered : (x : Tracked)
       → (x ≡ trackRule (delayedIn b m g r i t c))
-      × (x .refusal ≡ 0 → AccurateTrack (length g) (delayedIn b m g r i t c) (x .«record» .numbers))
+      × (x .refusal ≡ 0 → AccurateTrack steps (length g) (delayedIn b m g r i t c) (x .«record» .numbers))
       → Promised b x n
   answered x p = (
     p .0 ∙ ap trackRule lists-are,
-    λ z. subst (λ (G : Given). AccurateTrack n G (x .«record» .numbers)) lists-are
-        (subst (λ (k : ℕ). AccurateTrack k (delayedIn b m g r i t c) (x .«record» .numbers)) (ap length eg ∙ length-signeds b (correctionsFrom n) 40 n) (p .1 z)),
+    λ z. subst (λ (G : Given). AccurateTrack steps n G (x .«record» .numbers)) lists-are
+        (subst (λ (k : ℕ). AccurateTrack steps k (delayedIn b m g r i t c) (x .«record» .numbers)) (ap length eg ∙ length-signeds b (correctionsFrom n) 40 n) (p .1 z)),
   )
 
 -- and to blocks that are too few or too many

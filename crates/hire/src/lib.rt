@@ -6,6 +6,7 @@ ghost use lib.ListN.{length, take};
 ghost use Rattle.decode.specs.Number.{signedsAt};
 ghost use Rattle.fit.specs.Track.{trackRule};
 ghost use Rattle.exact.specs.Accurate.{AccurateTrack};
+ghost use Rattle.exact.specs.Corrected.{steps};
 ghost use Rattle.hire.specs.Hire.{blocksIn, sizesFit, blockLength, byteAt, blockLabels, delayedIn, givenIn, blockGiven};
 use decode::fill;
 use decode::signed64;
@@ -98,7 +99,7 @@ fn with_delays(
 ) -> Tracked
     ensures answer { λ r. ⌜ r ≡ trackRule (delayedIn (now (block .entry)) (now (measurements .entry)) (now (geometry .entry))
         (now (relativity .entry)) (now (ionosphere .entry)) (now (troposphere .entry)) (now (clock .entry))) ⌝ }
-    ensures accurate { λ r. ⌜ (r .refusal ≡ 0 → AccurateTrack (length (now (geometry .entry))) (delayedIn (now (block .entry))
+    ensures accurate { λ r. ⌜ (r .refusal ≡ 0 → AccurateTrack steps (length (now (geometry .entry))) (delayedIn (now (block .entry))
         (now (measurements .entry)) (now (geometry .entry)) (now (relativity .entry)) (now (ionosphere .entry)) (now (troposphere .entry))
         (now (clock .entry))) (r .«record» .numbers)) ⌝ }
 {
@@ -119,7 +120,7 @@ fn with_delays(
 // Track of 52 blocks, whose lists have lengths and offsets that the compiler knows.
 fn full_track(block: &[u8]) -> Tracked
     ensures answer { λ r. ⌜ r ≡ trackRule (givenIn 52 (now (block .entry))) ⌝ }
-    ensures accurate { λ r. ⌜ (r .refusal ≡ 0 → AccurateTrack 52 (givenIn 52 (now (block .entry))) (r .«record» .numbers)) ⌝ }
+    ensures accurate { λ r. ⌜ (r .refusal ≡ 0 → AccurateTrack steps 52 (givenIn 52 (now (block .entry))) (r .«record» .numbers)) ⌝ }
 {
     let measurements = seconds(block, 52);
     let geometry = column(block, 6298, 52);
@@ -142,7 +143,7 @@ fn full_track(block: &[u8]) -> Tracked
 fn short_track(block: &[u8], n: usize) -> Tracked
     requires { ⌜ n ≤ 52 ⌝ }
     ensures answer { λ r. ⌜ r ≡ trackRule (givenIn n (now (block .entry))) ⌝ }
-    ensures accurate { λ r. ⌜ (r .refusal ≡ 0 → AccurateTrack n (givenIn n (now (block .entry))) (r .«record» .numbers)) ⌝ }
+    ensures accurate { λ r. ⌜ (r .refusal ≡ 0 → AccurateTrack steps n (givenIn n (now (block .entry))) (r .«record» .numbers)) ⌝ }
 {
     let from = 58 + 120 * n;
     let measurements = seconds(block, n);
@@ -165,7 +166,7 @@ fn short_track(block: &[u8], n: usize) -> Tracked
 // Track of the block's numbers. Blocks that are too few or too many are given to it as none, which it refuses alike.
 pub fn track(block: &[u8]) -> Tracked
     ensures answer { λ r. ⌜ r ≡ trackRule (blockGiven (now (block .entry))) ⌝ }
-    ensures accurate { λ r. ⌜ (r .refusal ≡ 0 → AccurateTrack (blocksIn (now (block .entry))) (blockGiven (now (block .entry)))
+    ensures accurate { λ r. ⌜ (r .refusal ≡ 0 → AccurateTrack steps (blocksIn (now (block .entry))) (blockGiven (now (block .entry)))
         (r .«record» .numbers)) ⌝ }
 {
     let n = unsigned16(block, 2) as usize;

@@ -8,7 +8,7 @@ use lib.ListN.{length}
 use borrow.Author.Tests.{ne-eqb}
 use Rattle.limits.specs.Refusal.{_then_}
 use Rattle.limits.proofs.Laws.{then-refused, then-passed}
-use Rattle.exact.specs.Corrected.{Given}
+use Rattle.exact.specs.Corrected.{Given, steps}
 use Rattle.exact.specs.Accurate.{AccurateTrack}
 use Rattle.fit.specs.declared.TrackRecord.{TrackRecord}
 use Rattle.fit.specs.declared.Tracked.{Tracked}
@@ -62,7 +62,7 @@ module _ (b lent : List ℕ) where
   abbrev pub Promised : ℕ → List ℕ → Type 0
   Promised r after =
       (r ≡ blockAnswer b (length lent))
-      × ((after ≡ blockAfter b lent) × (r ≡ 0 → AccurateTrack (blocksIn b) (blockGiven b) (readNumbers after)))
+      × ((after ≡ blockAfter b lent) × (r ≡ 0 → AccurateTrack steps (blocksIn b) (blockGiven b) (readNumbers after)))
 
   kept : (blockAnswer b (length lent) ≡ 0 → ⊥) → lent ≡ blockAfter b lent
   unfolding blockAfter
@@ -82,7 +82,7 @@ module _ (b lent : List ℕ) where
   same-after e = rw e
 
   pub written : (t : Tracked) → sizesNumber b ≡ 0 → t ≡ trackRule (blockGiven b)
-      → (t .refusal ≡ 0 → AccurateTrack (blocksIn b) (blockGiven b) (t .«record» .numbers)) → t .refusal ≡ 0
+      → (t .refusal ≡ 0 → AccurateTrack steps (blocksIn b) (blockGiven b) (t .«record» .numbers)) → t .refusal ≡ 0
       → (r : ℕ) (after : List ℕ) → r ≡ lineAnswer (blockLabels b) (t .«record» .numbers) (length lent)
       → after ≡ lineAfter (blockLabels b) (t .«record» .numbers) lent → Promised r after
   written t s e accurate z r after answer line =
@@ -92,6 +92,6 @@ module _ (b lent : List ℕ) where
         answer ∙ ap (λ (n : Numbers). lineAnswer (blockLabels b) n (length lent)) is ∙ number,
         (
           line ∙ ap (λ (n : Numbers). lineAfter (blockLabels b) n lent) is ∙ same-after number,
-          λ k. subst (AccurateTrack (blocksIn b) g) (sym (ap readNumbers line ∙ numbers-read (blockLabels b) (t .«record» .numbers) lent (sym answer ∙ k))) (accurate z),
+          λ k. subst (AccurateTrack steps (blocksIn b) g) (sym (ap readNumbers line ∙ numbers-read (blockLabels b) (t .«record» .numbers) lent (sym answer ∙ k))) (accurate z),
         ),
       )

@@ -11,7 +11,7 @@ use Rattle.whole.specs.Nearest.{nearest}
 use Rattle.whole.specs.Rounding.{nearest-shift}
 use Rattle.whole.specs.Identity.{identity, quote}
 use Rattle.whole.specs.Sums.{sum-cong, sum-eq, sums}
-use Rattle.exact.specs.Corrected.{at}
+use Rattle.exact.specs.Corrected.{at, steps}
 use Rattle.exact.specs.Weights.{weights, place}
 use Rattle.exact.specs.Places.{sum-place}
 use Rattle.series.specs.Smooth.{smoothed}
@@ -19,20 +19,24 @@ use Rattle.series.specs.Fit.{total, moment, midpoint, slope}
 use Rattle.series.specs.Scatter.{residual, squares}
 use Rattle.offset.specs.Shifted.{unit}
 
--- fifteen measurements moved by c: their smoothed value moves by c, as the weights add up to 1105
+-- fifteen measurements moved by c: their smoothed value, in tenths, moves by c picoseconds, as the weights add up to 1105
 weights-sum : sum 15 (at weights) ≡ pos 1105
 unfolding sum weights
 weights-sum = refl
 
-pub smoothed-moves : (c : ℤ) (m moved : ℕ → ℤ) → ((i : ℕ) → i < 15 → moved i ≡ m i +ℤ c) → smoothed moved ≡ smoothed m +ℤ c
+pub smoothed-moves : (c : ℤ) (m moved : ℕ → ℤ) → ((i : ℕ) → i < 15 → moved i ≡ m i +ℤ c) → smoothed moved ≡ smoothed m +ℤ pos steps *ℤ c
 unfolding smoothed
 smoothed-moves c m moved e =
-    ap (λ (z : ℤ). nearest z 1105)
+    ap (λ (z : ℤ). nearest (pos steps *ℤ z) 1105)
     (sum-cong 15 (λ i h. ap (λ (z : ℤ). at weights i *ℤ z) (e i h))
     ∙ sum-eq 15 {y = sum 15 (λ i. at weights i *ℤ m i) +ℤ c *ℤ sum 15 (at weights)} (search sums depth 12)
     (λ i h. identity (at weights i ∷ m i ∷ c ∷ []) (search quote depth 20) tt)
     ∙ ap (λ (z : ℤ). sum 15 (λ i. at weights i *ℤ m i) +ℤ c *ℤ z) weights-sum)
-    ∙ nearest-shift (sum 15 (λ i. at weights i *ℤ m i)) 1105 (omega arith) c
+    ∙ ap (λ (z : ℤ). nearest z 1105) (in-steps (sum 15 (λ i. at weights i *ℤ m i)) c)
+    ∙ nearest-shift (pos steps *ℤ sum 15 (λ i. at weights i *ℤ m i)) 1105 (omega arith) (pos steps *ℤ c)
+  where
+    in-steps : (S c : ℤ) → pos steps *ℤ (S +ℤ c *ℤ pos 1105) ≡ pos steps *ℤ S +ℤ pos steps *ℤ c *ℤ pos 1105
+    in-steps S c = identity (S ∷ c ∷ []) (search quote depth 20) tt
 
 -- n values moved by c
 module _ (n : ℕ) (h : 1 ≤ n) (c : ℤ) (v moved : ℕ → ℤ) (e : (j : ℕ) → j < n → moved j ≡ v j +ℤ c) where
@@ -55,9 +59,9 @@ module _ (n : ℕ) (h : 1 ≤ n) (c : ℤ) (v moved : ℕ → ℤ) (e : (j : ℕ
       ∙ ap (λ (z : ℤ). sum n (λ j. place n j *ℤ v j) +ℤ z) (*ℤ-zero c)
       ∙ +ℤ-idr (sum n (λ j. place n j *ℤ v j))
 
-  pub slope-stays : slope 1 n moved ≡ slope 1 n v
+  pub slope-stays : slope steps n moved ≡ slope steps n v
   unfolding slope
-  slope-stays = ap (λ (z : ℤ). nearest (pos 4 *ℤ z) (1 * (n * (n * n - 1)))) moment-stays
+  slope-stays = ap (λ (z : ℤ). nearest (pos 4 *ℤ z) (steps * (n * (n * n - 1)))) moment-stays
 
   -- a residual does not: what the value gains its mean gains too
   residual-stays : (j : ℕ) → j < n → residual n moved j ≡ residual n v j
@@ -80,14 +84,14 @@ module _ (n : ℕ) (h : 1 ≤ n) (c : ℤ) (v moved : ℕ → ℤ) (e : (j : ℕ
   unfolding squares
   squares-stay = sum-cong n (λ j k. ap squared (residual-stays j k))
 
--- and the midpoint moves by k where they are moved by k × 100 ps
-pub midpoint-moves : (n : ℕ) → 1 ≤ n → (k : ℤ) (v moved : ℕ → ℤ) → ((j : ℕ) → j < n → moved j ≡ v j +ℤ unit *ℤ k)
-    → midpoint 1 n moved ≡ midpoint 1 n v +ℤ k
+-- and the midpoint moves by k where they are moved by k × 100 ps, which are steps times as many steps
+pub midpoint-moves : (n : ℕ) → 1 ≤ n → (k : ℤ) (v moved : ℕ → ℤ) → ((j : ℕ) → j < n → moved j ≡ v j +ℤ pos steps *ℤ (unit *ℤ k))
+    → midpoint steps n moved ≡ midpoint steps n v +ℤ k
 unfolding midpoint
 midpoint-moves n h k v moved e =
-    ap (λ (z : ℤ). nearest z (100 * n))
-    (total-moves n h (unit *ℤ k) v moved e ∙ ap (λ (z : ℤ). total n v +ℤ z) (units k (pos n)))
-    ∙ nearest-shift (total n v) (100 * n) (omega arith) k
+    ap (λ (z : ℤ). nearest z (100 * steps * n))
+    (total-moves n h (pos steps *ℤ (unit *ℤ k)) v moved e ∙ ap (λ (z : ℤ). total n v +ℤ z) (units k (pos n)))
+    ∙ nearest-shift (total n v) (100 * steps * n) (omega arith) k
   where
-    units : (k n : ℤ) → unit *ℤ k *ℤ n ≡ k *ℤ (pos 100 *ℤ n)
+    units : (k n : ℤ) → pos steps *ℤ (unit *ℤ k) *ℤ n ≡ k *ℤ (pos (100 * steps) *ℤ n)
     units k n = identity (k ∷ n ∷ []) (search quote depth 20) tt

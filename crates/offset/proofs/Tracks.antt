@@ -9,9 +9,9 @@ use native.Mathlib.Omega.{arith}
 use lib.IntN.{ℤ, pos, _+ℤ_, _-ℤ_, _*ℤ_}
 use lib.ListN.{length}
 use Rattle.whole.specs.Identity.{identity, quote}
-use Rattle.limits.specs.Refusal.{_when_, _then_}
+use Rattle.limits.specs.Refusal.{_when_}
 use Rattle.limits.proofs.Laws.{then-zero, when-zero}
-use Rattle.exact.specs.Corrected.{Given, at, block, toA, toB}
+use Rattle.exact.specs.Corrected.{Given, at, block, toA, toB, steps}
 use Rattle.series.specs.Scatter.{dsg}
 use Rattle.fit.specs.declared.TrackRecord.{TrackRecord}
 use Rattle.correcting.specs.Correct.{blocks, smoothedAt, valueA, valueB, valueC, valueD, places, wrongSizes}
@@ -37,28 +37,28 @@ module _ (k : ℤ) (g : Given) (sized : length (g .measurements) ≡ 15 * blocks
   unfolding block shifted
   seconds-move j i h p = at-raised (unit *ℤ k) (g .measurements) (15 * j + i) (omega (arith, sized))
 
-  a-moves : (j : ℕ) → j < blocks g → valueA (shifted k g) j ≡ valueA g j +ℤ unit *ℤ k
+  a-moves : (j : ℕ) → j < blocks g → valueA (shifted k g) j ≡ valueA g j +ℤ pos steps *ℤ (unit *ℤ k)
   unfolding valueA smoothedAt toA shifted
   a-moves j h =
-      ap (λ (y : ℤ). toA g (pos 1) j y) (smoothed-moves (unit *ℤ k) (block g j) (block (shifted k g) j) (λ i p. seconds-move j i h p))
-      ∙ last (smoothedAt g j) (unit *ℤ k) (pos 1 *ℤ (g .int +ℤ g .cab -ℤ g .refdly)) (pos 1 *ℤ at (g .geometry) j)
-      (pos 1 *ℤ at (g .relativity) j) (pos 1 *ℤ at (g .ionosphere) j) (pos 1 *ℤ at (g .troposphere) j) (pos 1 *ℤ g .gd)
+      ap (λ (y : ℤ). toA g (pos steps) j y) (smoothed-moves (unit *ℤ k) (block g j) (block (shifted k g) j) (λ i p. seconds-move j i h p))
+      ∙ last (smoothedAt g j) (pos steps *ℤ (unit *ℤ k)) (pos steps *ℤ (g .int +ℤ g .cab -ℤ g .refdly)) (pos steps *ℤ at (g .geometry) j)
+      (pos steps *ℤ at (g .relativity) j) (pos steps *ℤ at (g .ionosphere) j) (pos steps *ℤ at (g .troposphere) j) (pos steps *ℤ g .gd)
     where
       last : (y c u v w x z t : ℤ) → y +ℤ c -ℤ u -ℤ v +ℤ w -ℤ x -ℤ z -ℤ t ≡ y -ℤ u -ℤ v +ℤ w -ℤ x -ℤ z -ℤ t +ℤ c
       last y c u v w x z t = identity (y ∷ c ∷ u ∷ v ∷ w ∷ x ∷ z ∷ t ∷ []) (search quote depth 20 fits 4000) tt
 
-  b-moves : (j : ℕ) → j < blocks g → valueB (shifted k g) j ≡ valueB g j +ℤ unit *ℤ k
+  b-moves : (j : ℕ) → j < blocks g → valueB (shifted k g) j ≡ valueB g j +ℤ pos steps *ℤ (unit *ℤ k)
   unfolding valueA valueB toB shifted
-  b-moves j h = ap (λ (y : ℤ). y +ℤ pos 1 *ℤ at (g .clock) j) (a-moves j h) ∙ last (valueA g j) (unit *ℤ k) (pos 1 *ℤ at (g .clock) j)
+  b-moves j h = ap (λ (y : ℤ). y +ℤ pos steps *ℤ at (g .clock) j) (a-moves j h) ∙ last (valueA g j) (pos steps *ℤ (unit *ℤ k)) (pos steps *ℤ at (g .clock) j)
     where
       last : (y c u : ℤ) → y +ℤ c +ℤ u ≡ y +ℤ u +ℤ c
       last y c u = identity (y ∷ c ∷ u ∷ []) (search quote depth 20) tt
 
   -- at the places in use, too
-  moved-places : (before after : ℕ → ℤ) → ((j : ℕ) → j < blocks g → after j ≡ before j +ℤ unit *ℤ k)
-      → (j : ℕ) → j < blocks g → at (places (blocks g) after) j ≡ at (places (blocks g) before) j +ℤ unit *ℤ k
+  moved-places : (before after : ℕ → ℤ) → ((j : ℕ) → j < blocks g → after j ≡ before j +ℤ pos steps *ℤ (unit *ℤ k))
+      → (j : ℕ) → j < blocks g → at (places (blocks g) after) j ≡ at (places (blocks g) before) j +ℤ pos steps *ℤ (unit *ℤ k)
   moved-places before after e j h =
-      places-at (blocks g) after j h ∙ e j h ∙ ap (λ (z : ℤ). z +ℤ unit *ℤ k) (sym (places-at (blocks g) before j h))
+      places-at (blocks g) after j h ∙ e j h ∙ ap (λ (z : ℤ). z +ℤ pos steps *ℤ (unit *ℤ k)) (sym (places-at (blocks g) before j h))
 
   -- the ten numbers
   numbers-move : 1 ≤ blocks g → Moved k (results g .numbers) (results (shifted k g) .numbers)
@@ -69,14 +69,14 @@ module _ (k : ℤ) (g : Given) (sized : length (g .measurements) ≡ 15 * blocks
       let b = moved-places (valueB g) (valueB (shifted k g)) b-moves in
       record {
         refsv = midpoint-moves n h k _ _ a;
-        srsv = slope-stays n h (unit *ℤ k) _ _ a;
+        srsv = slope-stays n h (pos steps *ℤ (unit *ℤ k)) _ _ a;
         refsys = midpoint-moves n h k _ _ b;
-        srsys = slope-stays n h (unit *ℤ k) _ _ b;
+        srsys = slope-stays n h (pos steps *ℤ (unit *ℤ k)) _ _ b;
         mdtr = refl;
         smdt = refl;
         mdio = refl;
         smdi = refl;
-        dsg = ap (λ (q : ℤ). pos (dsg 1 n q)) (squares-stay n h (unit *ℤ k) _ _ b);
+        dsg = ap (λ (q : ℤ). pos (dsg steps n q)) (squares-stay n h (pos steps *ℤ (unit *ℤ k)) _ _ b);
         trkl = refl;
       }
 

@@ -16,15 +16,16 @@ use borrow.Author.Tests.{lt-ltb, le-ltb}
 use lib.IntN.{ℤ, pos, natAbs, _-ℤ_, _*ℤ_}
 use lib.Signed.{leZ, ltZ}
 use Rattle.whole.specs.Square.{squared}
-use Rattle.whole.specs.Identity.{quote}
+use Rattle.whole.specs.Identity.{identity, quote}
 use Rattle.whole.specs.Linear.{eq-by}
 use Rattle.whole.specs.Order.{_⩽_, _⋖_, le-lt-trans, lt-le-trans, lt-irrefl, le-trans as chain, le-or-lt, pos-le, pos-lt}
 use Rattle.whole.specs.Magnitude.{le-magnitude}
 use Rattle.limits.specs.Refusal.{_when_}
 use Rattle.limits.specs.Limits.{outside, dsgRule}
-use Rattle.exact.specs.Corrected.{at}
+use Rattle.exact.specs.Corrected.{at, steps}
 use Rattle.limits.specs.Lists.{anyBeyond}
 use Rattle.limits.specs.Reply.{Reply, reply}
+use Rattle.series.specs.Fit.{valuesLimit}
 use Rattle.series.specs.Scatter.{squares, threshold, climb, dsg, scatterRule}
 use Rattle.limits.proofs.Blocks.{within-blocks}
 use Rattle.limits.proofs.Lists.{list-passes, any-take}
@@ -59,7 +60,7 @@ module _ (e : ℕ → ℤ) (q : ℤ) where
       go true t up = up (from-le (e (suc d)) q t)
       go false t up = h
 
-  -- and the next threshold is above, where the steps suffice
+  -- and the next threshold is above, where the turns suffice
   climb-next : (k d : ℕ) → q ⋖ e (suc (k + d)) → q ⋖ e (suc (climb e q k d))
   unfolding climb
   climb-next zero d h = subst (λ (n : ℕ). q ⋖ e (suc n)) (omega arith) h
@@ -83,14 +84,22 @@ pub threshold-natural : (s n d : ℕ) → 0 < d → threshold s n d ≡ pos (thr
 unfolding threshold
 threshold-natural s n d h = ap (λ (z : ℤ). pos n *ℤ squared (pos s *ℤ z)) (pos-sub (100 * d) 50 (omega arith))
 
--- document 01's number: with 52 values the first threshold is 130000
-pub first-threshold-52 : threshold 1 52 1 ≡ pos 130000
+-- in tenths (document 02, Job 8)
+pub threshold-tenths : (n d : ℕ) → threshold steps n d ≡ pos n *ℤ squared (pos 1000 *ℤ pos d -ℤ pos 500)
+unfolding threshold
+threshold-tenths n d = ap (λ (z : ℤ). pos n *ℤ squared z) (tenfold (pos d))
+  where
+    tenfold : (d : ℤ) → pos steps *ℤ (pos 100 *ℤ d -ℤ pos 50) ≡ pos 1000 *ℤ d -ℤ pos 500
+    tenfold d = identity (d ∷ []) (search quote depth 20) tt
+
+-- document 01's number for 52 values, in tenths
+pub first-threshold-52 : threshold steps 52 1 ≡ pos 13000000
 unfolding threshold
 first-threshold-52 = refl
 
 -- the threshold of 10000, from which on DSG is above 9999
-pub cap-is : (n : ℕ) → threshold 1 n 10000 ≡ pos (999900002500 * n)
-cap-is n = threshold-natural 1 n 10000 (lit< tt) ∙ ap pos (mul-comm n 999900002500)
+pub cap-is : (n : ℕ) → threshold steps n 10000 ≡ pos ((steps * 999950) ^ 2 * n)
+cap-is n = threshold-natural steps n 10000 (lit< tt) ∙ ap pos (mul-comm n ((steps * 999950) ^ 2))
 
 pub threshold-mono : (s n : ℕ) {d e : ℕ} → 0 < d → d ≤ e → threshold s n d ⩽ threshold s n e
 threshold-mono s n {d} {e} h k =
@@ -145,7 +154,7 @@ module _ (s n : ℕ) (s-pos : 0 < s) (n-pos : 0 < n) where
       (pos-lt (le-trans {m = suc (natAbs q + 1)} (omega arith) (threshold-least (suc (natAbs q + 1)) (omega arith)))))
 
   -- What the definition climbs to is the greatest: its own threshold is reached, if it is not 0, and the next one is not. With `greatest`, which says what
-  -- follows of every other number, this is "the greatest d from 1 up with n × (100d - 50)² not above Q", or 0 where there is none.
+  -- follows of every other number, this is "the greatest d from 1 up with n × (100d - 50)² not above Q", in square picoseconds, or 0 where there is none.
   pub dsg-greatest : (q : ℤ) → Greatest s n q (dsg s n q)
   unfolding dsg
   dsg-greatest q = go (ltZ q (pos (2500 * (s * s) * n))) refl
@@ -182,20 +191,20 @@ unfolding dsgRule outside _when_
 sigma-accepted d h = rw (le-ltb d 0 zero-le, le-ltb 9999 d h)
 
 -- Scatter's reply to values that are not refused before their DSG is known
-scatter-passed : (l : List ℤ) → 4 ≤ length l → length l ≤ 52 → anyBeyond (2 * 10 ^ 12) l ≡ false
-    → scatterRule l ≡ sigmaReply (dsg 1 (length l) (squares (length l) (at l)))
+scatter-passed : (l : List ℤ) → 4 ≤ length l → length l ≤ 52 → anyBeyond valuesLimit l ≡ false
+    → scatterRule l ≡ sigmaReply (dsg steps (length l) (squares (length l) (at l)))
 unfolding scatterRule
 scatter-passed l h k e =
-    let sigma = pos (dsg 1 (length l) (squares (length l) (at l))) in
+    let sigma = pos (dsg steps (length l) (squares (length l) (at l))) in
     ap (λ (n : ℕ). reply (pos 0) n sigma) (then-passed _ (dsgRule sigma) (list-passes _ _ _ l (within-blocks (length l) h k) e))
 
 -- to the first n values of a list
-pub scatter-part : (n : ℕ) (l : List ℤ) → 4 ≤ n → n ≤ 52 → n ≤ length l → anyBeyond (2 * 10 ^ 12) l ≡ false
-    → scatterRule (take n l) ≡ sigmaReply (dsg 1 n (squares n (at l)))
+pub scatter-part : (n : ℕ) (l : List ℤ) → 4 ≤ n → n ≤ 52 → n ≤ length l → anyBeyond valuesLimit l ≡ false
+    → scatterRule (take n l) ≡ sigmaReply (dsg steps n (squares n (at l)))
 scatter-part n l h k m e =
     scatter-passed (take n l) (subst (λ (i : ℕ). 4 ≤ i) (sym count) h) (subst (λ (i : ℕ). i ≤ 52) (sym count) k) (any-take _ _ n l e)
-    ∙ ap (λ (i : ℕ). sigmaReply (dsg 1 i (squares i (at (take n l))))) count
-    ∙ ap (λ (q : ℤ). sigmaReply (dsg 1 n q)) (squares-cong n (λ j i. getD-take n l j (pos 0) i))
+    ∙ ap (λ (i : ℕ). sigmaReply (dsg steps i (squares i (at (take n l))))) count
+    ∙ ap (λ (q : ℤ). sigmaReply (dsg steps n q)) (squares-cong n (λ j i. getD-take n l j (pos 0) i))
   where
     count : length (take n l) ≡ n
     count = length-take-le n l m

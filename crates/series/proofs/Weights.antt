@@ -2,7 +2,7 @@
 -- Assumes nothing.
 use mathlib.Core.Path.{_≡_, refl, sym, ap, _∙_}
 use Prim.Native.Nat.{ℕ, _*_, _^_, _≤_, _<_}
-use native.Mathlib.Nat.{le-trans, le-of-eq, mul-comm, mul-le-mul, mul-le-mul-right}
+use native.Mathlib.Nat.{le-trans, le-of-eq, mul-comm, mul-le-mul, mul-le-mul-left, mul-le-mul-right}
 use lib.Dec.{lit<, lit≤}
 use lib.IntN.{ℤ, pos, natAbs, _*ℤ_}
 use Rattle.whole.specs.Square.{magnitude}
@@ -13,7 +13,7 @@ use Rattle.whole.specs.Magnitude.{natAbs-mul}
 use Rattle.whole.specs.Rounding.{nearest-bound}
 use Rattle.whole.specs.Words.{partial}
 use Rattle.limits.specs.Limits.{outside}
-use Rattle.exact.specs.Corrected.{at}
+use Rattle.exact.specs.Corrected.{at, steps}
 use Rattle.exact.specs.Weights.{weights}
 use Rattle.limits.specs.Lists.{anyOutside}
 use Rattle.series.specs.Smooth.{smoothed}
@@ -36,7 +36,7 @@ module _ (m : ℕ → ℤ) (h : (i : ℕ) → natAbs (m i) ≤ 10 ^ 12) where
   pub weighted-bound : (k : ℕ) → k ≤ 15 → natAbs (sum k (λ i. at weights i *ℤ m i)) ≤ 15 * (167 * 10 ^ 12)
   weighted-bound k l = partial 15 k (λ i. at weights i *ℤ m i) (167 * 10 ^ 12) l product-bound
 
-  -- the fifteen products come to at most 1469 × 10^12, and a smoothed value to the nearest to 1469 / 1105 × 10^12
+  -- the fifteen products come to at most 1469 × 10^12, and a smoothed value to the nearest to 1469 / 1105 × 10^13 tenths
   products-bound : natAbs (sum 15 (λ i. at weights i *ℤ m i)) ≤ 10 ^ 12 * 1469
   products-bound =
       pos-le-is
@@ -50,6 +50,8 @@ module _ (m : ℕ → ℤ) (h : (i : ℕ) → natAbs (m i) ≤ 10 ^ 12) where
           (le-trans (le-of-eq (natAbs-mul (at weights i) (m i) ∙ mul-comm (natAbs (at weights i)) (natAbs (m i))))
           (mul-le-mul-right (natAbs (at weights i)) (h i)))
 
-  pub smoothed-bound : natAbs (smoothed m) ≤ 1329411764706
+  pub smoothed-bound : natAbs (smoothed m) ≤ 13294117647059
   unfolding smoothed
-  smoothed-bound = nearest-bound (sum 15 (λ i. at weights i *ℤ m i)) 1105 1329411764706 (lit< tt) (le-trans products-bound (lit≤ tt))
+  smoothed-bound =
+      nearest-bound (pos steps *ℤ sum 15 (λ i. at weights i *ℤ m i)) 1105 13294117647059 (lit< tt)
+      (le-trans (le-of-eq (natAbs-mul (pos steps) (sum 15 (λ i. at weights i *ℤ m i)))) (le-trans (mul-le-mul-left steps products-bound) (lit≤ tt)))

@@ -1,5 +1,5 @@
--- Fit (document 01, "Fitting"; document 02, Job 3): the line through the values v 0 .. v (n - 1), counted in steps of which a picosecond has s,
--- today 1.
+-- Fit (document 01, "Fitting"; document 02, Jobs 3 and 8): the line through the values v 0 .. v (n - 1), counted in steps of which a picosecond
+-- has s. The rules take `steps` of them, so that the values are tenths.
 -- Assumes nothing.
 use Prim.Native.Nat.{ℕ, _*_, _-_, _^_}
 use mathlib.Core.Bool.{not}
@@ -9,7 +9,7 @@ use lib.ListN.{length}
 use Rattle.exact.specs.Weights.{place}
 use Rattle.whole.specs.Sum.{sum}
 use Rattle.whole.specs.Nearest.{nearest}
-use Rattle.exact.specs.Corrected.{at}
+use Rattle.exact.specs.Corrected.{at, steps}
 use Rattle.limits.specs.Blocks.{blocksFit}
 use Rattle.limits.specs.Lists.{listRule}
 use Rattle.limits.specs.Reply.{Reply, reply}
@@ -21,17 +21,21 @@ total n v = sum n v
 unfoldable pub moment : ℕ → (ℕ → ℤ) → ℤ
 moment n v = sum n (λ j. place n j *ℤ v j)
 
--- The midpoint in 0.1 ns, with 52 values S / 5200, and the slope in 0.1 ps/s, with 52 values T / 35139.
+-- The midpoint in 0.1 ns and the slope in 0.1 ps/s. Of 52 values in tenths they are the nearest to S / 52000 and T / 351390.
 unfoldable pub midpoint : ℕ → ℕ → (ℕ → ℤ) → ℤ
 midpoint s n v = nearest (total n v) (100 * s * n)
 
 unfoldable pub slope : ℕ → ℕ → (ℕ → ℤ) → ℤ
 slope s n v = nearest (pos 4 *ℤ moment n v) (s * (n * (n * n - 1)))
 
--- The refusals of a list that Fit and Scatter share. 1: the count is not from 4 to 52. 2: a value is outside ±2 × 10^12.
+-- The limit on values in steps: 2 × 10^13 tenths.
+abbrev pub valuesLimit : ℕ
+valuesLimit = steps * (2 * 10 ^ 12)
+
+-- The refusals of a list that Fit and Scatter share. 1: the count is not from 4 to 52. 2: a value is outside ±2 × 10^13 tenths.
 abbrev pub valuesRule : List ℤ → ℕ
-valuesRule l = listRule (not (blocksFit (length l))) (2 * 10 ^ 12) l
+valuesRule l = listRule (not (blocksFit (length l))) valuesLimit l
 
 -- The values of an accepted reply are the midpoint and the slope.
 unfoldable pub fitRule : List ℤ → Reply (ℤ × ℤ)
-fitRule l = let n = length l in reply (pos 0, pos 0) (valuesRule l) (midpoint 1 n (at l), slope 1 n (at l))
+fitRule l = let n = length l in reply (pos 0, pos 0) (valuesRule l) (midpoint steps n (at l), slope steps n (at l))

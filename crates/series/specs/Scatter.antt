@@ -1,5 +1,5 @@
--- Scatter (document 01, "Scatter"; document 02, Job 3): DSG, the root mean square of the residuals of n values from their line, in 0.1 ns. The values are
--- counted in steps of which a picosecond has s.
+-- Scatter (document 01, "Scatter"; document 02, Jobs 3 and 8): DSG, the root mean square of the residuals of n values from their line, in 0.1 ns. Values
+-- and residuals are counted in steps of which a picosecond has s; the rule takes `steps` of them, tenths.
 -- Assumes nothing.
 use Prim.Native.Nat.{ℕ, zero, suc, _*_, _-_}
 use mathlib.Core.Bool.{true, false, cond}
@@ -12,7 +12,7 @@ use Rattle.whole.specs.Nearest.{nearest}
 use Rattle.whole.specs.Square.{squared}
 use Rattle.limits.specs.Refusal.{_then_}
 use Rattle.limits.specs.Limits.{dsgRule}
-use Rattle.exact.specs.Corrected.{at}
+use Rattle.exact.specs.Corrected.{at, steps}
 use Rattle.exact.specs.Weights.{place}
 use Rattle.limits.specs.Reply.{Reply, reply}
 use Rattle.series.specs.Fit.{total, moment, valuesRule}
@@ -29,17 +29,17 @@ residual n v j =
 unfoldable pub squares : ℕ → (ℕ → ℤ) → ℤ
 squares n v = sum n (λ j. squared (residual n v j))
 
--- The least Q that a DSG of d has, for d from 1 up: with 52 values 52 × (100d - 50)².
+-- The least Q that a DSG of d has, for d from 1 up: in tenths n (1000d - 500)².
 unfoldable pub threshold : ℕ → ℕ → ℕ → ℤ
 threshold s n d = pos n *ℤ squared (pos s *ℤ (pos (100 * d) -ℤ pos 50))
 
--- From d up, the last number whose threshold is not above q, in at most k steps.
+-- From d up, the last number whose threshold is not above q, in at most k turns.
 unfoldable pub climb : (ℕ → ℤ) → ℤ → ℕ → ℕ → ℕ
 climb e q zero d = d
 climb e q (suc k) d = elim (leZ (e (suc d)) q) [ true ↦ climb e q k (suc d) | false ↦ d ]
 
--- DSG: 0 if q is under 2500 n, with 52 values 130000; otherwise the greatest d from 1 up whose threshold is not above q. As a threshold lies above
--- its d, q steps are enough. That it is the greatest are the laws `dsg-greatest` and `greatest` of proofs/Thresholds.antt.
+-- DSG: 0 if q is under 2500 s² n, in tenths 250000 n, with 52 values 13000000; otherwise the greatest d from 1 up whose threshold is not above q. As a
+-- threshold lies above its d, q turns are enough. That it is the greatest are the laws `dsg-greatest` and `greatest` of proofs/Thresholds.antt.
 unfoldable pub dsg : ℕ → ℕ → ℤ → ℕ
 dsg s n q = cond (ltZ q (pos (2500 * (s * s) * n))) 0 (climb (threshold s n) q (natAbs q) 1)
 
@@ -47,5 +47,5 @@ dsg s n q = cond (ltZ q (pos (2500 * (s * s) * n))) 0 (climb (threshold s n) q (
 unfoldable pub scatterRule : List ℤ → Reply ℤ
 scatterRule l =
     let n = length l in
-    let sigma = pos (dsg 1 n (squares n (at l))) in
+    let sigma = pos (dsg steps n (squares n (at l))) in
     reply (pos 0) (valuesRule l then dsgRule sigma) sigma

@@ -1,8 +1,7 @@
 // Smooth, Fit and Scatter of document 01, Fit and Scatter for 4 to 52 values (document 02, Job 3): the three operations on a
-// list of values.
+// list of values. Smooth takes picoseconds and gives tenths of a picosecond, which Fit and Scatter take (document 02, Job 8).
 // Each takes a list of any length and numbers of any size and never traps: what it can't use it refuses with the number of
 // the first refusal, in the order of document 01, "Each operation and its refusals, in order".
-// All quantities are whole picoseconds unless a unit is given.
 
 mod number;
 mod sums;
@@ -22,7 +21,7 @@ ghost use Rattle.series.specs.Smooth.{smoothRule};
 ghost use Rattle.series.specs.Fit.{fitRule};
 ghost use Rattle.series.specs.Scatter.{scatterRule};
 
-// What Smooth answers: the smoothed value, or the number of the refusal.
+// What Smooth answers: the smoothed value in tenths, or the number of the refusal.
 pub enum Smoothed {
     Value(i64),
     Refused(u32),
@@ -40,7 +39,7 @@ pub enum Scattered {
     Refused(u32),
 }
 
-// The value at the middle of fifteen measurements of the parabola with the least sum of squared residuals.
+// The value at the middle of fifteen measurements of the parabola with the least sum of squared residuals, to the nearest tenth.
 pub fn smooth(measurements: &[i64]) -> Smoothed
     ensures answer { λ r. ⌜ smoothReply r ≡ smoothRule (now (measurements .entry)) ⌝ }
     ensures variant { λ r. ⌜ smoothNumbered r ⌝ }
@@ -54,10 +53,10 @@ pub fn smooth(measurements: &[i64]) -> Smoothed
     if refusal != 0 {
         return Smoothed::Refused(refusal);
     }
-    Smoothed::Value(nearest(weighted(measurements), 1105))
+    Smoothed::Value(nearest(10 * weighted(measurements), 1105))
 }
 
-// The line through 4 to 52 values with the least sum of squared residuals: its value at the midpoint, and its slope.
+// The line through 4 to 52 values in tenths with the least sum of squared residuals: its value at the midpoint, and its slope.
 pub fn fit(values: &[i64]) -> Fitted
     ensures answer { λ r. ⌜ fitReply r ≡ fitRule (now (values .entry)) ⌝ }
     ensures variant { λ r. ⌜ fitNumbered r ⌝ }
@@ -69,12 +68,12 @@ pub fn fit(values: &[i64]) -> Fitted
     let n = values.len();
     let s = sums(values);
     Fitted::Line {
-        midpoint: nearest(s.total, 100 * n as u32),
-        slope: nearest_by_span(4 * s.moment, n),
+        midpoint: nearest(s.total, 1000 * n as u32),
+        slope: nearest_by_span(4 * s.moment, 10, n),
     }
 }
 
-// DSG: the root mean square of the residuals of 4 to 52 values from their line.
+// DSG: the root mean square of the residuals of 4 to 52 values in tenths from their line.
 pub fn scatter(values: &[i64]) -> Scattered
     ensures answer { λ r. ⌜ scatterReply r ≡ scatterRule (now (values .entry)) ⌝ }
     ensures variant { λ r. ⌜ scatterNumbered r ⌝ }

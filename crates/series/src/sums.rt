@@ -13,10 +13,10 @@ ghost use lib.ListN.{length};
 ghost use Rattle.whole.specs.Sum.{sum};
 ghost use Rattle.whole.specs.Nearest.{nearest};
 ghost use Rattle.whole.specs.Words.{Within};
-ghost use Rattle.exact.specs.Corrected.{at};
+ghost use Rattle.exact.specs.Corrected.{at, steps};
 ghost use Rattle.exact.specs.Weights.{weights, place};
 ghost use Rattle.limits.specs.Lists.{anyBeyond, rangeRule};
-ghost use Rattle.series.specs.Fit.{total, moment, valuesRule};
+ghost use Rattle.series.specs.Fit.{total, moment, valuesRule, valuesLimit};
 ghost use Rattle.series.specs.Scatter.{squares, threshold, dsg};
 
 // The weights of the parabola's value at the middle of fifteen measurements, over 1105.
@@ -38,8 +38,8 @@ const WEIGHTS: [i64; 15] = [
     -78,
 ];
 
-// A sum of squares from n times this up has a DSG above 9999.
-pub const CAP: u64 = 999_900_002_500;
+// 9999500²: a sum of n squares from n times this up has a DSG above 9999.
+pub const CAP: u64 = 99_990_000_250_000;
 
 // 1 where their count is wrong, 2 where one of the values is outside low to high, else 0.
 pub fn list_refusal(values: &[i64], wrong: bool, low: i64, high: i64) -> u32
@@ -48,15 +48,15 @@ pub fn list_refusal(values: &[i64], wrong: bool, low: i64, high: i64) -> u32
     then(when(1, wrong), when(2, any_outside(values, low, high)))
 }
 
-// The same for the values of Fit and Scatter: 4 to 52 of them, each within ±2 × 10^12.
+// The same for the values of Fit and Scatter: 4 to 52 of them, each within ±2 × 10^13 tenths.
 pub fn values_refusal(values: &[i64]) -> u32
     ensures { λ r. ⌜ r ≡ valuesRule (now (values .entry)) ⌝ }
 {
     list_refusal(
         values,
         !blocks_fit(values.len()),
-        -2_000_000_000_000,
-        2_000_000_000_000,
+        -20_000_000_000_000,
+        20_000_000_000_000,
     )
 }
 
@@ -91,10 +91,10 @@ pub fn place(n: usize, j: usize) -> i64
 
 // S and T of at most 52 values.
 pub fn sums(values: &[i64]) -> Moments
-    requires { ⌜ (length (now values) ≤ 52) × (anyBeyond (2 * 10 ^ 12) (now values) ≡ false) ⌝ }
+    requires { ⌜ (length (now values) ≤ 52) × (anyBeyond valuesLimit (now values) ≡ false) ⌝ }
     ensures { λ r. ⌜ (r .total ≡ total (length (now (values .entry))) (at (now (values .entry))))
         × (r .moment ≡ moment (length (now (values .entry))) (at (now (values .entry)))) ⌝ }
-    ensures { λ r. ⌜ Within (104 * 10 ^ 12) (r .total) × Within (5408 * 10 ^ 12) (r .moment) ⌝ }
+    ensures { λ r. ⌜ Within (52 * valuesLimit) (r .total) × Within (1352 * valuesLimit) (r .moment) ⌝ }
 {
     let n = values.len();
     let mut total: i64 = 0;
@@ -109,28 +109,26 @@ pub fn sums(values: &[i64]) -> Moments
     Moments { total, moment }
 }
 
-// The residual of one of n values, at a place, by the two sums of its list.
+// The residual of one of n values, at a place, by the two sums of its list. The value is taken out of the fraction: with it the
+// numerator could be above 2^63.
 fn residual(n: usize, value: i64, place: i64, total: i64, moment: i64) -> i64
     requires { ⌜ (2 ≤ n) × (n ≤ 52) ⌝ }
-    requires { ⌜ Within (2 * 10 ^ 12) value × Within 52 place
-        × Within (104 * 10 ^ 12) total × Within (5408 * 10 ^ 12) moment ⌝ }
+    requires { ⌜ Within valuesLimit value × Within 52 place
+        × Within (52 * valuesLimit) total × Within (1352 * valuesLimit) moment ⌝ }
     ensures { λ r. ⌜ r ≡ nearest (pos (n * (n * n - 1)) *ℤ value -ℤ pos (n * n - 1) *ℤ total
         -ℤ pos 3 *ℤ (place *ℤ moment)) (n * (n * n - 1)) ⌝ }
 {
     let m = n * n - 1;
-    nearest_by_span(
-        (n * m) as i64 * value - m as i64 * total - 3 * (place * moment),
-        n,
-    )
+    value + nearest_by_span(0 - m as i64 * total - 3 * (place * moment), 1, n)
 }
 
 // The sum of the squared residuals of n values whose sums are s and t, or n times CAP where it is more: a square may not fit
-// 64 bits.
+// 64 bits. The square of a residual above 10^8 tenths is more for every n.
 pub fn squares(values: &[i64], s: i64, t: i64) -> u64
-    requires { ⌜ (2 ≤ length (now values)) × (length (now values) ≤ 52) × (anyBeyond (2 * 10 ^ 12) (now values) ≡ false) ⌝ }
+    requires { ⌜ (2 ≤ length (now values)) × (length (now values) ≤ 52) × (anyBeyond valuesLimit (now values) ≡ false) ⌝ }
     requires { ⌜ (s ≡ total (length (now values)) (at (now values)))
         × (t ≡ moment (length (now values)) (at (now values))) ⌝ }
-    ensures { λ r. ⌜ r ≡ min (999900002500 * length (now (values .entry)))
+    ensures { λ r. ⌜ r ≡ min ((steps * 999950) ^ 2 * length (now (values .entry)))
         (natAbs (squares (length (now (values .entry))) (at (now (values .entry))))) ⌝ }
 {
     let n = values.len();
@@ -139,7 +137,7 @@ pub fn squares(values: &[i64], s: i64, t: i64) -> u64
     let mut j = 0;
     while j < n {
         let r = magnitude(residual(n, values[j], place(n, j), s, t));
-        if 10_000_000 < r {
+        if 100_000_000 < r {
             return cap;
         }
         q += r * r;
@@ -151,16 +149,16 @@ pub fn squares(values: &[i64], s: i64, t: i64) -> u64
 // The least sum of n squares that a DSG of d has.
 fn threshold(n: usize, d: u64) -> u64
     requires { ⌜ (n ≤ 52) × (0 < d) × (d ≤ 10000) ⌝ }
-    ensures { λ r. ⌜ pos r ≡ threshold 1 n d ⌝ }
+    ensures { λ r. ⌜ pos r ≡ threshold steps n d ⌝ }
 {
-    let e = 100 * d - 50;
+    let e = 1000 * d - 500;
     n as u64 * (e * e)
 }
 
 // DSG of a sum of n squares below n times CAP, by halving between 0 and 10000.
 pub fn dsg(n: usize, q: u64) -> u64
-    requires { ⌜ (0 < n) × (n ≤ 52) × (q < 999900002500 * n) ⌝ }
-    ensures { λ r. ⌜ r ≡ dsg 1 n (pos q) ⌝ }
+    requires { ⌜ (0 < n) × (n ≤ 52) × (q < (steps * 999950) ^ 2 * n) ⌝ }
+    ensures { λ r. ⌜ r ≡ dsg steps n (pos q) ⌝ }
 {
     let mut low: u64 = 0;
     let mut high: u64 = 10000;

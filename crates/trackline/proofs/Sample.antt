@@ -41,15 +41,15 @@ sampleTrack =
     given (replicate 780 (pos 1000)) (pos 0) (pos 0) (pos 0) (pos 0) (replicate 52 (pos 0)) (replicate 52 (pos 0)) (replicate 52 (pos 0))
     (replicate 52 (pos 0)) (replicate 52 (pos 0))
 
--- its corrected values: the measurements alike, and no air
+-- its corrected values, in tenths: the measurements alike, and no air
 abbrev pub sampleRecord : TrackRecord
-sampleRecord = recordOf 52 (replicate 52 (pos 1000)) (replicate 52 (pos 1000)) (replicate 52 (pos 0)) (replicate 52 (pos 0))
+sampleRecord = recordOf 52 (replicate 52 (pos 10000)) (replicate 52 (pos 10000)) (replicate 52 (pos 0)) (replicate 52 (pos 0))
 
-sample-a : places 52 (valueA sampleTrack) ≡ replicate 52 (pos 1000)
+sample-a : places 52 (valueA sampleTrack) ≡ replicate 52 (pos 10000)
 unfolding sum nearest tabulate block toA weights smoothed smoothedAt valueA places
 sample-a = refl
 
-sample-b : places 52 (valueB sampleTrack) ≡ replicate 52 (pos 1000)
+sample-b : places 52 (valueB sampleTrack) ≡ replicate 52 (pos 10000)
 unfolding sum nearest tabulate block toA toB weights smoothed smoothedAt valueB places
 sample-b = refl
 

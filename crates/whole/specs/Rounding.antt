@@ -4,7 +4,7 @@
 use mathlib.Core.Path.{_≡_, sym, ap, _∙_, subst, subst₂}
 use mathlib.Core.List.{List, [], _∷_}
 use mathlib.Core.Logic.{_⊎_, inl, inr}
-use Prim.Native.Nat.{ℕ, suc, _*_, _/_, _≤_, _<_, suc-le-suc}
+use Prim.Native.Nat.{ℕ, suc, _+_, _*_, _/_, _≤_, _<_, suc-le-suc}
 use native.Mathlib.Nat.{mul-div-le, lt-mul-div-succ, one-le-mul}
 use native.Mathlib.Numerals.{add-one}
 use native.Mathlib.Omega.{arith}
@@ -86,6 +86,24 @@ nearest-only n d h r low high =
         → negℤ d ⋖ pos 2 *ℤ d *ℤ b -ℤ pos 2 *ℤ n → a ⩽ b
     below d h n a b p q =
         less a b (cancel-lt (pos 2 *ℤ d) (le-of-lt (mul-pos (pos-lt {m = 0} {n = 2} (omega arith)) h)) (near d n a b p q))
+
+-- ---- without doubling: half the denominator, rounded down, is added to the numerator before the floor is taken
+
+pub nearest-floor : (n : ℤ) (d : ℕ) → 0 < d → shrZ (n +ℤ pos (d / 2)) d ≡ nearest n d
+nearest-floor n d h =
+    nearest-only n d h (shrZ (n +ℤ pos (d / 2)) d)
+    (low (pos d) n (pos (d / 2)) (shrZ (n +ℤ pos (d / 2)) d) (pos-le {m = d} {n = 2 * (d / 2) + 1} (omega arith)) (floor-lt _ d h))
+    (high (pos d) n (pos (d / 2)) (shrZ (n +ℤ pos (d / 2)) d) (pos-le {m = 2 * (d / 2)} {n = d} (omega arith)) (floor-le _ d h))
+  where
+    low : (d n k r : ℤ) → d ⩽ pos 2 *ℤ k +ℤ pos 1 → n +ℤ k ⋖ d *ℤ (r +ℤ pos 1) → negℤ d ⋖ pos 2 *ℤ d *ℤ r -ℤ pos 2 *ℤ n
+    low d n k r p q =
+        let ρ : List ℤ = d ∷ n ∷ k ∷ r ∷ [] in
+        lt-by ρ (search quote depth 14) (omega (arith, le-is ρ (search quote depth 14) p, lt-is ρ (search quote depth 14) q))
+
+    high : (d n k r : ℤ) → pos 2 *ℤ k ⩽ d → d *ℤ r ⩽ n +ℤ k → pos 2 *ℤ d *ℤ r -ℤ pos 2 *ℤ n ⩽ d
+    high d n k r p q =
+        let ρ : List ℤ = d ∷ n ∷ k ∷ r ∷ [] in
+        le-by ρ (search quote depth 14) (omega (arith, le-is ρ (search quote depth 14) p, le-is ρ (search quote depth 14) q))
 
 -- ---- how it moves
 

@@ -10,12 +10,12 @@
 pub mod Examples
 use mathlib.Core.Path.{_≡_, refl, sym, ap, ap₂, _∙_, subst}
 use mathlib.Core.Bool.{Bool, true, false, cond, _&&_, true≢false}
-use Prim.Native.Nat.{ℕ, zero, suc, _+_, _-_, _*_, _/_, _^_, _≤_, _<_}
+use Prim.Native.Nat.{ℕ, zero, suc, _+_, _-_, _*_, _^_, _≤_, _<_}
 use native.Mathlib.Nat.{le-refl, le-trans, le-of-eq, le-step, lt-of-le-of-lt, lt-of-lt-of-le, add-le-add, mul-le-mul, mul-le-mul-right, div-le-self, zero-add, not-suc-le-zero}
 use native.Mathlib.Omega.{arith}
 use lib.Dec.{T, eqb, leb, leb→le, ltb, ltb→lt}
 use lib.IntN.{ℤ, pos, negsuc, negℤ, subℕ, natAbs, _+ℤ_, _-ℤ_, _*ℤ_, +ℤ-idr, -ℤ-one}
-use lib.Signed.{mag, ltZ, quotZ, shrZ}
+use lib.Signed.{mag, ltZ, quotZ}
 use borrow.Author.Tests.{ltb-true, lt-ltb}
 use mir.Syntax.{w64}
 use mir.Val.{SFits, toZ, ofZ}
@@ -180,11 +180,7 @@ plain-is (quotient-of v w) t = ap₂ quotZ (plain-is v (left (sound v) _ t)) (pl
 -- what `search` reads an expression by
 pub ruleset bounds = (read, sum-of, product-of, negation-of, quotient-of, literal, minus-literal)
 
--- ---- division, which the machine rounds toward 0
-
--- a divisor's bits are not 0
-pub divisor : (z : ℤ) (w : Word z) → T (sound w) → 0 < ofZ w64 (plain w) → 0 < ofZ w64 z
-divisor z w t h = subst (λ (x : ℤ). 0 < ofZ w64 x) (sym (plain-is w t)) h
+-- ---- numbers below 0
 
 one-less : (a : ℕ) → negsuc 0 -ℤ negsuc a ≡ pos a
 one-less a = -ℤ-one (pos (suc a))
@@ -197,8 +193,3 @@ minus-one-less (suc k) = ap (λ (j : ℕ). negsuc (suc j)) (zero-add k)
 pub turned : (v : ℤ) → ltZ v (pos 0) ≡ true → negsuc 0 -ℤ v ≡ pos (mag v)
 turned (pos a) t = absurd (not-suc-le-zero (ltb-true a 0 t))
 turned (negsuc a) t = one-less a
-
--- the floor of x / m: for x below 0 it is -1 - (-1 - x) / m
-pub floor-below : (x : ℤ) (m : ℕ) → ltZ x (pos 0) ≡ true → negsuc 0 -ℤ quotZ (negsuc 0 -ℤ x) (pos m) ≡ shrZ x m
-floor-below (pos a) m t = absurd (not-suc-le-zero (ltb-true a 0 t))
-floor-below (negsuc a) m t = ap (λ (z : ℤ). negsuc 0 -ℤ quotZ z (pos m)) (one-less a) ∙ minus-one-less (a / m)

@@ -1,9 +1,11 @@
-//! Blocks: good, faulty, at every limit, and damaged; those on the edge of a rounding stand in a module of their own.
+//! Blocks: good, faulty, at every limit, and damaged; those on the edge of a rounding and those with the largest values stand in
+//! modules of their own.
 
 use crate::case::*;
 use crate::compare::{Compare, Lent};
 use crate::edges;
 use crate::faults::*;
+use crate::largest;
 use reference::seeded::Seeded;
 use reference::{block_bytes, LEAST_BLOCKS, MOST_BLOCKS};
 
@@ -12,6 +14,9 @@ pub fn run(compare: &mut Compare, seeded: &mut Seeded, scale: usize) {
     for _ in 0..50_000 * scale {
         accepted(compare, seeded);
         edges::run(compare, seeded);
+        if seeded.below(8) == 0 {
+            largest::extremes(compare, seeded);
+        }
         wild(compare, seeded);
         flipped(compare, seeded);
     }
@@ -26,8 +31,8 @@ pub fn run(compare: &mut Compare, seeded: &mut Seeded, scale: usize) {
         sizes(compare, n, seeded);
     }
     zeros_and_long_blocks(compare, seeded);
-    edges::largest(compare, seeded);
-    edges::far_slopes(compare, seeded);
+    largest::run(compare, seeded);
+    largest::far_slopes(compare, seeded);
 }
 
 /// Any lent line, most of them long enough.

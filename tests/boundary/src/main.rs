@@ -13,6 +13,7 @@ mod edges;
 mod faults;
 mod file_faults;
 mod file_pairs;
+mod largest;
 mod library;
 mod lines;
 mod merge_faults;

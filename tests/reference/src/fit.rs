@@ -1,13 +1,16 @@
-//! Smooth, Fit and Scatter.
+//! Smooth, Fit and Scatter, over the steps in which a ps is counted inside.
 
 use crate::{nearest, within};
 
 /// Limit of one measurement, in ps.
 pub(crate) const MEASUREMENT_LIMIT: i64 = 1_000_000_000_000;
-/// Limit of a value that is fitted, in ps.
+/// Limit of a value that is fitted, in ps; the value itself is in steps.
 pub(crate) const VALUE_LIMIT: i64 = 2_000_000_000_000;
 /// The greatest DSG that its four columns hold.
 pub(crate) const MOST_DSG: i64 = 9999;
+
+/// Steps of a ps: a smoothed value, a corrected value and a residual are whole tenths.
+pub const TENTHS: i64 = 10;
 
 /// The fewest values that a line is fitted through.
 pub const LEAST_BLOCKS: usize = 4;
@@ -24,8 +27,12 @@ pub struct Fitted {
     pub slope: i64,
 }
 
-/// Smooth: the parabola's value at the middle of fifteen measurements, in whole ps.
+/// Smooth: the parabola's value at the middle of fifteen measurements in ps, in whole tenths.
 pub fn smooth(measurements: &[i64]) -> Result<i64, u32> {
+    smooth_in::<TENTHS>(measurements)
+}
+
+pub(crate) fn smooth_in<const STEPS: i64>(measurements: &[i64]) -> Result<i64, u32> {
     if measurements.len() != 15 {
         return Err(1);
     }
@@ -34,7 +41,7 @@ pub fn smooth(measurements: &[i64]) -> Result<i64, u32> {
     }
     // the weights' magnitudes sum to 1469: below 1.5e15
     let sum: i64 = WEIGHTS.iter().zip(measurements).map(|(w, m)| w * m).sum();
-    Ok(nearest(sum, 1105))
+    Ok(nearest(STEPS * sum, 1105))
 }
 
 /// Whether a track may have n blocks.
@@ -47,7 +54,7 @@ fn place(n: i64, j: usize) -> i64 {
     2 * j as i64 - (n - 1)
 }
 
-/// The sum of the values, and the sum of the values times their places: below 1.1e14 and 2.8e15.
+/// The sum of the values, and the sum of the values times their places: below 1.1e15 and 2.8e16.
 fn sums(values: &[i64], n: i64) -> (i64, i64) {
     let s = values.iter().sum();
     let t = values.iter().enumerate().map(|(j, v)| place(n, j) * v).sum();
@@ -55,20 +62,24 @@ fn sums(values: &[i64], n: i64) -> (i64, i64) {
 }
 
 /// What Fit and Scatter ask of their list.
-fn admit(values: &[i64]) -> Result<(), u32> {
+fn admit<const STEPS: i64>(values: &[i64]) -> Result<(), u32> {
     if !blocks_fit(values.len()) {
         return Err(1);
     }
-    if values.iter().any(|&v| !within(v, VALUE_LIMIT)) {
+    if values.iter().any(|&v| !within(v, STEPS * VALUE_LIMIT)) {
         return Err(2);
     }
     Ok(())
 }
 
-/// Fit: midpoint and slope of the line through 4 to 52 values.
+/// Fit: midpoint and slope of the line through 4 to 52 values in tenths.
 pub fn fit(values: &[i64]) -> Result<Fitted, u32> {
-    admit(values)?;
-    Ok(counted(values, line_through))
+    fit_in::<TENTHS>(values)
+}
+
+pub(crate) fn fit_in<const STEPS: i64>(values: &[i64]) -> Result<Fitted, u32> {
+    admit::<STEPS>(values)?;
+    Ok(counted(values, line_through::<STEPS>))
 }
 
 /// What an operation gives on the values and their number, which for a full track is a constant to the compiler.
@@ -82,42 +93,46 @@ fn counted<T>(values: &[i64], operation: impl Fn(&[i64], i64) -> T) -> T {
 
 /// The line through n values.
 #[inline(always)]
-fn line_through(values: &[i64], n: i64) -> Fitted {
+fn line_through<const STEPS: i64>(values: &[i64], n: i64) -> Fitted {
     let (s, t) = sums(values, n);
-    Fitted { midpoint: nearest(s, 100 * n), slope: nearest(4 * t, n * (n * n - 1)) }
+    Fitted { midpoint: nearest(s, 100 * STEPS * n), slope: nearest(4 * t, STEPS * n * (n * n - 1)) }
 }
 
-/// The sum of the squared whole residuals of n values.
+/// The sum of the squared whole residuals of n values, in steps squared.
 #[inline(always)]
 fn squares(values: &[i64], n: i64) -> i128 {
     let (s, t) = sums(values, n);
     let mut q: i128 = 0;
     for (j, v) in values.iter().enumerate() {
-        // the value - s / n - 3 place t / (n (n n - 1)), over that divisor: below 1e18
-        let residual = nearest(n * (n * n - 1) * v - (n * n - 1) * s - 3 * place(n, j) * t, n * (n * n - 1));
+        // the value - s / n - 3 place t / (n (n n - 1)): the value is whole and taken out, the rest over that divisor is below 7e18
+        let residual = v + nearest(-(n * n - 1) * s - 3 * place(n, j) * t, n * (n * n - 1));
         q += i128::from(residual) * i128::from(residual);
     }
     q
 }
 
 /// The least sum of squares whose DSG is d, for d from 1 up.
-fn threshold(n: usize, d: i64) -> i128 {
-    let root = i128::from(100 * d - 50);
+fn threshold<const STEPS: i64>(n: usize, d: i64) -> i128 {
+    let root = i128::from(STEPS * (100 * d - 50));
     n as i128 * root * root
 }
 
-/// Scatter: DSG in 0.1 ns, from the squared whole residuals of the line through 4 to 52 values.
+/// Scatter: DSG in 0.1 ns, from the squared whole residuals of the line through 4 to 52 values in tenths.
 pub fn scatter(values: &[i64]) -> Result<i64, u32> {
-    admit(values)?;
+    scatter_in::<TENTHS>(values)
+}
+
+pub(crate) fn scatter_in<const STEPS: i64>(values: &[i64]) -> Result<i64, u32> {
+    admit::<STEPS>(values)?;
     let (n, q) = (values.len(), counted(values, squares));
-    if q >= threshold(n, MOST_DSG + 1) {
+    if q >= threshold::<STEPS>(n, MOST_DSG + 1) {
         return Err(6);
     }
-    // the greatest d whose threshold is not above q; under threshold 1, which is 2500 n, it is 0
+    // the greatest d whose threshold is not above q; under threshold 1, which is 250000 n in tenths, it is 0
     let (mut low, mut above) = (0, MOST_DSG + 1);
     while above - low > 1 {
         let d = (low + above) / 2;
-        if threshold(n, d) <= q {
+        if threshold::<STEPS>(n, d) <= q {
             low = d;
         } else {
             above = d;

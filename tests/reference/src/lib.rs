@@ -4,8 +4,9 @@
 //! Written from the papers alone and not from the proved program, so that the two can be compared. Every operation
 //! answers with the papers' refusal numbers, in their order.
 //!
-//! Sums are 64-bit where the limits on what is given leave room for them (the bound stands beside each), and the sum
-//! of squares is 128-bit. Build with overflow checks, as `cargo test` and the boundary test do, and an overflow panics.
+//! Inside, a ps is counted in tenths. Sums are 64-bit where the limits on what is given leave room for them (the bound stands
+//! beside each), and the sum of squares is 128-bit. Build with overflow checks, as `cargo test` and the boundary test do, and
+//! an overflow panics.
 
 mod block;
 mod files;
@@ -18,13 +19,14 @@ mod reader;
 mod schedule;
 pub mod seeded;
 mod track;
+pub mod tuned;
 mod view;
 pub mod waves;
 pub mod worst;
 
 pub use block::{block, block_bytes};
 pub use files::{file_lines, keys, merge, FileLine, Keys, FILE_LINE_BYTES};
-pub use fit::{fit, scatter, smooth, Fitted, LEAST_BLOCKS, MOST_BLOCKS, WEIGHTS};
+pub use fit::{fit, scatter, smooth, Fitted, LEAST_BLOCKS, MOST_BLOCKS, TENTHS, WEIGHTS};
 pub use line::{line, Labels, LINE_BYTES};
 pub use reader::{comment, read, read_values, values, LONGEST_LINE, VALUES};
 pub use schedule::{start, FIRST_MJD, LAST_MJD};
@@ -38,7 +40,7 @@ fn within(v: i64, limit: i64) -> bool {
 
 /// The whole number nearest to n / d for d above 0, a tie going up.
 fn nearest(n: i64, d: i64) -> i64 {
-    (2 * n + d).div_euclid(2 * d)
+    (n + d / 2).div_euclid(d)
 }
 
 #[cfg(test)]

@@ -1,6 +1,7 @@
 //! Track: from the measurements of n blocks and their corrections to the ten numbers of a line.
 
-use crate::fit::{blocks_fit, fit, scatter, smooth, MEASUREMENT_LIMIT, MOST_BLOCKS, MOST_DSG, VALUE_LIMIT};
+use crate::fit::{blocks_fit, fit_in, scatter_in, smooth_in};
+use crate::fit::{MEASUREMENT_LIMIT, MOST_BLOCKS, MOST_DSG, TENTHS, VALUE_LIMIT};
 use crate::within;
 
 /// Measurements that make one smoothed value.
@@ -76,7 +77,7 @@ impl Numbers {
     }
 }
 
-/// A track's corrected values of each kind, in ps, beside its ten numbers: so many of the 52 places are in use, and the
+/// A track's corrected values of each kind, in tenths of a ps, beside its ten numbers: so many of the 52 places are in use, and the
 /// others hold 0.
 #[derive(Clone, Debug, PartialEq, Eq)]
 pub struct Record {
@@ -112,27 +113,45 @@ fn admit(measurements: &[i64], delays: &Delays, columns: &Columns) -> Result<usi
     Ok(n)
 }
 
+/// 10.
+fn check_values<const STEPS: i64>(kinds: [&[i64]; 4]) -> Result<(), u32> {
+    if kinds.iter().any(|kind| !all_within(kind, STEPS * VALUE_LIMIT)) {
+        return Err(10);
+    }
+    Ok(())
+}
+
 /// Track: a record, or the refusal.
 #[inline(always)]
 pub fn track(measurements: &[i64], delays: &Delays, columns: &Columns) -> Result<Record, u32> {
+    track_in::<TENTHS>(measurements, delays, columns)
+}
+
+/// The same with a ps counted in so many steps. What is given is in ps, and what is fitted in steps.
+#[inline(always)]
+pub(crate) fn track_in<const STEPS: i64>(
+    measurements: &[i64],
+    delays: &Delays,
+    columns: &Columns,
+) -> Result<Record, u32> {
     let n = admit(measurements, delays, columns)?;
     let mut a = [0; MOST_BLOCKS];
     let mut b = [0; MOST_BLOCKS];
     let mut c = [0; MOST_BLOCKS];
     let mut d = [0; MOST_BLOCKS];
     for j in 0..n {
-        let smoothed = smooth(&measurements[BLOCK_SECONDS * j..BLOCK_SECONDS * (j + 1)])?;
-        a[j] = smoothed - (delays.int + delays.cab - delays.refdly) - columns.geometry[j] + columns.relativity[j]
-            - columns.ionosphere[j]
-            - columns.troposphere[j]
-            - delays.gd;
-        b[j] = a[j] + columns.clock[j];
-        c[j] = columns.troposphere[j];
-        d[j] = columns.ionosphere[j];
+        let smoothed = smooth_in::<STEPS>(&measurements[BLOCK_SECONDS * j..BLOCK_SECONDS * (j + 1)])?;
+        a[j] = smoothed - STEPS * (delays.int + delays.cab - delays.refdly) - STEPS * columns.geometry[j]
+            + STEPS * columns.relativity[j]
+            - STEPS * columns.ionosphere[j]
+            - STEPS * columns.troposphere[j]
+            - STEPS * delays.gd;
+        b[j] = a[j] + STEPS * columns.clock[j];
+        c[j] = STEPS * columns.troposphere[j];
+        d[j] = STEPS * columns.ionosphere[j];
     }
-    if [&a, &b, &c, &d].iter().any(|kind| !all_within(*kind, VALUE_LIMIT)) {
-        return Err(10);
-    }
+    check_values::<STEPS>([&a, &b, &c, &d])?;
+    let fit = |kind: &[i64]| fit_in::<STEPS>(kind);
     let (line_a, line_b, line_c, line_d) = (fit(&a[..n])?, fit(&b[..n])?, fit(&c[..n])?, fit(&d[..n])?);
     let mut numbers = Numbers {
         refsv: line_a.midpoint,
@@ -147,6 +166,6 @@ pub fn track(measurements: &[i64], delays: &Delays, columns: &Columns) -> Result
         trkl: measurements.len() as i64,
     };
     numbers.check_fits()?;
-    numbers.dsg = scatter(&b[..n])?;
+    numbers.dsg = scatter_in::<STEPS>(&b[..n])?;
     Ok(Record { blocks: n, a, b, c, d, numbers })
 }

@@ -1,5 +1,5 @@
 //! Waves along n values that no line follows: their sum and their sum times place are 0, and for n from 4 up the sum of their
-//! squares is 4n, so that 25(2d - 1) of them are a threshold of DSG to the last ps².
+//! squares is 4n, so that 250(2d - 1) times as much, in tenths of a ps, is a threshold of DSG to the last.
 
 /// Parts that make up a wave of n values, each with sum and sum times place 0; zeros fill the rest.
 pub fn parts(n: usize) -> Vec<&'static [i64]> {

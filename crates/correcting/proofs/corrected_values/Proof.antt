@@ -3,7 +3,7 @@
 use borrow.Author.Needs.{needs}
 use mathlib.Core.List.{List}
 use mathlib.Core.Path.{_≡_, sym, ap, _∙_, subst}
-use Prim.Native.Nat.{ℕ, _*_, _^_, _≤_}
+use Prim.Native.Nat.{ℕ, _≤_}
 use native.Mathlib.Nat.{le-trans}
 use native.Mathlib.Omega.{arith}
 use lib.Dec.{lit≤}
@@ -14,6 +14,7 @@ use mir.Val.{toZ, ofZ}
 use mir.Facts.{toZ-ofZ}
 use Rattle.whole.specs.Words.{Word, known, equal, read, sum-of, negation-of, bound, back-of}
 use Rattle.exact.specs.Corrected.{Given, block}
+use Rattle.series.specs.Fit.{valuesLimit}
 use Rattle.correcting.specs.Correct.{blocks, places, given, smoothedAt, valueA, valueC, valueD}
 use Rattle.correcting.specs.Answer.{corrected}
 use Rattle.correcting.proofs.Arrays.{places-length, places-bound}
@@ -78,7 +79,7 @@ a-values-requires c κs =
     let l = limits s in (
       (
         ap length e ∙ places-length _ _ (n .size-blocks .1),
-        λ j. record { within = rw e (places-bound (smoothedAt (g s)) _ (2 * 10 ^ 12) (λ i. le-trans (smoothed-within (g s) (s .pre .1) i) (lit≤ tt)) j) },
+        λ j. record { within = rw e (places-bound (smoothedAt (g s)) _ valuesLimit (λ i. le-trans (smoothed-within (g s) (s .pre .1) i) (lit≤ tt)) j) },
       ),
       (
         (bound (equal (delay-is c) (sum-of (sum-of (w .0) (w .1)) (negation-of (w .2)))) tt, bound (read (w .3)) tt),
@@ -106,20 +107,22 @@ b-values-requires c κs =
     let n = sizes s in (
       (
         ap length e ∙ places-length _ _ (n .size-blocks .1),
-        λ j. record { within = rw e (places-bound (valueA (g s)) _ (2 * 10 ^ 12) (λ i. le-trans (a-within (g s) (s .pre .1) i) (lit≤ tt)) j) },
+        λ j. record { within = rw e (places-bound (valueA (g s)) _ valuesLimit (λ i. le-trans (a-within (g s) (s .pre .1) i) (lit≤ tt)) j) },
       ),
       (subst (λ (k : ℕ). k ≤ 52) (sym (n .size-clock)) (n .size-blocks .1), limits s .in-clock),
     )
 
-copied-requires : tie.Need-copied-requires
-copied-requires c κs =
-    let n = sizes (c .before .before .before .before .before .before .before .before) in
-    subst (λ (k : ℕ). k ≤ 52) (sym (n .size-troposphere)) (n .size-blocks .1)
+in-tenths-requires : tie.Need-in-tenths-requires
+in-tenths-requires c κs =
+    let s = c .before .before .before .before .before .before .before .before in
+    let n = sizes s in
+    (subst (λ (k : ℕ). k ≤ 52) (sym (n .size-troposphere)) (n .size-blocks .1), limits s .in-troposphere)
 
-copied-requires-2 : tie.Need-copied-requires-2
-copied-requires-2 c κs =
-    let n = sizes (c .before .before .before .before .before .before .before .before .before) in
-    subst (λ (k : ℕ). k ≤ 52) (sym (n .size-ionosphere)) (n .size-blocks .1)
+in-tenths-requires-2 : tie.Need-in-tenths-requires-2
+in-tenths-requires-2 c κs =
+    let s = c .before .before .before .before .before .before .before .before .before in
+    let n = sizes s in
+    (subst (λ (k : ℕ). k ≤ 52) (sym (n .size-ionosphere)) (n .size-blocks .1), limits s .in-ionosphere)
 
 -- a list of as many values as there are blocks
 counted-by : (m n : ℕ) (f : ℕ → ℤ) (l : List ℤ) → m ≡ n → l ≡ places m f → l ≡ places n f
@@ -134,8 +137,8 @@ returns-2 c =
     let s = a .before .before .before .before .before .before in
     let n = sizes s in
     let B = counted-by _ _ _ _ (n .size-clock) (b .b-values .ensures) ∙ b-places _ (g s) (a .a-values .result) (a-is a) in
-    let C = counted-by _ _ _ _ (n .size-troposphere) (k .copied .ensures) in
-    let D = counted-by _ _ _ _ (n .size-ionosphere) (c .copied2 .ensures) in
+    let C = counted-by _ _ _ _ (n .size-troposphere) (k .in-tenths .ensures) in
+    let D = counted-by _ _ _ _ (n .size-ionosphere) (c .in-tenths2 .ensures) in
     (λ z. record { refusal = 0; blocks = blocks (g s); a = a-is a z; b = B z; c = C z; d = D z })
     ∙ sym (inputs-passed (g s) (s .pre .0) (s .pre .1))
 
@@ -151,6 +154,6 @@ corrected-values-spec =
     a-values-requires
     slice-aggregate-b-values
     b-values-requires
-    copied-requires
-    copied-requires-2
+    in-tenths-requires
+    in-tenths-requires-2
     returns-2)

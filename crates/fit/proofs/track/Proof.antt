@@ -4,7 +4,7 @@ use mathlib.Core.Path.{_≡_, _∙_}
 use Prim.Native.Nat.{_<_}
 use native.Mathlib.Omega.{arith}
 use mir.Facts.{toZ-ofZ}
-use Rattle.exact.specs.Corrected.{Given}
+use Rattle.exact.specs.Corrected.{Given, steps}
 use Rattle.exact.specs.Accurate.{AccurateTrack}
 use Rattle.correcting.specs.Correct.{blocks, given}
 use Rattle.correcting.specs.Answer.{correctRule}
@@ -31,7 +31,7 @@ values-are c =
 
 -- both clauses, from the answer
 both : (s : tie.Start) (t : Tracked) → t ≡ trackRule (g s)
-    → (t ≡ trackRule (g s)) × (t .refusal ≡ 0 → AccurateTrack (blocks (g s)) (g s) (t .«record» .numbers))
+    → (t ≡ trackRule (g s)) × (t .refusal ≡ 0 → AccurateTrack steps (blocks (g s)) (g s) (t .«record» .numbers))
 both s t e = (e, tracked-accurate (g s) t e)
 
 correct-requires : tie.Need-correct-requires

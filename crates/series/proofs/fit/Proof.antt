@@ -4,18 +4,19 @@ use borrow.Author.Needs.{needs}
 use mathlib.Core.Path.{_≡_, sym, ap, _∙_}
 use mathlib.Core.Bool.{false}
 use mathlib.Core.List.{List}
-use Prim.Native.Nat.{_*_, _-_, _^_, _≤_, _<_}
+use Prim.Native.Nat.{_*_, _-_, _≤_, _<_}
 use native.Mathlib.Omega.{arith}
+use lib.Dec.{lit<, lit≤}
 use lib.IntN.{ℤ}
 use lib.ListN.{length}
 use mir.Syntax.{w64}
 use mir.Val.{toZ, ofZ}
 use Rattle.whole.specs.Nearest.{nearest}
 use Rattle.whole.specs.Words.{back-of, fits, bound, plain-is, bounds}
-use Rattle.exact.specs.Corrected.{at}
+use Rattle.exact.specs.Corrected.{at, steps}
 use Rattle.limits.specs.Lists.{anyBeyond}
-use Rattle.series.specs.Fit.{midpoint, slope, valuesRule, fitRule}
-use Rattle.series.proofs.Fitting.{values-inside, total-word, moment-word, slope-span}
+use Rattle.series.specs.Fit.{midpoint, slope, valuesRule, fitRule, valuesLimit}
+use Rattle.series.proofs.Fitting.{values-inside, total-word, moment-word}
 use Rattle.limits.proofs.Replies.{reply-accepted, reply-refused}
 use Rattle.series.proofs.fit.Statement.{statement}
 use Rattle.series.proofs.fit.Tie as tie
@@ -35,7 +36,7 @@ accepted : (c : tie.Else1) → valuesRule (c .before .before .args .values .now)
 accepted c = sym (c .before .values-refusal .ensures) ∙ c .if1 .left
 
 inside : (c : tie.Else1)
-    → let l = c .before .before .args .values .now in (4 ≤ length l) × (length l ≤ 52) × (anyBeyond (2 * 10 ^ 12) l ≡ false)
+    → let l = c .before .before .args .values .now in (4 ≤ length l) × (length l ≤ 52) × (anyBeyond valuesLimit l ≡ false)
 inside c = values-inside _ (accepted c)
 
 sums-requires : tie.Need-sums-requires
@@ -63,30 +64,30 @@ nearest-by-span-requires : tie.Need-nearest-by-span-requires
 nearest-by-span-requires c κs =
     let t = moment-word (summed c .sums .ensures) in
     let i = inside (summed c .before) in
-    (bound (search bounds depth 12) tt, omega (arith, i .0), omega (arith, i .1))
+    (bound (search bounds depth 12) tt, lit< tt, lit≤ tt, omega (arith, i .0), omega (arith, i .1))
 
 -- the values that are fitted
 abbrev values : tie.After-nearest-by-span → List ℤ
 values c = summed (c .before) .before .before .before .args .values .now
 
 midpoint-is : (c : tie.After-nearest-by-span)
-    → toZ w64 (ofZ w64 (c .before .before .before .nearest .result)) ≡ midpoint 1 (length (values c)) (at (values c))
+    → toZ w64 (ofZ w64 (c .before .before .before .nearest .result)) ≡ midpoint steps (length (values c)) (at (values c))
 unfolding midpoint
 midpoint-is c =
     let s = total-word (summed (c .before) .sums .ensures) in
     let n = c .before .before .before .nearest in
-    back-of (n .ok) ∙ n .ensures ∙ ap (λ (z : ℤ). nearest z (100 * length (values c))) (plain-is (search bounds depth 9) tt)
+    back-of (n .ok) ∙ n .ensures ∙ ap (λ (z : ℤ). nearest z (100 * steps * length (values c))) (plain-is (search bounds depth 9) tt)
 
 slope-is : (c : tie.After-nearest-by-span)
-    → toZ w64 (ofZ w64 (c .nearest-by-span .result)) ≡ slope 1 (length (values c)) (at (values c))
+    → toZ w64 (ofZ w64 (c .nearest-by-span .result)) ≡ slope steps (length (values c)) (at (values c))
+unfolding slope
 slope-is c =
     let t = moment-word (summed (c .before) .sums .ensures) in
     let k = length (values c) in
     let n = c .nearest-by-span in
     back-of (n .ok)
     ∙ n .ensures
-    ∙ ap (λ (z : ℤ). nearest z (k * (k * k - 1))) (plain-is (search bounds depth 12) tt)
-    ∙ sym (slope-span k (at (values c)))
+    ∙ ap (λ (z : ℤ). nearest z (steps * (k * (k * k - 1)))) (plain-is (search bounds depth 12) tt)
 
 returns-2 : tie.Need-returns-2
 unfolding fitRule

@@ -12,11 +12,11 @@ use lib.ListN.{length}
 use Rattle.whole.specs.Order.{_⩽_, _⋖_, pos-le, pos-lt}
 use Rattle.whole.specs.Words.{count-read, fits, count, plain-is, bounds}
 use Rattle.limits.specs.Limits.{dsgRule}
-use Rattle.exact.specs.Corrected.{at}
+use Rattle.exact.specs.Corrected.{at, steps}
 use Rattle.limits.specs.Reply.{reply}
 use Rattle.limits.specs.Lists.{anyBeyond}
 use Rattle.series.specs.Scatter.{squares, threshold, dsg, scatterRule}
-use Rattle.series.specs.Fit.{valuesRule}
+use Rattle.series.specs.Fit.{valuesRule, valuesLimit}
 use Rattle.series.proofs.Fitting.{values-inside, total-word, moment-word}
 use Rattle.series.proofs.Residuals.{squares-pos}
 use Rattle.series.proofs.Thresholds.{cap-is, dsg-greatest, greatest, dsg-below, sigma-refused, sigma-accepted}
@@ -34,7 +34,7 @@ returns c =
     let r = c .before .values-refusal in
     let h : 0 < r .result = omega arith in
     let l = c .before .before .args .values .now in
-    let first = then-refused (r .result) (dsgRule (pos (dsg 1 (length l) (squares (length l) (at l))))) h in
+    let first = then-refused (r .result) (dsgRule (pos (dsg steps (length l) (squares (length l) (at l))))) h in
     (sym (rw (← (r .ensures)) (rw first (reply-refused _ _ h))), h)
 
 -- the list is not refused, so its values are from 4 to 52 and inside their limit
@@ -42,7 +42,7 @@ accepted : (c : tie.Else1) → valuesRule (c .before .before .args .values .now)
 accepted c = sym (c .before .values-refusal .ensures) ∙ c .if1 .left
 
 inside : (c : tie.Else1)
-    → let l = c .before .before .args .values .now in (4 ≤ length l) × (length l ≤ 52) × (anyBeyond (2 * 10 ^ 12) l ≡ false)
+    → let l = c .before .before .args .values .now in (4 ≤ length l) × (length l ≤ 52) × (anyBeyond valuesLimit l ≡ false)
 inside c = values-inside _ (accepted c)
 
 some : (c : tie.Else1) → 0 < length (c .before .before .args .values .now)
@@ -82,10 +82,10 @@ unfolding scatterRule
 returns-2 c =
     let n = N (c .before) in
     let q = Q (c .before) in
-    let least : 999900002500 * n ≤ natAbs q = omega (arith, c .before .squares .ensures, c .if2 .taken) in
-    let reached : threshold 1 n 10000 ⩽ q = subst₂ (λ (x y : ℤ). x ⩽ y) (sym (cap-is n)) (sym (squares-pos n _)) (pos-le least) in
-    let top : 9999 < dsg 1 n q = greatest 1 n (dsg-greatest 1 n (lit< tt) (some (passed (c .before))) q) (lit< tt) reached in (
-      sym (ap (λ (k : ℕ). reply (pos 0) k (pos (dsg 1 n q))) (then-passed _ _ (accepted (passed (c .before))) ∙ sigma-refused _ top)),
+    let least : (steps * 999950) ^ 2 * n ≤ natAbs q = omega (arith, c .before .squares .ensures, c .if2 .taken) in
+    let reached : threshold steps n 10000 ⩽ q = subst₂ (λ (x y : ℤ). x ⩽ y) (sym (cap-is n)) (sym (squares-pos n _)) (pos-le least) in
+    let top : 9999 < dsg steps n q = greatest steps n (dsg-greatest steps n (lit< tt) (some (passed (c .before))) q) (lit< tt) reached in (
+      sym (ap (λ (k : ℕ). reply (pos 0) k (pos (dsg steps n q))) (then-passed _ _ (accepted (passed (c .before))) ∙ sigma-refused _ top)),
       lit< tt,
     )
 
@@ -93,15 +93,15 @@ dsg-requires : tie.Need-dsg-requires
 dsg-requires c κs = (some (passed (c .before)), inside (passed (c .before)) .1, c .if2 .left)
 
 -- below the cap nothing was cut off
-sigma-is : (c : tie.After-dsg) → (c .dsg .result ≡ dsg 1 (N (c .before .before)) (Q (c .before .before))) × (c .dsg .result ≤ 9999)
+sigma-is : (c : tie.After-dsg) → (c .dsg .result ≡ dsg steps (N (c .before .before)) (Q (c .before .before))) × (c .dsg .result ≤ 9999)
 sigma-is c =
     let n = N (c .before .before) in
     let q = Q (c .before .before) in
     let e : c .before .before .squares .result ≡ natAbs q = omega (arith, c .before .before .squares .ensures, c .before .if2 .left) in
     let same : pos (c .before .before .squares .result) ≡ q = ap pos e ∙ sym (squares-pos n _) in
-    let d : c .dsg .result ≡ dsg 1 n q = c .dsg .ensures ∙ ap (dsg 1 n) same in
-    let low : q ⋖ threshold 1 n 10000 = subst₂ (λ (x y : ℤ). x ⋖ y) same (sym (cap-is n)) (pos-lt (c .before .if2 .left)) in
-    let under : dsg 1 n q < 10000 = dsg-below 1 n (lit< tt) (some (passed (c .before .before))) (lit< tt) low in
+    let d : c .dsg .result ≡ dsg steps n q = c .dsg .ensures ∙ ap (dsg steps n) same in
+    let low : q ⋖ threshold steps n 10000 = subst₂ (λ (x y : ℤ). x ⋖ y) same (sym (cap-is n)) (pos-lt (c .before .if2 .left)) in
+    let under : dsg steps n q < 10000 = dsg-below steps n (lit< tt) (some (passed (c .before .before))) (lit< tt) low in
     (d, omega arith)
 
 cast-t9 : tie.Need-cast-t9
@@ -110,7 +110,7 @@ cast-t9 c = let d = count {b = 9999} (sigma-is c .1) in fits (search bounds dept
 returns-3 : tie.Need-returns-3
 unfolding scatterRule
 returns-3 c =
-    let under : dsg 1 (N (c .before .before)) (Q (c .before .before)) ≤ 9999 = rw (sigma-is c .0) at (sigma-is c .1) in (
+    let under : dsg steps (N (c .before .before)) (Q (c .before .before)) ≤ 9999 = rw (sigma-is c .0) at (sigma-is c .1) in (
       rw (plain-is (count-read {b = 9999} (sigma-is c .1)) tt, sigma-is c .0)
           (sym (reply-accepted _ _ (then-passed _ _ (accepted (passed (c .before .before))) ∙ sigma-accepted _ under))),
       tt,

@@ -8,7 +8,7 @@ use native.Mathlib.Nat.{le-refl}
 use lib.Dec.{lit<}
 use lib.IntN.{ℤ}
 use Rattle.whole.specs.Nearest.{nearest}
-use Rattle.whole.specs.Words.{Word, known, equal, back-of, bound, plain-is, bounds}
+use Rattle.whole.specs.Words.{Word, known, equal, back-of, fits, bound, plain-is, bounds}
 use Rattle.exact.specs.Corrected.{at}
 use Rattle.limits.specs.Lists.{miscounted, listRule}
 use Rattle.series.specs.Smooth.{smoothed, smoothRule}
@@ -43,6 +43,9 @@ sum-word c =
 weighted-requires : tie.Need-weighted-requires
 weighted-requires c κs = let a = list-accepted _ _ _ _ (accepted c) in (counted 15 (c .before .before .args .measurements .now) (a .0), a .1)
 
+mul-nearest : tie.Need-mul-nearest
+mul-nearest c = let w = sum-word c in fits (search bounds depth 9) tt
+
 nearest-requires : tie.Need-nearest-requires
 nearest-requires c κs = let w = sum-word c in (bound (search bounds depth 9) tt, lit< tt)
 
@@ -57,4 +60,4 @@ returns-2 c =
 
 pub smooth-spec : {M : Type 1} → statement M
 smooth-spec =
-    tie.close (tie.spec list-refusal-requires returns weighted-requires nearest-requires returns-2)
+    tie.close (tie.spec list-refusal-requires returns weighted-requires mul-nearest nearest-requires returns-2)

@@ -1,4 +1,4 @@
-//! The paper's cases: what the technician tries, and the sample line.
+//! The papers' cases: what the technician tries, in tenths as document 02 has them, and the sample line.
 
 use super::*;
 use crate::{fit, line, scatter, smooth, start, Fitted, Numbers};
@@ -22,16 +22,18 @@ fn last(value: i64) -> Vec<i64> {
 
 #[test]
 fn smooth_cases() {
-    assert_eq!(smooth(&[-7; 15]), Ok(-7));
-    assert_eq!(smooth(&middle(1105)), Ok(167));
+    assert_eq!(smooth(&[-7; 15]), Ok(-70));
+    assert_eq!(smooth(&middle(1105)), Ok(1670));
     let mut end = [0; 15];
     end[14] = 1105;
-    assert_eq!(smooth(&end), Ok(-78));
-    assert_eq!(smooth(&middle(3)), Ok(0));
-    assert_eq!(smooth(&middle(4)), Ok(1));
-    assert_eq!(smooth(&middle(-4)), Ok(-1));
-    assert_eq!(smooth(&[1_000_000_000_000; 15]), Ok(1_000_000_000_000));
-    assert_eq!(smooth(&[-1_000_000_000_000; 15]), Ok(-1_000_000_000_000));
+    assert_eq!(smooth(&end), Ok(-780));
+    assert_eq!(smooth(&middle(3)), Ok(5));
+    assert_eq!(smooth(&middle(4)), Ok(6));
+    assert_eq!(smooth(&middle(-4)), Ok(-6));
+    // ten times 167 over 1105 is 1.511: twice and three times as much is 3.02 and 4.53
+    assert_eq!((smooth(&middle(1)), smooth(&middle(2)), smooth(&middle(-3))), (Ok(2), Ok(3), Ok(-5)));
+    assert_eq!(smooth(&[1_000_000_000_000; 15]), Ok(10_000_000_000_000));
+    assert_eq!(smooth(&[-1_000_000_000_000; 15]), Ok(-10_000_000_000_000));
     for at in 0..15 {
         let mut m = [1_000_000_000_000; 15];
         m[at] += 1;
@@ -46,31 +48,39 @@ fn smooth_cases() {
 
 #[test]
 fn fit_cases() {
-    assert_eq!(fit(&[50; 52]), Ok(Fitted { midpoint: 1, slope: 0 }));
-    assert_eq!(fit(&[-50; 52]), Ok(Fitted { midpoint: 0, slope: 0 }));
-    assert_eq!(fit(&[-51; 52]), Ok(Fitted { midpoint: -1, slope: 0 }));
-    let ramp: Vec<i64> = (0..52).map(|j| 15 * j).collect();
+    assert_eq!(fit(&[500; 52]), Ok(Fitted { midpoint: 1, slope: 0 }));
+    assert_eq!(fit(&[499; 52]), Ok(Fitted { midpoint: 0, slope: 0 }));
+    assert_eq!(fit(&[-500; 52]), Ok(Fitted { midpoint: 0, slope: 0 }));
+    assert_eq!(fit(&[-501; 52]), Ok(Fitted { midpoint: -1, slope: 0 }));
+    assert_eq!(fit(&[-510; 52]), Ok(Fitted { midpoint: -1, slope: 0 }));
+    let ramp: Vec<i64> = (0..52).map(|j| 150 * j).collect();
     assert_eq!(fit(&ramp), Ok(Fitted { midpoint: 4, slope: 10 }));
-    assert_eq!(fit(&last(345)).map(|f| f.slope), Ok(1));
-    assert_eq!(fit(&last(344)).map(|f| f.slope), Ok(0));
-    assert_eq!(fit(&[2_000_000_000_001; 52]), Err(2));
-    assert_eq!(fit(&[2_000_000_000_001; 53]), Err(1));
-    assert_eq!(fit(&[2_000_000_000_000; 52]), Ok(Fitted { midpoint: 20_000_000_000, slope: 0 }));
+    assert_eq!(fit(&last(3450)).map(|f| f.slope), Ok(1));
+    assert_eq!(fit(&last(3440)).map(|f| f.slope), Ok(0));
+    // the last value alone gives 4x / 27560, half a unit at 3445, and a tie goes up
+    assert_eq!((fit(&last(3445)).map(|f| f.slope), fit(&last(3444)).map(|f| f.slope)), (Ok(1), Ok(0)));
+    assert_eq!((fit(&last(-3445)).map(|f| f.slope), fit(&last(-3446)).map(|f| f.slope)), (Ok(0), Ok(-1)));
+    assert_eq!(fit(&[20_000_000_000_001; 52]), Err(2));
+    assert_eq!(fit(&[-20_000_000_000_001; 52]), Err(2));
+    assert_eq!(fit(&[20_000_000_000_001; 53]), Err(1));
+    assert_eq!(fit(&[20_000_000_000_000; 52]), Ok(Fitted { midpoint: 20_000_000_000, slope: 0 }));
 }
 
 #[test]
 fn scatter_cases() {
-    assert_eq!(scatter(&waves(49)), Ok(0));
-    assert_eq!(scatter(&waves(50)), Ok(1));
-    assert_eq!(scatter(&waves(149)), Ok(1));
-    assert_eq!(scatter(&waves(150)), Ok(2));
-    assert_eq!(scatter(&waves(999_949)), Ok(9999));
-    assert_eq!(scatter(&waves(999_950)), Err(6));
+    assert_eq!(scatter(&waves(490)), Ok(0));
+    assert_eq!(scatter(&waves(499)), Ok(0));
+    assert_eq!(scatter(&waves(500)), Ok(1));
+    assert_eq!(scatter(&waves(1499)), Ok(1));
+    assert_eq!(scatter(&waves(1500)), Ok(2));
+    assert_eq!(scatter(&waves(9_999_490)), Ok(9999));
+    assert_eq!(scatter(&waves(9_999_499)), Ok(9999));
+    assert_eq!(scatter(&waves(9_999_500)), Err(6));
     // the sum of squares is 0 modulo 2^64
     assert_eq!(scatter(&waves(1 << 32)), Err(6));
-    assert_eq!(scatter(&waves(2_000_000_000_000)), Err(6));
-    assert_eq!(scatter(&waves(2_000_000_000_001)), Err(2));
-    assert_eq!(scatter(&waves(2_000_000_000_001)[..3]), Err(1));
+    assert_eq!(scatter(&waves(20_000_000_000_000)), Err(6));
+    assert_eq!(scatter(&waves(20_000_000_000_001)), Err(2));
+    assert_eq!(scatter(&waves(20_000_000_000_001)[..3]), Err(1));
 }
 
 #[test]

@@ -71,44 +71,79 @@ fn smooth_fit_and_scatter_by_their_definitions() {
         let m: Vec<i64> =
             (0..15).map(|_| if round % 2 == 0 { seeded.spread(limit) } else { seeded.range(-limit, limit) }).collect();
         let sum: i128 = m.iter().zip(WEIGHTS).map(|(m, w)| i128::from(*m) * i128::from(w)).sum();
-        assert!(is_nearest(smooth(&m).expect("accepted"), sum, 1105));
-        let level = seeded.spread(2 * limit);
-        let noise = seeded.spread(2 * limit - level.abs()).abs();
+        assert!(is_nearest(smooth(&m).expect("accepted"), 10 * sum, 1105));
+        let level = seeded.spread(MOST);
+        let noise = seeded.spread(MOST - level.abs()).abs();
         let n = 4 + round % 49;
-        let v: Vec<i64> = (0..n).map(|_| level + seeded.range(-noise, noise)).collect();
-        let (s, t) = sums(&wide(&v));
-        let fitted = fit(&v).expect("accepted");
-        assert!(is_nearest(fitted.midpoint, s, 100 * n as i128) && is_nearest(fitted.slope, 4 * t, span(n)));
-        let whole = |left: i128| {
-            let r = left.div_euclid(span(n));
-            (r..=r + 1).find(|r| is_nearest(*r as i64, left, span(n))).expect("one of the two")
-        };
-        let q: i128 = residuals(&wide(&v)).into_iter().map(|left| whole(left) * whole(left)).sum();
-        let threshold = |d: i128| n as i128 * (100 * d - 50) * (100 * d - 50);
-        match scatter(&v) {
-            Err(refusal) => assert!(refusal == 6 && threshold(10_000) <= q),
-            Ok(0) => assert!(q < 2500 * n as i128),
-            Ok(d) => assert!(threshold(d.into()) <= q && q < threshold(i128::from(d) + 1)),
-        }
+        check_fits(&(0..n).map(|_| level + seeded.range(-noise, noise)).collect::<Vec<i64>>());
     }
 }
 
-/// Sixty-four-bit sums at the limits, for every number of blocks: nothing wraps where overflow is checked.
+/// The largest value that is fitted, in tenths.
+const MOST: i64 = 20_000_000_000_000;
+
+/// Fit and Scatter of these values in tenths are what the papers say, whose sums are taken in 128 bits and not rearranged.
+fn check_fits(values: &[i64]) {
+    let (n, (s, t)) = (values.len(), sums(&wide(values)));
+    let fitted = fit(values).expect("accepted");
+    assert!(is_nearest(fitted.midpoint, s, 1000 * n as i128) && is_nearest(fitted.slope, 4 * t, 10 * span(n)));
+    let whole = |left: i128| {
+        let r = left.div_euclid(span(n));
+        (r..=r + 1).find(|r| is_nearest(*r as i64, left, span(n))).expect("one of the two")
+    };
+    let q: i128 = residuals(&wide(values)).into_iter().map(|left| whole(left) * whole(left)).sum();
+    let threshold = |d: i128| n as i128 * (1000 * d - 500) * (1000 * d - 500);
+    match scatter(values) {
+        Err(refusal) => assert!(refusal == 6 && threshold(10_000) <= q),
+        Ok(0) => assert!(q < 250_000 * n as i128),
+        Ok(d) => assert!(threshold(d.into()) <= q && q < threshold(i128::from(d) + 1)),
+    }
+}
+
+/// The largest values that Fit and Scatter take, and signs along them that make each sum largest: all one, by the side of the
+/// mean date, the ends against all between, one after the other, in halves, one value alone.
+fn largest_values(n: usize) -> Vec<Vec<i64>> {
+    let along = |value: &dyn Fn(usize) -> i64| (0..n).map(value).collect::<Vec<i64>>();
+    let side = |j: usize| place(n, j).signum() as i64;
+    let end = |j: usize| if j == 0 || j == n - 1 { 1 } else { -1 };
+    let mut patterns = vec![
+        along(&|_| MOST),
+        along(&|j| MOST * side(j)),
+        along(&|j| MOST * side(j) * end(j)),
+        along(&|j| MOST * end(j)),
+        along(&|j| if j % 2 == 0 { MOST } else { -MOST }),
+        along(&|j| if j % 4 == 0 || j % 4 == 3 { MOST } else { -MOST }),
+        along(&|j| if j < n / 2 { MOST } else { 0 }),
+        along(&|j| (2 * MOST as i128 * j as i128 / (n as i128 - 1)) as i64 - MOST),
+    ];
+    patterns.extend([0, n / 2, n - 1].map(|at| along(&|j| if j == at { MOST } else { -MOST })));
+    patterns.extend([0, n / 2, n - 1].map(|at| along(&|j| if j == at { MOST } else { 0 })));
+    patterns
+}
+
+/// At the limits, and next to them, for every number of blocks: nothing wraps where overflow is checked, and the figures are
+/// those of 128 bits.
 #[test]
-fn extremes_do_not_overflow() {
-    for (n, sign) in (4..=52).flat_map(|n| [(n, 1), (n, -1)]) {
-        // the largest T, and at the ends the largest residual
-        let by_place: Vec<i64> = (0..n).map(|j| sign * place(n, j).signum() as i64 * 2_000_000_000_000).collect();
-        let mut ends = by_place.iter().map(|v| -v).collect::<Vec<i64>>();
-        (ends[0], ends[n - 1]) = (by_place[0], by_place[n - 1]);
-        let alternating: Vec<i64> = (0..n).map(|j| if j % 2 == 0 { sign } else { -sign } * 2_000_000_000_000).collect();
-        for values in [by_place, ends, alternating] {
-            assert!(fit(&values).is_ok());
-            assert_eq!(scatter(&values), Err(6));
+fn largest_values_by_their_definitions() {
+    let mut seeded = Seeded::new(3);
+    for n in 4..=52 {
+        for values in largest_values(n) {
+            let under = values.iter().map(|v| v - v.signum() * seeded.range(0, 1000)).collect();
+            let turned: Vec<i64> = values.iter().map(|v| -v).collect();
+            [values, under, turned].iter().for_each(|values| check_fits(values));
         }
-        assert_eq!(scatter(&vec![sign * 2_000_000_000_000; n]), Ok(0));
+        (0..20).for_each(|_| check_fits(&(0..n).map(|_| seeded.pick(&[MOST, -MOST])).collect::<Vec<i64>>()));
+        assert_eq!((scatter(&vec![MOST; n]), scatter(&vec![-MOST; n])), (Ok(0), Ok(0)));
+    }
+}
+
+/// The measurements that give the largest smoothed value, and the largest corrected values there can be, which are no 10.
+#[test]
+fn largest_measurements_and_corrections() {
+    for (n, sign) in (4..=52).flat_map(|n| [(n, 1), (n, -1)]) {
+        // 1469 / 1105 of 10^13 tenths
         let by_weight: Vec<i64> = WEIGHTS.iter().map(|w| sign * w.signum() * 1_000_000_000_000).collect();
-        assert!(smooth(&by_weight).is_ok());
+        assert_eq!(smooth(&by_weight), Ok(sign * 13_294_117_647_059));
         assert_eq!(largest(n, sign).track(), Err(3));
     }
 }
@@ -144,8 +179,8 @@ pub fn seeded_track(n: usize, seeded: &mut Seeded) -> Given {
     given
 }
 
-/// The accuracy that is promised against the exact figures: 0.51 of a unit for midpoints and DSG, 1/2 + n / (n² - 1) for
-/// slopes.
+/// The accuracy that is promised against the exact figures: 0.5005 of a unit for midpoints, 0.501 for DSG, 1/2 + n / (10(n² - 1))
+/// for slopes.
 #[test]
 fn within_the_exact_figures() {
     let mut seeded = Seeded::new(2);
@@ -190,25 +225,26 @@ fn slopes_nearly_as_far_off_as_promised() {
         check_track(&given, &record);
         let (off, count) = (slope_off(&given, &record, sign), n as i128);
         assert!(off > 500_000);
-        // the smoothing moves the slope by 552 / 1105 ps times 4 over n(n² - 1) times all places, and one rounding comes to it
+        // the smoothing moves the slope by 550 / 1105 tenths times 4 over 10n(n² - 1) times all places, and one rounding comes to
+        // it, which may miss the farthest by what two tenths in one block move 4T
         let places: i128 = (0..n).map(|j| place(n, j).abs()).sum();
-        let moved = 1_000_000 * 4 * 552 * places / (1105 * span(n));
-        let least = 1_000_000 / (span(n) / gcd(span(n), if n % 2 == 0 { 4 } else { 8 }));
+        let moved = 1_000_000 * 4 * 550 * places / (1105 * 10 * span(n));
+        let least = 1_000_000 / (10 * span(n) / gcd(10 * span(n), if n % 2 == 0 { 8 } else { 16 }));
         assert!((499_999 + moved - least..=500_001 + moved).contains(&off), "{n}: {off}");
-        assert!(off <= 500_000 + 1_000_000 * count / (count * count - 1));
+        assert!(off <= 500_000 + 100_000 * count / (count * count - 1));
         seen.push((n, sign, off));
     }
     // worked out by another program from the fractions themselves
     for (n, up, down) in [
-        (4, 733_092, 733_092),
-        (5, 666_485, 666_485),
-        (6, 666_511, 666_511),
-        (8, 626_869, 618_932),
-        (13, 575_021, 575_021),
-        (26, 538_426, 538_426),
-        (40, 524_992, 524_930),
-        (51, 519_559, 519_559),
-        (52, 519_206, 519_206),
+        (4, 519_879, 519_879),
+        (5, 513_242, 513_242),
+        (6, 516_112, 516_112),
+        (8, 512_640, 511_053),
+        (13, 507_291, 507_291),
+        (26, 503_823, 503_823),
+        (40, 502_490, 502_477),
+        (51, 501_945, 501_945),
+        (52, 501_912, 501_912),
     ] {
         assert!(seen.contains(&(n, 1, up)) && seen.contains(&(n, -1, down)), "{n} blocks");
     }
@@ -230,20 +266,20 @@ fn exact_a(given: &Given, j: usize) -> i128 {
     smoothed + 1105 * (at(1) - at(0) - at(2) - at(3) - i128::from(delays))
 }
 
-/// Values are y / e. Exact midpoint S / 100n e, exact slope 4T / n(n² - 1) e.
+/// Values are y / e, in ps. Exact midpoint S / 100n e, exact slope 4T / n(n² - 1) e.
 fn check_line(y: &[i128], e: i128, midpoint: i64, slope: i64) {
     let ((s, t), n) = (sums(y), y.len() as i128);
-    assert!((100 * (100 * n * e * i128::from(midpoint) - s)).abs() <= 51 * 100 * n * e);
-    // (1/2 + n / (n² - 1)) times 2(n² - 1) is n² - 1 + 2n
+    assert!((10_000 * (100 * n * e * i128::from(midpoint) - s)).abs() <= 5005 * 100 * n * e);
+    // (1/2 + n / 10(n² - 1)) times 20(n² - 1) is 10(n² - 1) + 2n
     let unit = span(y.len()) * e;
-    assert!(2 * (n * n - 1) * (unit * i128::from(slope) - 4 * t).abs() <= (n * n - 1 + 2 * n) * unit);
+    assert!(20 * (n * n - 1) * (unit * i128::from(slope) - 4 * t).abs() <= (10 * (n * n - 1) + 2 * n) * unit);
 }
 
-/// The least sum is that of what is left squared, over (n(n² - 1) e) squared.
+/// The least sum is that of what is left squared, over (n(n² - 1) e) squared; 0.501 of a unit is 501 tenths.
 fn check_scatter(y: &[i128], e: i128, dsg: i64) {
-    let least: i128 = residuals(y).iter().map(|left| left * left).sum();
+    let least: i128 = residuals(y).iter().map(|left| (10 * left) * (10 * left)).sum();
     let bound = |root: i128| y.len() as i128 * (span(y.len()) * e * root) * (span(y.len()) * e * root);
     let d = i128::from(dsg);
-    assert!(least <= bound(100 * d + 51));
-    assert!(d == 0 || bound(100 * d - 51) <= least);
+    assert!(least <= bound(1000 * d + 501));
+    assert!(d == 0 || bound(1000 * d - 501) <= least);
 }

@@ -6,6 +6,7 @@ mod published;
 mod reading;
 mod shifting;
 mod short;
+mod steps;
 mod text;
 mod viewing;
 
@@ -52,13 +53,18 @@ impl Given {
         }
     }
 
-    pub fn track(&self) -> Result<Record, u32> {
+    fn columns(&self) -> Columns<'_> {
         let [geometry, relativity, ionosphere, troposphere, clock] = &self.columns;
-        crate::track(
-            &self.measurements,
-            &self.delays,
-            &Columns { geometry, relativity, ionosphere, troposphere, clock },
-        )
+        Columns { geometry, relativity, ionosphere, troposphere, clock }
+    }
+
+    pub fn track(&self) -> Result<Record, u32> {
+        crate::track(&self.measurements, &self.delays, &self.columns())
+    }
+
+    /// With a ps counted in so many steps.
+    pub fn track_in<const STEPS: i64>(&self) -> Result<Record, u32> {
+        crate::track::track_in::<STEPS>(&self.measurements, &self.delays, &self.columns())
     }
 
     /// The hire block, by the paper's table of offsets.

@@ -24,10 +24,10 @@ fn signs_of_the_corrections() {
     }
     let record = given.track().expect("accepted");
     // 1000000 - (100000 + 200000 - 50000) - 500000 + 7000 - 11000 - 13000 - 30000 = 203000
-    assert_eq!(record.a, [203_000; MOST_BLOCKS]);
-    assert_eq!(record.b, [222_000; MOST_BLOCKS]);
-    assert_eq!(record.c, [13_000; MOST_BLOCKS]);
-    assert_eq!(record.d, [11_000; MOST_BLOCKS]);
+    assert_eq!(record.a, [2_030_000; MOST_BLOCKS]);
+    assert_eq!(record.b, [2_220_000; MOST_BLOCKS]);
+    assert_eq!(record.c, [130_000; MOST_BLOCKS]);
+    assert_eq!(record.d, [110_000; MOST_BLOCKS]);
     let n = record.numbers;
     assert_eq!((n.refsv, n.srsv, n.refsys, n.srsys), (2030, 0, 2220, 0));
     assert_eq!((n.mdtr, n.smdt, n.mdio, n.smdi, n.dsg, n.trkl), (130, 0, 110, 0, 0, 780));

@@ -4,6 +4,7 @@
 use super::exact::seeded_track;
 use super::*;
 use crate::seeded::Seeded;
+use crate::tuned::tune;
 use crate::Numbers;
 
 const GEOMETRY: usize = 0;
@@ -21,13 +22,19 @@ fn moved(before: &Numbers, after: &Numbers, refsv: i64, refsys: i64) -> bool {
     *after == wanted
 }
 
-/// What is to be added to one value so that the sum of n lies half way between two midpoints, or 1 ps from it.
-fn to_a_tie(values: &[i64], seeded: &mut Seeded) -> i64 {
+/// What is to be added to one value, in tenths, so that the sum of n lies half way between two midpoints.
+fn to_a_tie(values: &[i64]) -> i64 {
     let (n, sum) = (values.len() as i64, values.iter().sum::<i64>());
-    (50 * n - sum).rem_euclid(100 * n) + seeded.range(-1, 1)
+    (500 * n - sum).rem_euclid(1000 * n)
 }
 
-/// A track of n blocks with delays and a satellite clock, half of them with REFSV and REFSYS next to a tie.
+/// Raises A of block j by so many tenths.
+fn raise(given: &mut Given, j: usize, tenths: i64) {
+    let ps = tune(&mut given.measurements[BLOCK_SECONDS * j..BLOCK_SECONDS * (j + 1)], tenths);
+    given.columns[GEOMETRY][j] += ps;
+}
+
+/// A track of n blocks with delays and a satellite clock, half of them with REFSV and REFSYS on a tie or a tenth from it.
 fn any_track(n: usize, seeded: &mut Seeded) -> Given {
     let mut given = seeded_track(n, seeded);
     let mut delay = || seeded.spread(1_000_000);
@@ -39,10 +46,11 @@ fn any_track(n: usize, seeded: &mut Seeded) -> Given {
     }
     let j = seeded.below(n as u64) as usize;
     if let Ok(record) = given.track() {
-        given.columns[GEOMETRY][j] -= to_a_tie(&record.a[..n], seeded);
+        raise(&mut given, j, to_a_tie(&record.a[..n]) + seeded.range(-1, 1));
     }
+    // what A's sum is from a tie, B's is too when whole ps have brought it there
     if let Ok(record) = given.track() {
-        given.columns[CLOCK][j] += to_a_tie(&record.b[..n], seeded);
+        given.columns[CLOCK][j] += (to_a_tie(&record.b[..n]) + 5).div_euclid(10);
     }
     given
 }
@@ -130,6 +138,17 @@ fn fifty_ps_do_not_drop_out() {
         assert_eq!(before.map(|numbers| numbers.refsys), [0, 1]);
         assert_eq!(after.map(|numbers| numbers.refsys), [1, 1]);
         assert!((0..=1).all(|k| !(moved(&before[0], &after[0], k, k) && moved(&before[1], &after[1], k, k))));
+    }
+}
+
+/// Nor do ten, which is a whole number of tenths and no whole number of units.
+#[test]
+fn ten_ps_do_not_drop_out() {
+    for n in 4..=52 {
+        let [below, far] = [45, 35].map(|level| Given::of(n, level));
+        let [before, after] = [0, 10].map(|by| both(&shifted(&below, by), &shifted(&far, by)).expect("accepted"));
+        assert_eq!(before.map(|numbers| numbers.refsys), [0, 0]);
+        assert_eq!(after.map(|numbers| numbers.refsys), [1, 0]);
     }
 }
 

@@ -18,7 +18,7 @@ fn times(k: i64, values: &[i64]) -> Vec<i64> {
 #[test]
 fn counts_of_fit_and_scatter_are_1() {
     for n in 0..=120 {
-        let (good, beyond) = (vec![0; n], vec![2_000_000_000_001; n]);
+        let (good, beyond) = (vec![0; n], vec![20_000_000_000_001; n]);
         let fits = (4..=52).contains(&n);
         let zero = Fitted { midpoint: 0, slope: 0 };
         assert_eq!(fit(&good), if fits { Ok(zero) } else { Err(1) }, "{n}");
@@ -31,40 +31,46 @@ fn counts_of_fit_and_scatter_are_1() {
 #[test]
 fn lines_through_n_values() {
     for n in 4..=52 {
-        assert_eq!(fit(&vec![50; n]), Ok(Fitted { midpoint: 1, slope: 0 }));
-        assert_eq!(fit(&vec![-50; n]), Ok(Fitted { midpoint: 0, slope: 0 }));
-        assert_eq!(fit(&vec![-51; n]), Ok(Fitted { midpoint: -1, slope: 0 }));
+        assert_eq!(fit(&vec![500; n]), Ok(Fitted { midpoint: 1, slope: 0 }));
+        assert_eq!(fit(&vec![499; n]), Ok(Fitted { midpoint: 0, slope: 0 }));
+        assert_eq!(fit(&vec![-500; n]), Ok(Fitted { midpoint: 0, slope: 0 }));
+        assert_eq!(fit(&vec![-501; n]), Ok(Fitted { midpoint: -1, slope: 0 }));
         // 1 ps a second from the first value on: half of 15(n - 1) ps in the middle
-        let ramp: Vec<i64> = (0..n as i64).map(|j| 15 * j).collect();
+        let ramp: Vec<i64> = (0..n as i64).map(|j| 150 * j).collect();
         let midpoint = (15 * (n as i64 - 1) + 100) / 200;
         assert_eq!(fit(&ramp), Ok(Fitted { midpoint, slope: 10 }), "{n}");
     }
-    // the last value alone gives 4x / (n(n + 1)): x / 5, 2x / 15, 2x / 21, 2x / 55, x / 663, x / 689
-    for (n, one, zero) in [(4, 3, 2), (5, 4, 3), (6, 6, 5), (10, 14, 13), (51, 332, 331), (52, 345, 344)] {
+    // the last value alone gives 4x / (10n(n + 1)): x / 50, x / 75, x / 105, x / 275, x / 6630, x / 6890
+    for (n, one) in [(4, 25), (6, 53), (10, 138), (51, 3315), (52, 3445)] {
         assert_eq!(fit(&last(n, one)).map(|f| f.slope), Ok(1), "{n}");
-        assert_eq!(fit(&last(n, zero)).map(|f| f.slope), Ok(0), "{n}");
-        assert_eq!(fit(&last(n, -one)).map(|f| f.slope), Ok(-1), "{n}");
+        assert_eq!(fit(&last(n, one - 1)).map(|f| f.slope), Ok(0), "{n}");
+        assert_eq!(fit(&last(n, -one - 1)).map(|f| f.slope), Ok(-1), "{n}");
     }
-    // for 8 values it is x / 18, and a tie goes up
-    assert_eq!((fit(&last(8, 9)).map(|f| f.slope), fit(&last(8, -9)).map(|f| f.slope)), (Ok(1), Ok(0)));
+    // half way is 25 for 4 values, 37.5 for 5 and 90 for 8: a tie goes up
+    let slopes = |n: usize, values: [i64; 4]| values.map(|v| fit(&last(n, v)).map(|f| f.slope).unwrap_or(99));
+    assert_eq!(slopes(4, [25, 24, -25, -26]), [1, 0, 0, -1]);
+    assert_eq!(slopes(5, [38, 37, -37, -38]), [1, 0, 0, -1]);
+    assert_eq!(slopes(8, [90, 89, -90, -91]), [1, 0, 0, -1]);
 }
 
 #[test]
 fn scatter_of_n_values() {
-    // Q is 4a²: 2500 for each of the four at 50
-    for (a, dsg) in [(0, 0), (49, 0), (50, 1), (149, 1), (150, 2), (999_949, 9999)] {
+    // Q is 4a²: 250000 for each of the four at 500
+    for (a, dsg) in [(0, 0), (499, 0), (500, 1), (1499, 1), (1500, 2), (9_999_499, 9999)] {
         assert_eq!(scatter(&[a, -a, -a, a]), Ok(dsg));
     }
-    assert_eq!(scatter(&[999_950, -999_950, -999_950, 999_950]), Err(6));
+    assert_eq!(scatter(&[9_999_500, -9_999_500, -9_999_500, 9_999_500]), Err(6));
     for n in 4..=52 {
         let wave = wave(n);
         assert_eq!((wave.len(), wave.iter().map(|v| v * v).sum::<i64>()), (n, 4 * n as i64));
         assert_eq!(wave.iter().sum::<i64>(), 0);
         assert_eq!(wave.iter().zip(0..).map(|(v, j)| j * v).sum::<i64>(), 0);
-        for (k, dsg) in [(24, Ok(0)), (25, Ok(1)), (74, Ok(1)), (75, Ok(2)), (499_974, Ok(9999)), (499_975, Err(6))] {
+        for (k, dsg) in
+            [(249, Ok(0)), (250, Ok(1)), (749, Ok(1)), (750, Ok(2)), (4_999_749, Ok(9999)), (4_999_750, Err(6))]
+        {
             assert_eq!(scatter(&times(k, &wave)), dsg, "{k} times the wave of {n}");
             // on a line its residuals are the same
-            let on_line = |line: i64| times(k, &wave).iter().zip(0..).map(|(v, j)| v + 700_000 - line * j).collect();
+            let on_line = |line: i64| times(k, &wave).iter().zip(0..).map(|(v, j)| v + 7_000_000 - line * j).collect();
             let (up, down): (Vec<i64>, Vec<i64>) = (on_line(-1234), on_line(987_654));
             assert_eq!((scatter(&up), scatter(&down)), (dsg, dsg));
         }
@@ -81,7 +87,7 @@ fn record_of_n_blocks() {
         }
         let record = given.track().expect("accepted");
         assert_eq!(record.blocks, n);
-        for (kind, value) in [(record.a, 203_000), (record.b, 222_000), (record.c, 13_000), (record.d, 11_000)] {
+        for (kind, value) in [(record.a, 2_030_000), (record.b, 2_220_000), (record.c, 130_000), (record.d, 110_000)] {
             let places: Vec<i64> = (0..52).map(|j| if j < n { value } else { 0 }).collect();
             assert_eq!(kind[..], places);
         }

@@ -6,13 +6,13 @@ use mathlib.Core.Path.{_≡_, refl, _∙_}
 use Prim.Native.Nat.{ℕ, _-_, _*_, _^_, _≤_}
 use native.Mathlib.Nat.{le-antisymm}
 use native.Mathlib.Omega.{arith}
-use lib.IntN.{ℤ, _+ℤ_, _-ℤ_}
+use lib.IntN.{ℤ, pos, _+ℤ_, _-ℤ_, _*ℤ_}
 use lib.ListN.{length, length-set}
 use mir.Syntax.{w64}
 use mir.Val.{toZ, ofZ}
 use mir.Facts.{toZ-ofZ}
 use Rattle.whole.specs.Words.{Word, known, read, back, back-of, bound}
-use Rattle.exact.specs.Corrected.{at}
+use Rattle.exact.specs.Corrected.{at, steps}
 use Rattle.limits.proofs.Lists.{within-limit}
 use Rattle.correcting.specs.Correct.{places}
 use Rattle.correcting.proofs.Arrays.{fill-none, fill-more}
@@ -20,7 +20,8 @@ use Rattle.correcting.proofs.correction.a_values.Statement.{statement}
 use Rattle.correcting.proofs.correction.a_values.Tie as tie
 
 abbrev value : (smoothed : List ℤ) (delay : ℤ) (geometry relativity ionosphere troposphere : List ℤ) (gd : ℤ) → ℕ → ℤ
-value s w g r i t d j = at s j -ℤ w -ℤ at g j +ℤ at r j -ℤ at i j -ℤ at t j -ℤ d
+value s w g r i t d j =
+    at s j -ℤ pos steps *ℤ w -ℤ pos steps *ℤ at g j +ℤ pos steps *ℤ at r j -ℤ pos steps *ℤ at i j -ℤ pos steps *ℤ at t j -ℤ pos steps *ℤ d
 
 abbrev Inv-loop : tie.InvT-loop
 Inv-loop smoothed delay geometry relativity ionosphere troposphere gd n values₀ j₀ values j =
@@ -111,7 +112,9 @@ loop-again c =
       fill-more _ (n .loop .values) (n .loop .j) (omega arith) (n .loop .inv .3)
           (back-of (c .corrected .ok)
           ∙ c .corrected .ensures
-          ∙ (λ i. back (w .0) tt i -ℤ toZ w64 (ofZ w64 (a .delay)) -ℤ back (w .3) tt i +ℤ back (w .4) tt i -ℤ back (w .5) tt i -ℤ back (w .6) tt i -ℤ toZ w64 (ofZ w64 (a .gd)))),
+          ∙ (λ i.
+          back (w .0) tt i -ℤ pos steps *ℤ toZ w64 (ofZ w64 (a .delay)) -ℤ pos steps *ℤ back (w .3) tt i +ℤ pos steps *ℤ back (w .4) tt i
+          -ℤ pos steps *ℤ back (w .5) tt i -ℤ pos steps *ℤ back (w .6) tt i -ℤ pos steps *ℤ toZ w64 (ofZ w64 (a .gd)))),
     )
 
 returns : tie.Need-returns Inv-loop μ-loop

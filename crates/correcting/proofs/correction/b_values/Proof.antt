@@ -6,10 +6,10 @@ use mathlib.Core.Path.{_≡_, refl}
 use Prim.Native.Nat.{ℕ, _-_, _^_, _≤_}
 use native.Mathlib.Nat.{le-antisymm}
 use native.Mathlib.Omega.{arith}
-use lib.IntN.{ℤ, _+ℤ_}
+use lib.IntN.{ℤ, pos, _+ℤ_, _*ℤ_}
 use lib.ListN.{length, length-set}
 use Rattle.whole.specs.Words.{Word, known, fits, plain-is, bounds}
-use Rattle.exact.specs.Corrected.{at}
+use Rattle.exact.specs.Corrected.{at, steps}
 use Rattle.limits.proofs.Lists.{within-limit}
 use Rattle.correcting.specs.Correct.{places}
 use Rattle.correcting.proofs.Arrays.{fill-none, fill-more}
@@ -17,7 +17,7 @@ use Rattle.correcting.proofs.correction.b_values.Statement.{statement}
 use Rattle.correcting.proofs.correction.b_values.Tie as tie
 
 abbrev value : List ℤ → List ℤ → ℕ → ℤ
-value a clock j = at a j +ℤ at clock j
+value a clock j = at a j +ℤ pos steps *ℤ at clock j
 
 abbrev Inv-loop : tie.InvT-loop
 Inv-loop a clock n values₀ j₀ values j =
@@ -47,6 +47,12 @@ mul-values-2 c = search needs
 shared-slice-copy-out-values-2 : tie.Need-shared-slice-copy-out-values-2 Inv-loop μ-loop
 shared-slice-copy-out-values-2 c = search needs
 
+mul-values-3 : tie.Need-mul-values-3 Inv-loop μ-loop
+mul-values-3 c =
+    let n = c .before .before .before in
+    let k = clock-word (n .before) (n .loop .j) in
+    fits (search bounds depth 9) tt
+
 add-values : tie.Need-add-values Inv-loop μ-loop
 add-values c =
     let n = c .before .before .before in
@@ -54,8 +60,8 @@ add-values c =
     let k = clock-word (n .before) (n .loop .j) in
     fits (search bounds depth 9) tt
 
-mul-values-3 : tie.Need-mul-values-3 Inv-loop μ-loop
-mul-values-3 c = search needs
+mul-values-4 : tie.Need-mul-values-4 Inv-loop μ-loop
+mul-values-4 c = search needs
 
 array-set-from-values : tie.Need-array-set-from-values Inv-loop μ-loop
 array-set-from-values c = search needs
@@ -96,8 +102,9 @@ b-values-spec =
     shared-slice-copy-out-values
     mul-values-2
     shared-slice-copy-out-values-2
-    add-values
     mul-values-3
+    add-values
+    mul-values-4
     array-set-from-values
     add-j
     loop-less

@@ -6,6 +6,7 @@ use native.Mathlib.Omega.{arith}
 use lib.Dec.{lit<}
 use lib.IntN.{ℤ, pos}
 use Rattle.whole.specs.Order.{_⩽_, _⋖_, pos-le, pos-lt}
+use Rattle.exact.specs.Corrected.{steps}
 use Rattle.series.specs.Scatter.{threshold}
 use Rattle.series.proofs.Thresholds.{cap-is, dsg-greatest, greatest-only}
 use Rattle.series.proofs.sums.dsg.Statement.{statement}
@@ -13,7 +14,7 @@ use Rattle.series.proofs.sums.dsg.Tie as tie
 
 abbrev Inv-loop : tie.InvT-loop
 Inv-loop n q low₀ high₀ low high =
-    (low < high) × (high ≤ 10000) × (1 ≤ low → threshold 1 n low ⩽ pos q) × (pos q ⋖ threshold 1 n high)
+    (low < high) × (high ≤ 10000) × (1 ≤ low → threshold steps n low ⩽ pos q) × (pos q ⋖ threshold steps n high)
 
 abbrev μ-loop : tie.MeasureT-loop
 μ-loop n q low₀ high₀ low high = high - low
@@ -64,8 +65,8 @@ returns c =
     let n = c .before in
     let e : n .loop .high ≡ suc (n .loop .low) = omega arith in
     let a = n .before .args in
-    greatest-only 1 (a .n) (record { reached = n .loop .inv .2; next = subst (λ (k : ℕ). pos (a .q) ⋖ threshold 1 (a .n) k) e (n .loop .inv .3) })
-    (dsg-greatest 1 (a .n) (lit< tt) (n .before .pre .0) (pos (a .q)))
+    greatest-only steps (a .n) (record { reached = n .loop .inv .2; next = subst (λ (k : ℕ). pos (a .q) ⋖ threshold steps (a .n) k) e (n .loop .inv .3) })
+    (dsg-greatest steps (a .n) (lit< tt) (n .before .pre .0) (pos (a .q)))
 
 pub dsg-spec : {M : Type 1} → statement M
 dsg-spec =

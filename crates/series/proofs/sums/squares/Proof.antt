@@ -1,4 +1,4 @@
--- `series::sums::squares` meets its contract: after j turns q is the sum of the first j squares; a residual above 10^7 alone is beyond
+-- `series::sums::squares` meets its contract: after j turns q is the sum of the first j squares; a residual above 10^8 alone is beyond
 -- the least sum that is refused.
 -- Assumes nothing.
 use borrow.Author.Needs.{needs}
@@ -13,6 +13,7 @@ use Rattle.whole.specs.Square.{squared}
 use Rattle.whole.specs.Nearest.{nearest}
 use Rattle.whole.specs.Words.{Word, known, count as count-of, equal, back-of, bound, plain-is, bounds}
 use Rattle.exact.specs.Corrected.{at}
+use Rattle.series.specs.Fit.{valuesLimit}
 use Rattle.series.specs.Scatter.{residual, squares}
 use Rattle.limits.proofs.Lists.{within-limit}
 use Rattle.series.proofs.Fitting.{place-bound, total-bound, moment-bound, square-bound, span-bound}
@@ -22,7 +23,7 @@ use Rattle.series.proofs.sums.squares.Tie as tie
 
 abbrev Inv-loop : tie.InvT-loop
 Inv-loop values s t n cap q₀ j₀ q j =
-    (j ≤ n) × (q ≤ j * 10 ^ 14) × (pos q ≡ sum j (λ k. squared (residual n (at values) k)))
+    (j ≤ n) × (q ≤ j * 10 ^ 16) × (pos q ≡ sum j (λ k. squared (residual n (at values) k)))
 
 abbrev μ-loop : tie.MeasureT-loop
 μ-loop values s t n cap q₀ j₀ q j = n - j
@@ -36,7 +37,7 @@ most c = c .pre .0 .1
 
 -- what is known of a value, of the two sums, of n (n² - 1) and n² - 1, and of the place
 abbrev value-word : (c : tie.Start Inv-loop μ-loop) (j : ℕ) → Word (at (c .args .values .now) j)
-value-word c j = known (within-limit (2 * 10 ^ 12) (c .args .values .now) (c .pre .0 .2) j)
+value-word c j = known (within-limit valuesLimit (c .args .values .now) (c .pre .0 .2) j)
 
 abbrev s-word : (c : tie.Start Inv-loop μ-loop) → Word (c .args .s)
 s-word c = equal (c .pre .1 .0) (known (total-bound (c .args .values .now) (c .pre .0 .2) (count c) (most c)))

@@ -2,7 +2,7 @@
 -- Assumes nothing.
 use borrow.Author.Needs.{needs}
 use mathlib.Core.Path.{_≡_, refl, _∙_}
-use Prim.Native.Nat.{ℕ, _*_, _^_, _≤_, _-_}
+use Prim.Native.Nat.{ℕ, _*_, _≤_, _-_}
 use native.Mathlib.Nat.{le-antisymm, le-trans}
 use native.Mathlib.Numerals.{add-one}
 use lib.IntN.{_*ℤ_}
@@ -14,9 +14,9 @@ use Rattle.whole.specs.Sums.{sum-suc}
 use Rattle.whole.specs.Words.{Word, known, equal, back-of, fits, bound, plain-is, bounds}
 use Rattle.exact.specs.Corrected.{at}
 use Rattle.exact.specs.Weights.{place}
-use Rattle.series.specs.Fit.{total, moment}
+use Rattle.series.specs.Fit.{total, moment, valuesLimit}
 use Rattle.limits.proofs.Lists.{within-limit}
-use Rattle.series.proofs.Fitting.{place-bound, total-part, moment-part}
+use Rattle.series.proofs.Fitting.{place-bound, total-part, moment-part, moment-bound}
 use Rattle.series.proofs.sums.sums.Statement.{statement}
 use Rattle.series.proofs.sums.sums.Tie as tie
 
@@ -29,7 +29,7 @@ abbrev μ-loop : tie.MeasureT-loop
 
 -- what is known of a value, of the two sums so far and of the place
 abbrev value-word : (c : tie.Start Inv-loop μ-loop) (j : ℕ) → Word (at (c .args .values .now) j)
-value-word c j = known (within-limit (2 * 10 ^ 12) (c .args .values .now) (c .pre .1) j)
+value-word c j = known (within-limit valuesLimit (c .args .values .now) (c .pre .1) j)
 
 abbrev total-word : (c : tie.At-loop Inv-loop μ-loop) → Word (toZ w64 (c .loop .total))
 total-word c =
@@ -102,9 +102,11 @@ unfolding total moment
 returns c =
     let n = c .before in
     let s = total-word n in
-    let t = moment-word n in
+    let l = n .before .args .values .now in
     let e : n .loop .j ≡ length (n .before .args .values .now) = le-antisymm (n .loop .inv .0) (c .loop-test .left) in
-    ((rw e at (n .loop .inv .1), rw e at (n .loop .inv .2)), (bound (search bounds depth 9) tt, bound (search bounds depth 9) tt))
+    let m : toZ w64 (n .loop .moment) ≡ moment (length l) (at l) = rw e at (n .loop .inv .2) in
+    let t : Word (toZ w64 (n .loop .moment)) = equal m (known (moment-bound l (n .before .pre .1) (length l) (n .before .pre .0))) in
+    ((rw e at (n .loop .inv .1), m), (bound (search bounds depth 9) tt, bound (search bounds depth 9) tt))
 
 pub sums-spec : {M : Type 1} → statement M
 sums-spec =

@@ -3,8 +3,8 @@
 use borrow.Author.Needs.{needs}
 use mathlib.Core.Bool.{Bool, not}
 use mathlib.Core.Path.{ap, _∙_}
-use Prim.Native.Nat.{_*_, _^_}
 use Rattle.limits.specs.Lists.{listRule}
+use Rattle.series.specs.Fit.{valuesLimit}
 use Rattle.series.proofs.sums.values_refusal.Statement.{statement}
 use Rattle.series.proofs.sums.values_refusal.Tie as tie
 
@@ -17,7 +17,7 @@ list-refusal-requires c κs = search needs
 returns : tie.Need-returns
 returns c =
     c .list-refusal .ensures
-    ∙ ap (λ (b : Bool). listRule (not b) (2 * 10 ^ 12) (c .before .before .args .values .now)) (c .before .blocks-fit .ensures)
+    ∙ ap (λ (b : Bool). listRule (not b) valuesLimit (c .before .before .args .values .now)) (c .before .blocks-fit .ensures)
 
 pub values-refusal-spec : {M : Type 1} → statement M
 values-refusal-spec = tie.close (tie.spec blocks-fit-requires list-refusal-requires returns)
