@@ -6,7 +6,7 @@
 # make bench         the technician's cases and the published lines: what each gave and what it should be
 # make speed         the proved library beside the plain Rust implementation, on the same blocks and lines
 # make instructions  the instructions of both, part by part, with valgrind
-# make turns         a full block in another build of the library and in this one, in turns: make turns OTHER=folder/libtrackline.so.1
+# make turns         six kinds of block in another build of the library and in this one, in turns: make turns OTHER=folder/libtrackline.so.1
 # make fuzz          a bounded fuzz run over the C boundary, with clang: make fuzz SECONDS=120
 # make program       trackline, proved: target/bin/trackline
 # make programs      trackline and bench, proved: target/bin

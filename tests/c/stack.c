@@ -74,7 +74,7 @@ static struct measured {
     size_t most;  /* what trackline(3) says */
     size_t bytes; /* what it took; EDGE if it is no more than that */
 } MOST[] = {
-    {"trackline_block", call_block, 32000, 0}, {"trackline_line", call_line, 1000, 0}, {"trackline_start", call_start, 1000, 0},
+    {"trackline_block", call_block, 16000, 0}, {"trackline_line", call_line, 1000, 0}, {"trackline_start", call_start, 1000, 0},
     {"trackline_read", call_read, 1000, 0}, {"trackline_comment", call_comment, 1000, 0},
     {"trackline_merge", call_merge, 2000, 0}, {"trackline_view", call_view, 2000, 0}};
 

@@ -12,8 +12,9 @@ use lib.IntN.{ℤ, pos, natAbs}
 use lib.ListN.{length, getD, set, replicate, length-append, length-replicate, List·getD-append}
 use lib.Seq.{append-snoc, getD-append-add, set-at}
 use Rattle.whole.specs.Table.{tabulate}
-use Rattle.whole.specs.Tables.{tabulate-suc, tabulate-length, tabulate-getD, tabulate-cong}
+use Rattle.whole.specs.Tables.{tabulate-suc, tabulate-length, tabulate-getD}
 use Rattle.correcting.specs.Correct.{places}
+use Rattle.correcting.specs.Answer.{filled}
 
 pub places-length : (n : ℕ) (f : ℕ → ℤ) → n ≤ 52 → length (places n f) ≡ 52
 unfolding places
@@ -42,16 +43,11 @@ places-past n f j h =
     none (suc k) zero = refl
     none (suc k) (suc m) = none k m
 
--- functions that agree below n have the same places
-pub places-cong : (n : ℕ) (f g : ℕ → ℤ) → ((j : ℕ) → j < n → f j ≡ g j) → places n f ≡ places n g
-unfolding places
-places-cong n f g h = ap (λ (l : List ℤ). l ++ replicate (52 - n) (pos 0)) (tabulate-cong f g n h)
-
-pub fill-none : (f : ℕ → ℤ) → replicate 52 (pos 0) ≡ places 0 f
+fill-none : (f : ℕ → ℤ) → replicate 52 (pos 0) ≡ places 0 f
 unfolding places tabulate
 fill-none f = refl
 
-pub fill-more : (f : ℕ → ℤ) (l : List ℤ) (j : ℕ) {z : ℤ} → j < 52 → l ≡ places j f → z ≡ f j → set l j z ≡ places (j + 1) f
+fill-more : (f : ℕ → ℤ) (l : List ℤ) (j : ℕ) {z : ℤ} → j < 52 → l ≡ places j f → z ≡ f j → set l j z ≡ places (j + 1) f
 unfolding places
 fill-more f l j h so-far e =
     ap₂ (λ (k : List ℤ) (x : ℤ). set k j x) so-far e
@@ -65,6 +61,23 @@ fill-more f l j h so-far e =
 
     one-left : 52 - j ≡ suc (52 - (j + 1))
     one-left = omega arith
+
+-- ---- a row whose first places are set (specs/Answer.antt)
+
+pub filled-none : (f : ℕ → ℤ) (row : List ℤ) → row ≡ filled 0 f row
+unfolding filled
+filled-none f row = refl
+
+pub filled-more : (f : ℕ → ℤ) (row l : List ℤ) (j : ℕ) {z : ℤ} → l ≡ filled j f row → z ≡ f j → set l j z ≡ filled (j + 1) f row
+unfolding filled
+filled-more f row l j so-far e = ap₂ (λ (k : List ℤ) (x : ℤ). set k j x) so-far e ∙ ap (λ (k : ℕ). filled k f row) (sym (add-one j))
+
+-- a row of 52 that held 0 throughout has the places of a record
+pub filled-places : (n : ℕ) (f : ℕ → ℤ) → n ≤ 52 → filled n f (replicate 52 (pos 0)) ≡ places n f
+unfolding filled
+filled-places zero f h = fill-none f
+filled-places (suc n) f h =
+    fill-more f (filled n f (replicate 52 (pos 0))) n h (filled-places n f (omega arith)) refl ∙ ap (λ (k : ℕ). places k f) (add-one n)
 
 -- a bound on every value of f is one on every place
 pub places-bound : (f : ℕ → ℤ) (n b : ℕ) → ((j : ℕ) → natAbs (f j) ≤ b) → (j : ℕ) → natAbs (getD (places n f) j (pos 0)) ≤ b

@@ -1,11 +1,11 @@
 -- Laws of smoothing a part of the measurements (specs/Smooth.antt of series).
 -- Assumes nothing.
-use mathlib.Core.Path.{_≡_, ap, _∙_}
+use mathlib.Core.Path.{_≡_, ap, _∙_, subst}
 use mathlib.Core.Bool.{false}
 use mathlib.Core.List.{List}
 use Prim.Native.Nat.{ℕ, _+_, _^_, _≤_}
 use native.Mathlib.Omega.{arith}
-use lib.IntN.{ℤ, pos, _*ℤ_}
+use lib.IntN.{ℤ, pos, natAbs, _*ℤ_}
 use lib.ListN.{length, take, drop, length-drop}
 use lib.Seq.{length-take-le, getD-take, getD-drop}
 use Rattle.whole.specs.Nearest.{nearest}
@@ -16,7 +16,8 @@ use Rattle.exact.specs.Weights.{weights}
 use Rattle.limits.specs.Lists.{anyBeyond}
 use Rattle.series.specs.Answers.{smoothReply, smoothNumbered}
 use Rattle.series.specs.Smooth.{smoothed, smoothRule}
-use Rattle.limits.proofs.Lists.{list-passes, counts, any-drop, any-take}
+use Rattle.limits.proofs.Lists.{list-passes, counts, within-limit}
+use Rattle.series.proofs.Weights.{smoothed-bound}
 use Rattle.limits.proofs.Replies.{reply-accepted}
 use Rattle.series.proofs.Replies.{smooth-case}
 
@@ -31,11 +32,16 @@ module _ (m : List ℤ) (from : ℕ) (fits : from + 15 ≤ length m) where
       ap (λ (z : ℤ). nearest (pos steps *ℤ z) 1105)
       (sum-cong 15 (λ i h. ap (λ (z : ℤ). at weights i *ℤ z) (getD-take 15 (drop from m) i (pos 0) h ∙ getD-drop from m i (pos 0))))
 
-  -- within the limits, Smooth answers with it
-  pub part-value : anyBeyond (10 ^ 12) m ≡ false → (r : Smoothed) → smoothReply r ≡ smoothRule (take 15 (drop from m)) → smoothNumbered r
-      → r ≡ Smoothed.Value (smoothed (λ i. at m (from + i)))
-  unfolding smoothRule
-  part-value e r a n =
-      smooth-case r (smoothed (at (take 15 (drop from m))))
-      (a ∙ reply-accepted _ _ (list-passes _ _ _ _ (counts 15 (take 15 (drop from m)) part-length) (any-take _ _ 15 _ (any-drop _ _ from m e)))) n
-      ∙ ap Smoothed.Value part-smoothed
+  -- the part within its limits
+  module _ (e : anyBeyond (10 ^ 12) (take 15 (drop from m)) ≡ false) where
+    -- Smooth answers with it
+    pub part-value : (r : Smoothed) → smoothReply r ≡ smoothRule (take 15 (drop from m)) → smoothNumbered r
+        → r ≡ Smoothed.Value (smoothed (λ i. at m (from + i)))
+    unfolding smoothRule
+    part-value r a n =
+        smooth-case r (smoothed (at (take 15 (drop from m)))) (a ∙ reply-accepted _ _ (list-passes _ _ _ _ (counts 15 (take 15 (drop from m)) part-length) e)) n
+        ∙ ap Smoothed.Value part-smoothed
+
+    -- and it is as large as measurements within their limits allow
+    pub part-bound : natAbs (smoothed (λ i. at m (from + i))) ≤ 13294117647059
+    part-bound = subst (λ (z : ℤ). natAbs z ≤ 13294117647059) part-smoothed (smoothed-bound (at (take 15 (drop from m))) (λ i. within-limit (10 ^ 12) (take 15 (drop from m)) e i))

@@ -10,7 +10,7 @@ use Rattle.exact.specs.Corrected.{Given, at, block, toA, toB, steps}
 use Rattle.limits.proofs.Lists.{within-limit}
 use Rattle.series.proofs.Weights.{smoothed-bound}
 use Rattle.correcting.specs.Correct.{smoothedAt, valueA, valueB, valueC, valueD, outOfLimits}
-use Rattle.correcting.proofs.Refusals.{limited}
+use Rattle.correcting.proofs.Refusals.{limited, others}
 
 -- The smoothed value of a block, and its four corrected values, in tenths, with measurements within 10^12 ps, geometry within 2 × 10^11 ps and all else
 -- within 10^10 ps. Smoothing magnifies by at most 1469 / 1105, and all else is added or taken off. (That some track reaches each bound is not proved here.)
@@ -23,7 +23,7 @@ module _ (g : Given) (e : outOfLimits g ≡ false) (j : ℕ) where
   pub a-within : natAbs (valueA g j) ≤ 15994117647059
   unfolding valueA toA
   a-within =
-      let l = limited g e in
+      let l = others g (limited g e .in-others) in
       let y : Word (smoothedAt g j) = known smoothed-within in
       let int : Word (g .int) = known (l .in-int) in
       let cab : Word (g .cab) = known (l .in-cab) in
@@ -39,17 +39,17 @@ module _ (g : Given) (e : outOfLimits g ≡ false) (j : ℕ) where
   unfolding valueA valueB toB
   b-within =
       let a : Word (valueA g j) = known a-within in
-      let clock : Word (at (g .clock) j) = known (within-limit (10 ^ 10) _ (limited g e .in-clock) j) in
+      let clock : Word (at (g .clock) j) = known (within-limit (10 ^ 10) _ (others g (limited g e .in-others) .in-clock) j) in
       let w : Within 16094117647059 (valueB g j) = bound (search bounds depth 12) tt in w .within
 
   pub c-within : natAbs (valueC g j) ≤ steps * 10 ^ 10
   unfolding valueC
   c-within =
-      let tro : Word (at (g .troposphere) j) = known (within-limit (10 ^ 10) _ (limited g e .in-troposphere) j) in
+      let tro : Word (at (g .troposphere) j) = known (within-limit (10 ^ 10) _ (others g (limited g e .in-others) .in-troposphere) j) in
       let w : Within (steps * 10 ^ 10) (valueC g j) = bound (search bounds depth 12) tt in w .within
 
   pub d-within : natAbs (valueD g j) ≤ steps * 10 ^ 10
   unfolding valueD
   d-within =
-      let ion : Word (at (g .ionosphere) j) = known (within-limit (10 ^ 10) _ (limited g e .in-ionosphere) j) in
+      let ion : Word (at (g .ionosphere) j) = known (within-limit (10 ^ 10) _ (others g (limited g e .in-others) .in-ionosphere) j) in
       let w : Within (steps * 10 ^ 10) (valueD g j) = bound (search bounds depth 12) tt in w .within

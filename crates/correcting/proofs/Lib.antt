@@ -1,5 +1,6 @@
 pub mod Arrays
 pub mod Blocks
+pub mod Columns
+pub mod Parts
 pub mod Refusals
-pub mod Values
 pub mod Largest

@@ -1,9 +1,10 @@
 -- The refusals 1 and 2 (specs/Correct.antt): what it tells that a track's lists and numbers are not refused, and what the rule gives where they are
 -- and where they are not.
 -- Assumes nothing.
-use mathlib.Core.Path.{_≡_, refl, ap}
-use mathlib.Core.Bool.{true, false, not, _||_}
-use Prim.Native.Nat.{ℕ, zero, suc, _*_, _^_, _≤_}
+use mathlib.Core.Path.{_≡_, refl, sym, ap, _∙_}
+use mathlib.Core.Bool.{Bool, true, false, not, _||_}
+use Prim.Native.Nat.{ℕ, zero, suc, _*_, _/_, _^_, _≤_, _<_}
+use native.Mathlib.Omega.{arith}
 use lib.IntN.{natAbs}
 use lib.ListN.{length}
 use Rattle.limits.specs.Blocks.{blocksFit}
@@ -15,7 +16,9 @@ use Rattle.limits.proofs.Laws.{then-zero, when-zero, or-false, magnitude-within
 use Rattle.limits.proofs.Lists.{counted}
 use Rattle.exact.specs.Corrected.{Given}
 use Rattle.correcting.specs.Correct.{blocks, wrongSizes, outOfLimits}
-use Rattle.correcting.specs.Answer.{correctNumber, refusedBy, corrected, correctRule}
+use Rattle.limits.proofs.Scans.{none-outside}
+use Rattle.correcting.specs.declared.Corrected.{Corrected}
+use Rattle.correcting.specs.Answer.{correctNumber, correctedNumber, corrected, othersBeyond, wholeBlocks, blocksRule, correctedBlocks, correctRule}
 
 -- ---- what it tells that a track's lists and numbers are not refused
 
@@ -50,8 +53,8 @@ sized g e =
       size-clock = counted n (g .clock) (four .1);
     }
 
-pub record Limited (g : Given) : Type 0 where
-  pub in-measurements : anyBeyond (10 ^ 12) (g .measurements) ≡ false
+-- all but the measurements
+pub record Others (g : Given) : Type 0 where
   pub in-geometry : anyBeyond (2 * 10 ^ 11) (g .geometry) ≡ false
   pub in-relativity : anyBeyond (10 ^ 10) (g .relativity) ≡ false
   pub in-ionosphere : anyBeyond (10 ^ 10) (g .ionosphere) ≡ false
@@ -62,10 +65,9 @@ pub record Limited (g : Given) : Type 0 where
   pub in-refdly : natAbs (g .refdly) ≤ 10 ^ 10
   pub in-gd : natAbs (g .gd) ≤ 10 ^ 10
 
-pub limited : (g : Given) → outOfLimits g ≡ false → Limited g
-unfolding outOfLimits
-limited g e =
-    let M = anyBeyond (10 ^ 12) (g .measurements) in
+pub others : (g : Given) → othersBeyond g ≡ false → Others g
+unfolding othersBeyond
+others g e =
     let G = anyBeyond (2 * 10 ^ 11) (g .geometry) in
     let R = anyBeyond (10 ^ 10) (g .relativity) in
     let I = anyBeyond (10 ^ 10) (g .ionosphere) in
@@ -75,9 +77,8 @@ limited g e =
     let B = beyond (10 ^ 10) (g .cab) in
     let D = beyond (10 ^ 10) (g .refdly) in
     let E = beyond (10 ^ 10) (g .gd) in
-    let all = or-false (M || (G || R || I || T || C)) (A || B || D || E) e in
-    let lists = or-false M (G || R || I || T || C) (all .0) in
-    let four = or-false (G || R || I || T) C (lists .1) in
+    let all = or-false (G || R || I || T || C) (A || B || D || E) e in
+    let four = or-false (G || R || I || T) C (all .0) in
     let three = or-false (G || R || I) T (four .0) in
     let two = or-false (G || R) I (three .0) in
     let one = or-false G R (two .0) in
@@ -85,7 +86,6 @@ limited g e =
     let pair = or-false (A || B) D (delays .0) in
     let both = or-false A B (pair .0) in
     record {
-      in-measurements = lists .0;
       in-geometry = one .0;
       in-relativity = one .1;
       in-ionosphere = two .1;
@@ -97,37 +97,99 @@ limited g e =
       in-gd = magnitude-within (10 ^ 10) (g .gd) (delays .1);
     }
 
+or-assoc : (a b c : Bool) → a || b || c ≡ a || (b || c)
+or-assoc true b c = refl
+or-assoc false b c = refl
+
+-- 2 is told by the measurements and by all else
+pub limits-parts : (g : Given) → outOfLimits g ≡ anyBeyond (10 ^ 12) (g .measurements) || othersBeyond g
+unfolding outOfLimits othersBeyond
+limits-parts g =
+    or-assoc (anyBeyond (10 ^ 12) (g .measurements))
+    (anyBeyond (2 * 10 ^ 11) (g .geometry) || anyBeyond (10 ^ 10) (g .relativity) || anyBeyond (10 ^ 10) (g .ionosphere)
+    || anyBeyond (10 ^ 10) (g .troposphere) || anyBeyond (10 ^ 10) (g .clock))
+    (beyond (10 ^ 10) (g .int) || beyond (10 ^ 10) (g .cab) || beyond (10 ^ 10) (g .refdly) || beyond (10 ^ 10) (g .gd))
+
+pub record Limited (g : Given) : Type 0 where
+  pub in-measurements : anyBeyond (10 ^ 12) (g .measurements) ≡ false
+  pub in-others : othersBeyond g ≡ false
+
+pub limited : (g : Given) → outOfLimits g ≡ false → Limited g
+limited g e =
+    let both = or-false (anyBeyond (10 ^ 12) (g .measurements)) (othersBeyond g) (sym (limits-parts g) ∙ e) in
+    record { in-measurements = both .0; in-others = both .1 }
+
 -- ---- the rule where one of them is refused
 
-pub sizes-refused : (g : Given) → wrongSizes g ≡ true → correctRule g ≡ refusedBy 1
-unfolding correctRule correctNumber corrected _when_ _then_
-sizes-refused g e = rw e
+-- what is answered, and how many blocks have their values in the rows
+abbrev pub Answered : Given → Corrected → ℕ → Type 0
+Answered g r k = (r ≡ correctRule g) × (correctedBlocks g ≡ k)
 
-pub limits-refused : (g : Given) → wrongSizes g ≡ false → outOfLimits g ≡ true → correctRule g ≡ refusedBy 2
-unfolding correctRule correctNumber corrected _when_ _then_
-limits-refused g e h = rw (e, h)
+pub sizes-refused : (g : Given) → wrongSizes g ≡ true → Answered g (Corrected.Refused 1 0) 0
+unfolding correctRule corrected correctNumber correctedBlocks _when_ _then_
+sizes-refused g e = (rw e, rw e)
 
--- and where they are not
-pub inputs-passed : (g : Given) → wrongSizes g ≡ false → outOfLimits g ≡ false → correctRule g ≡ corrected 0 g
-unfolding correctRule correctNumber _when_ _then_
-inputs-passed g e h = rw (e, h)
+pub others-refused : (g : Given) → wrongSizes g ≡ false → othersBeyond g ≡ true → Answered g (Corrected.Refused 2 0) 0
+unfolding correctRule corrected correctNumber correctedBlocks _when_ _then_
+others-refused g e h = (rw (limits-parts g, e, h, or-true (anyBeyond (10 ^ 12) (g .measurements))), rw (e, h))
+  where
+    or-true : (b : Bool) → b || true ≡ true
+    or-true true = refl
+    or-true false = refl
+
+-- and where all but the measurements has passed
+pub by-measurements : (g : Given) → wrongSizes g ≡ false → othersBeyond g ≡ false → Answered g (blocksRule (g .measurements)) (wholeBlocks (g .measurements))
+unfolding correctRule correctNumber correctedBlocks blocksRule _when_ _then_
+by-measurements g e h = (rw (limits-parts g, e, h, or-none (anyBeyond (10 ^ 12) (g .measurements))), rw (e, h))
+  where
+    or-none : (b : Bool) → b || false ≡ b
+    or-none true = refl
+    or-none false = refl
+
+-- ---- what the case of an answer tells
+
+module _ (g : Given) {r : Corrected} (e : r ≡ correctRule g) where
+  refused-by : (k m : ℕ) → r ≡ corrected k m → {number read : ℕ} → r ≡ Corrected.Refused number read → (number ≡ k) × (0 < number)
+  unfolding corrected
+  refused-by zero m a {number} {read} f = absurd (differ (sym f ∙ a))
+    where
+      differ : Corrected.Refused number read ≡ Corrected.Values m → ⊥
+      differ d = let z : _≡_ {A = ℕ} 0 1 = cc in omega arith
+  refused-by (suc k) m a {number} {read} f = let z : number ≡ suc k = cc in (z, omega (arith, z))
+
+  pub corrected-refused : {number read : ℕ} → r ≡ Corrected.Refused number read → (number ≡ correctNumber g) × (0 < number)
+  unfolding correctRule
+  corrected-refused f = refused-by (correctNumber g) _ e f
+
+  values-by : (k m : ℕ) → r ≡ corrected k m → {read : ℕ} → r ≡ Corrected.Values read → k ≡ 0
+  unfolding corrected
+  values-by zero m a f = refl
+  values-by (suc k) m a {read} f = absurd (differ (sym f ∙ a))
+    where
+      differ : Corrected.Values read ≡ Corrected.Refused (suc k) m → ⊥
+      differ d = let z : _≡_ {A = ℕ} 0 1 = cc in omega arith
+
+  pub corrected-values : {read : ℕ} → r ≡ Corrected.Values read → correctNumber g ≡ 0
+  unfolding correctRule
+  corrected-values f = values-by (correctNumber g) _ e f
 
 -- ---- what the number of an answer tells
 
-answered : (number : ℕ) (g : Given) → corrected number g .refusal ≡ number
-unfolding corrected refusedBy
-answered zero g = refl
-answered (suc number) g = refl
-
-pub number-answered : (g : Given) → correctRule g .refusal ≡ correctNumber g
-unfolding correctRule
-number-answered g = answered (correctNumber g) g
-
--- 0: the sizes are right, and the values are the corrected ones
+-- 0: the sizes are right, the numbers are inside, and every block has its values in the rows
 pub sizes-passed : (g : Given) → correctNumber g ≡ 0 → wrongSizes g ≡ false
 unfolding correctNumber
 sizes-passed g e = when-zero 0 (wrongSizes g) (then-zero (1 when wrongSizes g) _ e .0)
 
-pub values-passed : (g : Given) → correctNumber g ≡ 0 → correctRule g ≡ corrected 0 g
-unfolding correctRule
-values-passed g e = ap (λ (k : ℕ). corrected k g) e
+pub limits-passed : (g : Given) → correctNumber g ≡ 0 → outOfLimits g ≡ false
+unfolding correctNumber
+limits-passed g e = when-zero 1 (outOfLimits g) (then-zero (1 when wrongSizes g) _ e .1)
+
+pub all-corrected : (g : Given) → correctNumber g ≡ 0 → correctedBlocks g ≡ blocks g
+unfolding correctedBlocks wholeBlocks
+all-corrected g e =
+    let s = sizes-passed g e in
+    let l = limited g (limits-passed g e) in
+    rw (s, l .in-others) (ap (λ (m : ℕ). m / 15) (none-outside _ _ (g .measurements) (l .in-measurements) ∙ sized g s .size-measurements) ∙ whole (blocks g))
+  where
+    whole : (n : ℕ) → 15 * n / 15 ≡ n
+    whole n = omega arith

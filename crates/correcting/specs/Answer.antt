@@ -1,42 +1,70 @@
--- What `correcting` answers to whoever judges the corrected values: the number of the refusal beside the values. Track's own rule does not name it.
+-- What `correcting` answers to whoever judges the corrected values: the number of the refusal, how far the limit test on the measurements reads
+-- (document 02, Job 4), and what the lent rows hold afterwards. Track's own rule does not name it.
 -- Assumes nothing.
-use Prim.Native.Nat.{ℕ, zero, suc}
-use lib.IntN.{pos}
-use lib.ListN.{replicate}
+use Prim.Native.Nat.{ℕ, zero, suc, _*_, _/_, _^_}
+use mathlib.Core.Bool.{Bool, cond, _||_}
+use mathlib.Core.List.{List}
+use lib.IntN.{ℤ, pos, negℤ}
+use lib.ListN.{set}
 use Rattle.limits.specs.Refusal.{_when_, _then_}
+use Rattle.limits.specs.Limits.{beyond}
+use Rattle.limits.specs.Lists.{anyBeyond}
+use Rattle.limits.specs.Scan.{firstOutside, readTo}
 use Rattle.exact.specs.Corrected.{Given}
 use Rattle.correcting.specs.declared.Corrected.{Corrected}
-use Rattle.correcting.specs.Correct.{blocks, valueA, valueB, valueC, valueD, places, wrongSizes, outOfLimits}
+use Rattle.correcting.specs.Correct.{wrongSizes, outOfLimits}
 
 -- 1 or 2, the first of them that holds, 0 where none does.
 unfoldable pub correctNumber : Given → ℕ
 correctNumber g = 1 when wrongSizes g then 2 when outOfLimits g
 
--- A refusal: its number, and 0 throughout.
-unfoldable pub refusedBy : ℕ → Corrected
-refusedBy number =
-    record {
-      refusal = number;
-      blocks = 0;
-      a = replicate 52 (pos 0);
-      b = replicate 52 (pos 0);
-      c = replicate 52 (pos 0);
-      d = replicate 52 (pos 0);
-    }
+-- The number of each case, 0 where there is none, and the case of a number.
+abbrev pub correctedNumber : Corrected → ℕ
+correctedNumber (Corrected.Values read) = 0
+correctedNumber (Corrected.Refused number read) = number
 
--- The number with the blocks and the corrected values of each kind, all 0 where the track is refused.
-unfoldable pub corrected : ℕ → Given → Corrected
-corrected zero g =
-    let n = blocks g in
-    record {
-      refusal = 0;
-      blocks = n;
-      a = places n (valueA g);
-      b = places n (valueB g);
-      c = places n (valueC g);
-      d = places n (valueD g);
-    }
-corrected (suc number) g = refusedBy (suc number)
+unfoldable pub corrected : (number read : ℕ) → Corrected
+corrected zero read = Corrected.Values read
+corrected (suc number) read = Corrected.Refused (suc number) read
+
+-- A correction or a delay is outside its limits: what 2 says of all but the measurements.
+unfoldable pub othersBeyond : Given → Bool
+othersBeyond g =
+    (anyBeyond (2 * 10 ^ 11) (g .geometry) || anyBeyond (10 ^ 10) (g .relativity) || anyBeyond (10 ^ 10) (g .ionosphere)
+    || anyBeyond (10 ^ 10) (g .troposphere) || anyBeyond (10 ^ 10) (g .clock))
+    || (beyond (10 ^ 10) (g .int) || beyond (10 ^ 10) (g .cab) || beyond (10 ^ 10) (g .refdly) || beyond (10 ^ 10) (g .gd))
+
+-- The sizes are wrong, or a correction or a delay is outside: refused before any measurement is read.
+abbrev pub refusedBefore : Given → Bool
+refusedBefore g = wrongSizes g || othersBeyond g
+
+-- The limits of a measurement.
+abbrev pub least : ℤ
+least = negℤ (pos (10 ^ 12))
+
+abbrev pub most : ℤ
+most = pos (10 ^ 12)
+
+-- How many blocks of fifteen there are before the one with the first measurement outside ±10^12, or in all.
+unfoldable pub wholeBlocks : List ℤ → ℕ
+wholeBlocks measurements = firstOutside least most measurements / 15
+
+-- The answer where the sizes are right and all but the measurements is inside its limits: the measurements are read up to and with the first one
+-- outside, or all of them.
+unfoldable pub blocksRule : List ℤ → Corrected
+blocksRule measurements =
+    corrected (2 when anyBeyond (10 ^ 12) measurements) (readTo least most measurements)
+
+-- How many blocks have their values in the lent rows, and how many measurements are read: none where it is refused before.
+unfoldable pub correctedBlocks : Given → ℕ
+correctedBlocks g = cond (refusedBefore g) 0 (wholeBlocks (g .measurements))
 
 unfoldable pub correctRule : Given → Corrected
-correctRule g = corrected (correctNumber g) g
+correctRule g =
+    corrected (correctNumber g)
+    (cond (refusedBefore g) 0 (readTo least most (g .measurements)))
+
+-- A row whose first n places are set, and whose others keep what they hold.
+unfoldable pub filled : (n : ℕ) (value : ℕ → ℤ) (row : List ℤ) → List ℤ
+filled zero value row = row
+filled (suc n) value row = set (filled n value row) n (value n)

@@ -1,18 +1,21 @@
 // The smoothed and the corrected values of a track, in tenths of a picosecond.
+use super::Corrected;
+use limits::scan;
 use series::Smoothed;
 use series::smooth;
 ghost use mathlib.Core.Path.{_≡_};
 ghost use mathlib.Core.Bool.{false};
-ghost use Prim.Native.Nat.{ℕ, _+_, _*_, _^_, _≤_};
-ghost use lib.IntN.{pos, _+ℤ_, _-ℤ_, _*ℤ_};
-ghost use lib.ListN.{length};
-ghost use Rattle.whole.specs.Words.{Within};
-ghost use Rattle.exact.specs.Corrected.{at, steps};
-ghost use Rattle.limits.specs.Lists.{anyBeyond};
-ghost use Rattle.series.specs.Answers.{smoothReply};
+ghost use mathlib.Core.List.{[], _∷_};
+ghost use Prim.Native.Nat.{_*_, _^_, _<_};
+ghost use lib.IntN.{pos, _*ℤ_};
+ghost use lib.ListN.{length, set};
 ghost use Rattle.series.specs.Fit.{valuesLimit};
-ghost use Rattle.series.specs.Smooth.{smoothed};
-ghost use Rattle.correcting.specs.Correct.{places};
+ghost use Rattle.whole.specs.Words.{Within};
+ghost use Rattle.limits.specs.Lists.{anyBeyond};
+ghost use Rattle.exact.specs.Corrected.{at, steps, toA, toB};
+ghost use Rattle.series.specs.Answers.{smoothReply};
+ghost use Rattle.correcting.specs.Correct.{given, valueA, valueB, valueC, valueD, wrongSizes};
+ghost use Rattle.correcting.specs.Answer.{othersBeyond, filled, wholeBlocks, blocksRule};
 
 // The number of Smooth's answer: that of the refusal, 0 where there is none.
 fn smoothed_number(answer: Smoothed) -> u32
@@ -24,126 +27,184 @@ fn smoothed_number(answer: Smoothed) -> u32
     }
 }
 
-// The smoothed values of n blocks in tenths, with 0 in the places past them, or the number of a refusal.
-pub struct Blocks {
-    pub refusal: u32,
-    pub values: [i64; 52],
+// The corrected values of one block.
+pub struct Values {
+    pub a: i64,
+    pub b: i64,
+    pub c: i64,
+    pub d: i64,
 }
 
-pub fn smooth_blocks(measurements: &[i64], n: usize) -> Blocks
-    requires { ⌜ (n ≤ 52) × (length (now measurements) ≡ 15 * n) × (anyBeyond (10 ^ 12) (now measurements) ≡ false) ⌝ }
-    ensures { λ r. ⌜ (r .refusal ≡ 0)
-        × (r .values ≡ places n (λ j. smoothed (λ i. at (now (measurements .entry)) (15 * j + i)))) ⌝ }
-{
-    let mut values = [0i64; 52];
-    let mut j = 0;
-    while j < n {
-        let from = 15 * j;
-        let to = from + 15;
-        let answer = smooth(&measurements[from..to]);
-        let Smoothed::Value(value) = answer else {
-            let refusal = smoothed_number(answer);
-            return Blocks { refusal, values };
-        };
-        values[j] = value;
-        j += 1;
-    }
-    Blocks { refusal: 0, values }
-}
-
-// The delay INT + CAB - REF: REF is added back.
-pub fn delay(int: i64, cab: i64, refdly: i64) -> i64
-    requires { ⌜ Within (10 ^ 10) int × Within (10 ^ 10) cab × Within (10 ^ 10) refdly ⌝ }
-    ensures { λ r. ⌜ r ≡ int +ℤ cab -ℤ refdly ⌝ }
-{
-    int + cab + (0 - refdly)
-}
-
-// A of document 01 at one block: smoothed in tenths, the corrections in picoseconds.
+// A, B, C and D of document 01 at one block: smoothed in tenths, the corrections in picoseconds.
 fn corrected(
     smoothed: i64,
-    delay: i64,
+    int: i64,
+    cab: i64,
+    refdly: i64,
+    gd: i64,
     geometry: i64,
     relativity: i64,
     ionosphere: i64,
     troposphere: i64,
-    gd: i64,
-) -> i64
-    requires { ⌜ Within valuesLimit smoothed × Within (3 * 10 ^ 10) delay × Within (10 ^ 10) gd ⌝ }
+    clock: i64,
+) -> Values
+    requires { ⌜ Within valuesLimit smoothed × Within (10 ^ 10) int × Within (10 ^ 10) cab × Within (10 ^ 10) refdly × Within (10 ^ 10) gd ⌝ }
     requires { ⌜ Within (2 * 10 ^ 11) geometry × Within (10 ^ 10) relativity
-        × Within (10 ^ 10) ionosphere × Within (10 ^ 10) troposphere ⌝ }
-    ensures { λ r. ⌜ r ≡ smoothed -ℤ pos steps *ℤ delay -ℤ pos steps *ℤ geometry +ℤ pos steps *ℤ relativity -ℤ pos steps *ℤ ionosphere
-        -ℤ pos steps *ℤ troposphere -ℤ pos steps *ℤ gd ⌝ }
+        × Within (10 ^ 10) ionosphere × Within (10 ^ 10) troposphere × Within (10 ^ 10) clock ⌝ }
+    ensures { λ r. ⌜ (r .a ≡ toA (given [] int cab refdly gd
+        (geometry ∷ []) (relativity ∷ []) (ionosphere ∷ []) (troposphere ∷ []) (clock ∷ [])) (pos steps) 0 smoothed)
+        × (r .b ≡ toB (given [] int cab refdly gd
+        (geometry ∷ []) (relativity ∷ []) (ionosphere ∷ []) (troposphere ∷ []) (clock ∷ [])) (pos steps) 0 smoothed)
+        × (r .c ≡ pos steps *ℤ troposphere) × (r .d ≡ pos steps *ℤ ionosphere) ⌝ }
 {
-    smoothed - 10 * (delay + geometry - relativity + ionosphere + troposphere + gd)
+    let a = smoothed
+        - 10 * (int + cab + (0 - refdly) + gd + geometry - relativity + ionosphere + troposphere);
+    Values {
+        a,
+        b: a + 10 * clock,
+        c: 10 * troposphere,
+        d: 10 * ionosphere,
+    }
 }
 
-// A at each block, as many as there are in the columns.
-pub fn a_values(
-    smoothed: &[i64],
-    delay: i64,
+// Those of block j, from its smoothed value.
+fn corrected_at(
+    smoothed: i64,
+    j: usize,
+    int: i64,
+    cab: i64,
+    refdly: i64,
+    gd: i64,
     geometry: &[i64],
     relativity: &[i64],
     ionosphere: &[i64],
     troposphere: &[i64],
+    clock: &[i64],
+) -> Values
+    requires { ⌜ Within valuesLimit smoothed × Within (10 ^ 10) int × Within (10 ^ 10) cab × Within (10 ^ 10) refdly × Within (10 ^ 10) gd ⌝ }
+    requires { ⌜ (j < length (now geometry)) × (anyBeyond (2 * 10 ^ 11) (now geometry) ≡ false) ⌝ }
+    requires { ⌜ (j < length (now relativity)) × (anyBeyond (10 ^ 10) (now relativity) ≡ false) ⌝ }
+    requires { ⌜ (j < length (now ionosphere)) × (anyBeyond (10 ^ 10) (now ionosphere) ≡ false) ⌝ }
+    requires { ⌜ (j < length (now troposphere)) × (anyBeyond (10 ^ 10) (now troposphere) ≡ false) ⌝ }
+    requires { ⌜ (j < length (now clock)) × (anyBeyond (10 ^ 10) (now clock) ≡ false) ⌝ }
+    ensures { λ r. ⌜ (r .a ≡ toA (given [] int cab refdly gd
+        (now (geometry .entry)) (now (relativity .entry)) (now (ionosphere .entry)) (now (troposphere .entry)) (now (clock .entry))) (pos steps) j smoothed)
+        × (r .b ≡ toB (given [] int cab refdly gd
+        (now (geometry .entry)) (now (relativity .entry)) (now (ionosphere .entry)) (now (troposphere .entry)) (now (clock .entry))) (pos steps) j smoothed)
+        × (r .c ≡ pos steps *ℤ at (now (troposphere .entry)) j) × (r .d ≡ pos steps *ℤ at (now (ionosphere .entry)) j) ⌝ }
+{
+    corrected(
+        smoothed,
+        int,
+        cab,
+        refdly,
+        gd,
+        geometry[j],
+        relativity[j],
+        ionosphere[j],
+        troposphere[j],
+        clock[j],
+    )
+}
+
+// Puts a block's values into place j of each row.
+fn put(
+    values: Values,
+    j: usize,
+    a: &mut [i64; 52],
+    b: &mut [i64; 52],
+    c: &mut [i64; 52],
+    d: &mut [i64; 52],
+)
+    requires { ⌜ j < 52 ⌝ }
+    ensures { λ _. ⌜ now (a .exit) ≡ set (now (a .entry)) j (values .a) ⌝ }
+    ensures { λ _. ⌜ now (b .exit) ≡ set (now (b .entry)) j (values .b) ⌝ }
+    ensures { λ _. ⌜ now (c .exit) ≡ set (now (c .entry)) j (values .c) ⌝ }
+    ensures { λ _. ⌜ now (d .exit) ≡ set (now (d .entry)) j (values .d) ⌝ }
+{
+    let value_a = values.a;
+    let value_b = values.b;
+    let value_c = values.c;
+    let value_d = values.d;
+    a[j] = value_a;
+    b[j] = value_b;
+    c[j] = value_c;
+    d[j] = value_d;
+}
+
+// The corrected values of the blocks, each put into its place of the four rows that are lent, block by block up to and without the first that
+// has a measurement outside ±10^12: 2 where there is one. The columns and the delays are inside their limits. It counts the measurements
+// that its limit test reads.
+pub fn correct_blocks(
+    measurements: &[i64],
+    int: i64,
+    cab: i64,
+    refdly: i64,
     gd: i64,
-) -> [i64; 52]
-    requires { ⌜ (length (now smoothed) ≡ 52) × ((j : ℕ) → Within valuesLimit (at (now smoothed) j)) ⌝ }
-    requires { ⌜ Within (3 * 10 ^ 10) delay × Within (10 ^ 10) gd ⌝ }
-    requires { ⌜ (length (now geometry) ≤ 52) × (anyBeyond (2 * 10 ^ 11) (now geometry) ≡ false) ⌝ }
-    requires { ⌜ (length (now relativity) ≡ length (now geometry)) × (anyBeyond (10 ^ 10) (now relativity) ≡ false) ⌝ }
-    requires { ⌜ (length (now ionosphere) ≡ length (now geometry)) × (anyBeyond (10 ^ 10) (now ionosphere) ≡ false) ⌝ }
-    requires { ⌜ (length (now troposphere) ≡ length (now geometry)) × (anyBeyond (10 ^ 10) (now troposphere) ≡ false) ⌝ }
-    ensures { λ r. ⌜ r ≡ places (length (now (geometry .entry))) (λ j.
-        at (now (smoothed .entry)) j -ℤ pos steps *ℤ delay -ℤ pos steps *ℤ at (now (geometry .entry)) j
-        +ℤ pos steps *ℤ at (now (relativity .entry)) j -ℤ pos steps *ℤ at (now (ionosphere .entry)) j
-        -ℤ pos steps *ℤ at (now (troposphere .entry)) j -ℤ pos steps *ℤ gd) ⌝ }
+    geometry: &[i64],
+    relativity: &[i64],
+    ionosphere: &[i64],
+    troposphere: &[i64],
+    clock: &[i64],
+    a: &mut [i64; 52],
+    b: &mut [i64; 52],
+    c: &mut [i64; 52],
+    d: &mut [i64; 52],
+) -> Corrected
+    requires { ⌜ wrongSizes (given (now measurements) int cab refdly gd
+        (now geometry) (now relativity) (now ionosphere) (now troposphere) (now clock)) ≡ false ⌝ }
+    requires { ⌜ othersBeyond (given (now measurements) int cab refdly gd
+        (now geometry) (now relativity) (now ionosphere) (now troposphere) (now clock)) ≡ false ⌝ }
+    ensures { λ r. ⌜ r ≡ blocksRule (now (measurements .entry)) ⌝ }
+    ensures { λ _. ⌜ now (a .exit) ≡ filled (wholeBlocks (now (measurements .entry))) (valueA (given (now (measurements .entry)) int cab refdly gd
+        (now (geometry .entry)) (now (relativity .entry)) (now (ionosphere .entry)) (now (troposphere .entry))
+        (now (clock .entry)))) (now (a .entry)) ⌝ }
+    ensures { λ _. ⌜ now (b .exit) ≡ filled (wholeBlocks (now (measurements .entry))) (valueB (given (now (measurements .entry)) int cab refdly gd
+        (now (geometry .entry)) (now (relativity .entry)) (now (ionosphere .entry)) (now (troposphere .entry))
+        (now (clock .entry)))) (now (b .entry)) ⌝ }
+    ensures { λ _. ⌜ now (c .exit) ≡ filled (wholeBlocks (now (measurements .entry))) (valueC (given (now (measurements .entry)) int cab refdly gd
+        (now (geometry .entry)) (now (relativity .entry)) (now (ionosphere .entry)) (now (troposphere .entry))
+        (now (clock .entry)))) (now (c .entry)) ⌝ }
+    ensures { λ _. ⌜ now (d .exit) ≡ filled (wholeBlocks (now (measurements .entry))) (valueD (given (now (measurements .entry)) int cab refdly gd
+        (now (geometry .entry)) (now (relativity .entry)) (now (ionosphere .entry)) (now (troposphere .entry))
+        (now (clock .entry)))) (now (d .entry)) ⌝ }
 {
     let n = geometry.len();
-    let mut values = [0i64; 52];
+    let mut read = 0;
     let mut j = 0;
     while j < n {
-        values[j] = corrected(
-            smoothed[j],
-            delay,
-            geometry[j],
-            relativity[j],
-            ionosphere[j],
-            troposphere[j],
-            gd,
+        let from = 15 * j;
+        let to = from + 15;
+        let seen = scan(
+            &measurements[from..to],
+            -1_000_000_000_000,
+            1_000_000_000_000,
         );
+        read += seen.read;
+        if seen.outside {
+            return Corrected::Refused { number: 2, read };
+        }
+        let answer = smooth(&measurements[from..to]);
+        let Smoothed::Value(value) = answer else {
+            // Never taken: the scan has found all fifteen inside.
+            let number = smoothed_number(answer);
+            return Corrected::Refused { number, read };
+        };
+        let values = corrected_at(
+            value,
+            j,
+            int,
+            cab,
+            refdly,
+            gd,
+            geometry,
+            relativity,
+            ionosphere,
+            troposphere,
+            clock,
+        );
+        put(values, j, a, b, c, d);
         j += 1;
     }
-    values
-}
-
-// B at each block: A and the satellite clock.
-pub fn b_values(a: &[i64], clock: &[i64]) -> [i64; 52]
-    requires { ⌜ (length (now a) ≡ 52) × ((j : ℕ) → Within valuesLimit (at (now a) j)) ⌝ }
-    requires { ⌜ (length (now clock) ≤ 52) × (anyBeyond (10 ^ 10) (now clock) ≡ false) ⌝ }
-    ensures { λ r. ⌜ r ≡ places (length (now (clock .entry))) (λ j. at (now (a .entry)) j +ℤ pos steps *ℤ at (now (clock .entry)) j) ⌝ }
-{
-    let n = clock.len();
-    let mut values = [0i64; 52];
-    let mut j = 0;
-    while j < n {
-        values[j] = a[j] + 10 * clock[j];
-        j += 1;
-    }
-    values
-}
-
-// C and D: a column, its picoseconds counted in tenths.
-pub fn in_tenths(column: &[i64]) -> [i64; 52]
-    requires { ⌜ (length (now column) ≤ 52) × (anyBeyond (10 ^ 10) (now column) ≡ false) ⌝ }
-    ensures { λ r. ⌜ r ≡ places (length (now (column .entry))) (λ j. pos steps *ℤ at (now (column .entry)) j) ⌝ }
-{
-    let n = column.len();
-    let mut tenths = [0i64; 52];
-    let mut j = 0;
-    while j < n {
-        tenths[j] = 10 * column[j];
-        j += 1;
-    }
-    tenths
+    Corrected::Values { read }
 }

@@ -1,6 +1,5 @@
 // The lists and the delays that a track is given: whether the lists have their sizes, and whether every number is inside
 // its limits.
-use limits::any_outside;
 use limits::blocks_fit;
 use limits::outside;
 ghost use mathlib.Core.Path.{_≡_};
@@ -38,7 +37,27 @@ pub fn sizes_wrong(
         | (clock.len() != n)
 }
 
-// Whether a geometry is outside ±2 × 10^11 or any other correction outside ±10^10.
+// Whether the geometry of one block is outside ±2 × 10^11 or another of its corrections outside ±10^10.
+fn row_beyond(geometry: i64, relativity: i64, ionosphere: i64, troposphere: i64, clock: i64) -> bool
+    ensures { λ r. ⌜ r ≡ beyond (2 * 10 ^ 11) geometry || beyond (10 ^ 10) relativity || beyond (10 ^ 10) ionosphere
+        || beyond (10 ^ 10) troposphere || beyond (10 ^ 10) clock ⌝ }
+{
+    if outside(-200_000_000_000, 200_000_000_000, geometry) {
+        return true;
+    }
+    if outside(-10_000_000_000, 10_000_000_000, relativity) {
+        return true;
+    }
+    if outside(-10_000_000_000, 10_000_000_000, ionosphere) {
+        return true;
+    }
+    if outside(-10_000_000_000, 10_000_000_000, troposphere) {
+        return true;
+    }
+    outside(-10_000_000_000, 10_000_000_000, clock)
+}
+
+// Whether a geometry is outside ±2 × 10^11 or any other correction outside ±10^10: one loop over the blocks, to the first such correction.
 pub fn columns_beyond(
     geometry: &[i64],
     relativity: &[i64],
@@ -46,15 +65,27 @@ pub fn columns_beyond(
     troposphere: &[i64],
     clock: &[i64],
 ) -> bool
+    requires { ⌜ (length (now relativity) ≡ length (now geometry)) × (length (now ionosphere) ≡ length (now geometry))
+        × (length (now troposphere) ≡ length (now geometry)) × (length (now clock) ≡ length (now geometry)) ⌝ }
     ensures { λ r. ⌜ r ≡ anyBeyond (2 * 10 ^ 11) (now (geometry .entry))
         || anyBeyond (10 ^ 10) (now (relativity .entry)) || anyBeyond (10 ^ 10) (now (ionosphere .entry))
         || anyBeyond (10 ^ 10) (now (troposphere .entry)) || anyBeyond (10 ^ 10) (now (clock .entry)) ⌝ }
 {
-    any_outside(geometry, -200_000_000_000, 200_000_000_000)
-        | any_outside(relativity, -10_000_000_000, 10_000_000_000)
-        | any_outside(ionosphere, -10_000_000_000, 10_000_000_000)
-        | any_outside(troposphere, -10_000_000_000, 10_000_000_000)
-        | any_outside(clock, -10_000_000_000, 10_000_000_000)
+    let n = geometry.len();
+    let mut j = 0;
+    while j < n {
+        if row_beyond(
+            geometry[j],
+            relativity[j],
+            ionosphere[j],
+            troposphere[j],
+            clock[j],
+        ) {
+            return true;
+        }
+        j += 1;
+    }
+    false
 }
 
 // Whether one of the delays is outside ±10^10.

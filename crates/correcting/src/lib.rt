@@ -6,98 +6,34 @@
 mod correction;
 mod inputs;
 
-use correction::a_values;
-use correction::b_values;
-use correction::delay;
-use correction::in_tenths;
-use correction::smooth_blocks;
+use correction::correct_blocks;
 use inputs::columns_beyond;
 use inputs::delays_beyond;
 use inputs::sizes_wrong;
-use limits::scan;
 ghost use mathlib.Core.Path.{_≡_};
-ghost use mathlib.Core.Bool.{false};
-ghost use Rattle.correcting.specs.Correct.{given, wrongSizes, outOfLimits};
-ghost use Rattle.correcting.specs.Answer.{refusedBy, correctRule};
+ghost use Rattle.correcting.specs.Correct.{given, valueA, valueB, valueC, valueD};
+ghost use Rattle.correcting.specs.Answer.{correctedNumber, correctRule, correctedBlocks, filled};
 
-// The number of the refusal, 0 where there is none; then how many of the 52 places are in use and the corrected values of each kind,
-// A, B, C and D of document 01 in tenths, with 0 in the other places; 0 throughout where it is refused.
-pub struct Corrected {
-    pub refusal: u32,
-    pub blocks: usize,
-    pub a: [i64; 52],
-    pub b: [i64; 52],
-    pub c: [i64; 52],
-    pub d: [i64; 52],
+// What correct answers: that the rows have their values, or the number of the refusal; and how many measurements the limit test has read.
+pub enum Corrected {
+    Values { read: usize },
+    Refused { number: u32, read: usize },
 }
 
-// A refusal: its number, and 0 throughout.
-fn refused(number: u32) -> Corrected
-    ensures { λ r. ⌜ r ≡ refusedBy number ⌝ }
+// The number of the refusal, 0 where there is none.
+pub fn corrected_number(corrected: Corrected) -> u32
+    ensures { λ r. ⌜ r ≡ correctedNumber corrected ⌝ }
 {
-    let none = [0i64; 52];
-    Corrected {
-        refusal: number,
-        blocks: 0,
-        a: none,
-        b: none,
-        c: none,
-        d: none,
-    }
-}
-
-// The corrected values of a track whose lists have their sizes and whose numbers are inside their limits.
-fn corrected_values(
-    measurements: &[i64],
-    int: i64,
-    cab: i64,
-    refdly: i64,
-    gd: i64,
-    geometry: &[i64],
-    relativity: &[i64],
-    ionosphere: &[i64],
-    troposphere: &[i64],
-    clock: &[i64],
-) -> Corrected
-    requires { ⌜ wrongSizes (given (now measurements) int cab refdly gd
-        (now geometry) (now relativity) (now ionosphere) (now troposphere) (now clock)) ≡ false ⌝ }
-    requires { ⌜ outOfLimits (given (now measurements) int cab refdly gd
-        (now geometry) (now relativity) (now ionosphere) (now troposphere) (now clock)) ≡ false ⌝ }
-    ensures { λ r. ⌜ r ≡ correctRule (given (now (measurements .entry)) int cab refdly gd
-        (now (geometry .entry)) (now (relativity .entry)) (now (ionosphere .entry)) (now (troposphere .entry))
-        (now (clock .entry))) ⌝ }
-{
-    let n = geometry.len();
-    let blocks = smooth_blocks(measurements, n);
-    let refusal = blocks.refusal;
-    if refusal != 0 {
-        return refused(refusal);
-    }
-    let smoothed = blocks.values;
-    let a = a_values(
-        &smoothed,
-        delay(int, cab, refdly),
-        geometry,
-        relativity,
-        ionosphere,
-        troposphere,
-        gd,
-    );
-    let b = b_values(&a, clock);
-    let c = in_tenths(troposphere);
-    let d = in_tenths(ionosphere);
-    Corrected {
-        refusal: 0,
-        blocks: n,
-        a,
-        b,
-        c,
-        d,
+    match corrected {
+        Corrected::Values { read: _ } => 0,
+        Corrected::Refused { number, read: _ } => number,
     }
 }
 
 // The corrected values of a track of n blocks, n from 4 to 52: of 15n one-second measurements, the delays INT, CAB, REF and GD,
-// and five columns of n corrections.
+// and five columns of n corrections. A, B, C and D of document 01 are put into the first n places of the four rows that are lent; the other
+// places keep what they hold. Where the track is refused, the rows have the values of the blocks before the first measurement
+// outside, or of none.
 pub fn correct(
     measurements: &[i64],
     int: i64,
@@ -109,10 +45,34 @@ pub fn correct(
     ionosphere: &[i64],
     troposphere: &[i64],
     clock: &[i64],
+    a: &mut [i64; 52],
+    b: &mut [i64; 52],
+    c: &mut [i64; 52],
+    d: &mut [i64; 52],
 ) -> Corrected
     ensures { λ r. ⌜ r ≡ correctRule (given (now (measurements .entry)) int cab refdly gd
         (now (geometry .entry)) (now (relativity .entry)) (now (ionosphere .entry)) (now (troposphere .entry))
         (now (clock .entry))) ⌝ }
+    ensures { λ _. ⌜ now (a .exit) ≡ filled (correctedBlocks (given (now (measurements .entry)) int cab refdly gd
+        (now (geometry .entry)) (now (relativity .entry)) (now (ionosphere .entry)) (now (troposphere .entry))
+        (now (clock .entry)))) (valueA (given (now (measurements .entry)) int cab refdly gd
+        (now (geometry .entry)) (now (relativity .entry)) (now (ionosphere .entry)) (now (troposphere .entry))
+        (now (clock .entry)))) (now (a .entry)) ⌝ }
+    ensures { λ _. ⌜ now (b .exit) ≡ filled (correctedBlocks (given (now (measurements .entry)) int cab refdly gd
+        (now (geometry .entry)) (now (relativity .entry)) (now (ionosphere .entry)) (now (troposphere .entry))
+        (now (clock .entry)))) (valueB (given (now (measurements .entry)) int cab refdly gd
+        (now (geometry .entry)) (now (relativity .entry)) (now (ionosphere .entry)) (now (troposphere .entry))
+        (now (clock .entry)))) (now (b .entry)) ⌝ }
+    ensures { λ _. ⌜ now (c .exit) ≡ filled (correctedBlocks (given (now (measurements .entry)) int cab refdly gd
+        (now (geometry .entry)) (now (relativity .entry)) (now (ionosphere .entry)) (now (troposphere .entry))
+        (now (clock .entry)))) (valueC (given (now (measurements .entry)) int cab refdly gd
+        (now (geometry .entry)) (now (relativity .entry)) (now (ionosphere .entry)) (now (troposphere .entry))
+        (now (clock .entry)))) (now (c .entry)) ⌝ }
+    ensures { λ _. ⌜ now (d .exit) ≡ filled (correctedBlocks (given (now (measurements .entry)) int cab refdly gd
+        (now (geometry .entry)) (now (relativity .entry)) (now (ionosphere .entry)) (now (troposphere .entry))
+        (now (clock .entry)))) (valueD (given (now (measurements .entry)) int cab refdly gd
+        (now (geometry .entry)) (now (relativity .entry)) (now (ionosphere .entry)) (now (troposphere .entry))
+        (now (clock .entry)))) (now (d .entry)) ⌝ }
 {
     if sizes_wrong(
         measurements,
@@ -122,16 +82,14 @@ pub fn correct(
         troposphere,
         clock,
     ) {
-        return refused(1);
+        return Corrected::Refused { number: 1, read: 0 };
     }
-    let measured = scan(measurements, -1_000_000_000_000, 1_000_000_000_000);
-    let beyond = measured.outside
-        | columns_beyond(geometry, relativity, ionosphere, troposphere, clock)
-        | delays_beyond(int, cab, refdly, gd);
-    if beyond {
-        return refused(2);
+    if columns_beyond(geometry, relativity, ionosphere, troposphere, clock)
+        | delays_beyond(int, cab, refdly, gd)
+    {
+        return Corrected::Refused { number: 2, read: 0 };
     }
-    corrected_values(
+    correct_blocks(
         measurements,
         int,
         cab,
@@ -142,5 +100,9 @@ pub fn correct(
         ionosphere,
         troposphere,
         clock,
+        a,
+        b,
+        c,
+        d,
     )
 }

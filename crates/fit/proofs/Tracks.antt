@@ -1,10 +1,10 @@
 -- Laws of a track's answer (specs/Track.antt): what is known of corrected values that are inside their limit, what a number with its
 -- record comes to, and how the answer follows from the corrected values.
 -- Assumes nothing.
-use mathlib.Core.Path.{_≡_, refl, sym, ap, _∙_}
+use mathlib.Core.Path.{_≡_, refl, sym, ap, _∙_, subst}
 use mathlib.Core.Bool.{false, _||_}
 use mathlib.Core.List.{List}
-use Prim.Native.Nat.{ℕ, zero, suc, _^_, _≤_, _<_}
+use Prim.Native.Nat.{ℕ, zero, suc, _*_, _^_, _≤_, _<_}
 use native.Mathlib.Nat.{not-suc-le-zero}
 use native.Mathlib.Omega.{arith}
 use lib.IntN.{ℤ}
@@ -16,6 +16,7 @@ use Rattle.whole.specs.Words.{back-of}
 use Rattle.limits.specs.Refusal.{_when_, _then_}
 use Rattle.limits.proofs.Laws.{then-refused, then-passed, then-assoc, or-false}
 use Rattle.fit.specs.declared.TrackRecord.{TrackRecord}
+use Rattle.fit.specs.declared.Tracked.{Tracked}
 use Rattle.exact.specs.Corrected.{Given, at, steps}
 use Rattle.limits.specs.Lists.{anyBeyond}
 use Rattle.limits.specs.Reply.{Reply}
@@ -23,21 +24,17 @@ use Rattle.series.specs.declared.Fitted.{Fitted}
 use Rattle.series.specs.Answers.{fitReply, fitNumbered}
 use Rattle.series.specs.Fit.{midpoint, slope, fitRule, valuesLimit}
 use Rattle.series.proofs.Fitting.{fit-part}
-use Rattle.correcting.specs.declared.Corrected.{Corrected}
-use Rattle.correcting.specs.Correct.{blocks, valueA, valueB, valueC, valueD, wrongSizes, outOfLimits}
-use Rattle.correcting.specs.Answer.{correctNumber, corrected, correctRule}
-use Rattle.correcting.proofs.Arrays.{places-length}
-use Rattle.correcting.proofs.Refusals.{sized, number-answered, sizes-passed, values-passed}
+use Rattle.limits.specs.declared.Numbers.{Numbers}
+use Rattle.fit.specs.declared.Found.{Found}
+use Rattle.fit.specs.Found.{foundNumber, foundNumbers, found, judgedOf, foundIn}
+use Rattle.correcting.specs.Correct.{wrongSizes, outOfLimits}
+use Rattle.correcting.specs.Answer.{correctNumber}
 use Rattle.fit.specs.Track.{recordOf, results, correctedBeyond, recordNumber, trackNumber, zeros, tracked, trackRule}
 
 pub tracked-refused : (number : ℕ) (t : TrackRecord) → 0 < number → tracked number t ≡ record { refusal = number; «record» = zeros }
 unfolding tracked
 tracked-refused zero t h = absurd (not-suc-le-zero h)
 tracked-refused (suc number) t h = refl
-
-pub tracked-accepted : (t : TrackRecord) → tracked 0 t ≡ record { refusal = 0; «record» = t }
-unfolding tracked
-tracked-accepted t = refl
 
 -- the four lists of corrected values inside their limit
 pub record Inside (a b c d : List ℤ) : Type 0 where
@@ -87,36 +84,86 @@ unfolding trackNumber correctNumber
 number-parts g = sym (then-assoc (1 when wrongSizes g) (2 when outOfLimits g) (recordNumber (results g)))
 
 -- a track that is refused as it is given
-pub track-refused : (g : Given) (r : Corrected) → r ≡ correctRule g → 0 < r .refusal → record { refusal = r .refusal; «record» = zeros } ≡ trackRule g
+pub track-refused : (g : Given) (number : ℕ) → number ≡ correctNumber g → 0 < number → record { refusal = number; «record» = zeros } ≡ trackRule g
 unfolding trackRule
-track-refused g r e h =
-    let number : r .refusal ≡ correctNumber g = ap (λ (k : Corrected). k .refusal) e ∙ number-answered g in
-    let first : trackNumber g ≡ r .refusal = number-parts g ∙ ap (λ (k : ℕ). k then recordNumber (results g)) (sym number) ∙ then-refused _ _ h in
-    sym (ap (λ (k : ℕ). tracked k (results g)) first ∙ tracked-refused (r .refusal) (results g) h)
+track-refused g number e h =
+    let first : trackNumber g ≡ number = number-parts g ∙ ap (λ (k : ℕ). k then recordNumber (results g)) (sym e) ∙ then-refused _ _ h in
+    sym (ap (λ (k : ℕ). tracked k (results g)) first ∙ tracked-refused number (results g) h)
 
--- any other is judged by its corrected values
-module _ (g : Given) (r : Corrected) (e : r ≡ correctRule g) (z : r .refusal ≡ 0) where
-  passed : correctNumber g ≡ 0
-  passed = sym (number-answered g) ∙ sym (ap (λ (k : Corrected). k .refusal) e) ∙ z
+-- any other by its corrected values
+pub track-judged : (g : Given) → correctNumber g ≡ 0 → tracked (recordNumber (results g)) (results g) ≡ trackRule g
+unfolding trackRule
+track-judged g e = ap (λ (k : ℕ). tracked k (results g)) (sym (number-parts g ∙ then-passed _ _ e))
 
-  values-are : r ≡ corrected 0 g
-  values-are = e ∙ values-passed g passed
+-- what is found of them, where it is a refusal and where it is not
+module _ (t : TrackRecord) where
+  by-number : (k : ℕ) {r : Found} → r ≡ found k (t .numbers) → {number : ℕ} → r ≡ Found.Refused number
+      → record { refusal = number; «record» = zeros } ≡ tracked k t
+  unfolding found tracked
+  by-number zero e {number} f = absurd (differ (sym f ∙ e))
+    where
+      differ : Found.Refused number ≡ Found.Ten (t .numbers) → ⊥
+      differ d = let z : _≡_ {A = ℕ} 0 1 = cc in omega arith
+  by-number (suc k) e {number} f = let z : number ≡ suc k = cc in ap (λ (m : ℕ). record { refusal = m; «record» = zeros }) z
 
-  few : (4 ≤ blocks g) × (blocks g ≤ 52)
-  few = sized g (sizes-passed g passed) .size-blocks
+  pub found-refused : {r : Found} → r ≡ judgedOf t → {number : ℕ} → r ≡ Found.Refused number
+      → record { refusal = number; «record» = zeros } ≡ tracked (recordNumber t) t
+  unfolding judgedOf
+  found-refused e f = by-number (recordNumber t) e f
 
-  pub blocks-sized : (4 ≤ r .blocks) × (r .blocks ≤ 52)
-  unfolding corrected
-  blocks-sized = rw values-are few
+  ten-by : (k : ℕ) {r : Found} → r ≡ found k (t .numbers) → {n : Numbers} → r ≡ Found.Ten n → (n ≡ t .numbers) × (tracked k t ≡ record { refusal = 0; «record» = t })
+  unfolding found tracked
+  ten-by zero e {n} f = let z : n ≡ t .numbers = cc in (z, refl)
+  ten-by (suc k) e {n} f = absurd (differ (sym f ∙ e))
+    where
+      differ : Found.Ten n ≡ Found.Refused (suc k) → ⊥
+      differ d = let z : _≡_ {A = ℕ} 0 1 = cc in omega arith
 
-  pub places-sized : (length (r .a) ≡ 52) × (length (r .b) ≡ 52) × (length (r .c) ≡ 52) × (length (r .d) ≡ 52)
-  unfolding corrected
-  places-sized =
-      let h = few .1 in
-      rw values-are (places-length _ (valueA g) h, places-length _ (valueB g) h, places-length _ (valueC g) h, places-length _ (valueD g) h)
+  pub found-ten : {r : Found} → r ≡ judgedOf t → {n : Numbers} → r ≡ Found.Ten n
+      → (n ≡ t .numbers) × (tracked (recordNumber t) t ≡ record { refusal = 0; «record» = t })
+  unfolding judgedOf
+  found-ten e f = ten-by (recordNumber t) e f
 
-  pub track-judged : let t = recordOf (r .blocks) (r .a) (r .b) (r .c) (r .d) in tracked (recordNumber t) t ≡ trackRule g
-  unfolding corrected results trackRule
-  track-judged =
-      ap (λ (k : Corrected). let t = recordOf (k .blocks) (k .a) (k .b) (k .c) (k .d) in tracked (recordNumber t) t) values-are
-      ∙ ap (λ (k : ℕ). tracked k (results g)) (sym (number-parts g ∙ then-passed _ _ passed))
+-- ---- the numbers alone
+
+-- what Track answers, by its case
+pub hands-refused : (g : Given) (t : Tracked) → t ≡ trackRule g → 0 < t .refusal → Found.Refused (t .refusal) ≡ foundIn g
+unfolding trackRule tracked foundIn found
+hands-refused g t e = subst (λ (t : Tracked). 0 < t .refusal → Found.Refused (t .refusal) ≡ found (trackNumber g) (results g .numbers)) (sym e) (by (trackNumber g))
+  where
+    by : (k : ℕ) → 0 < tracked k (results g) .refusal → Found.Refused (tracked k (results g) .refusal) ≡ found k (results g .numbers)
+    by zero h = absurd (not-suc-le-zero h)
+    by (suc k) h = refl
+
+pub hands-ten : (g : Given) (t : Tracked) → t ≡ trackRule g → t .refusal ≡ 0 → Found.Ten (t .«record» .numbers) ≡ foundIn g
+unfolding trackRule tracked foundIn found
+hands-ten g t e = subst (λ (t : Tracked). t .refusal ≡ 0 → Found.Ten (t .«record» .numbers) ≡ found (trackNumber g) (results g .numbers)) (sym e) (by (trackNumber g))
+  where
+    by : (k : ℕ) → tracked k (results g) .refusal ≡ 0 → Found.Ten (tracked k (results g) .«record» .numbers) ≡ found k (results g .numbers)
+    by zero h = refl
+    by (suc k) h = absurd (omega (arith, h))
+
+-- what such a case tells
+pub found-number : (g : Given) (x : Found) → x ≡ foundIn g → foundNumber x ≡ trackNumber g
+unfolding foundIn found
+found-number g x e = ap foundNumber e ∙ by (trackNumber g)
+  where
+    by : (k : ℕ) → foundNumber (found k (results g .numbers)) ≡ k
+    by zero = refl
+    by (suc k) = refl
+
+pub found-numbers : (g : Given) (x : Found) → x ≡ foundIn g → foundNumber x ≡ 0 → foundNumbers x ≡ results g .numbers
+unfolding foundIn found
+found-numbers g x e h = ap foundNumbers e ∙ by (trackNumber g) (sym (found-number g x e) ∙ h)
+  where
+    by : (k : ℕ) → k ≡ 0 → foundNumbers (found k (results g .numbers)) ≡ results g .numbers
+    by zero h = refl
+    by (suc k) h = absurd (omega (arith, h))
+
+pub found-some : (g : Given) {x : Found} → x ≡ foundIn g → {number : ℕ} → x ≡ Found.Refused number → 0 < number
+unfolding foundIn found
+found-some g {x} e f = by (trackNumber g) e f
+  where
+    by : (k : ℕ) → x ≡ found k (results g .numbers) → {number : ℕ} → x ≡ Found.Refused number → 0 < number
+    by zero e {number} f = let z : _≡_ {A = ℕ} 0 1 = cc in absurd (omega arith)
+    by (suc k) e {number} f = let z : number ≡ suc k = cc in omega (arith, z)

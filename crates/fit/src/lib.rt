@@ -7,7 +7,9 @@
 mod answers;
 mod results;
 
+use correcting::Corrected;
 use correcting::correct;
+use correcting::corrected_number;
 pub use limits::Numbers;
 use results::judged;
 use results::refused;
@@ -23,6 +25,7 @@ ghost use Rattle.exact.specs.Accurate.{AccurateTrack};
 ghost use Rattle.exact.specs.Corrected.{steps};
 ghost use Rattle.correcting.specs.Correct.{given};
 ghost use Rattle.fit.specs.Track.{trackRule};
+ghost use Rattle.fit.specs.Found.{foundNumber};
 
 // How many of the 52 places are in use, a track's corrected values of each kind, A, B, C and D of document 01 in tenths, with 0
 // in the other places, and its ten numbers.
@@ -39,6 +42,22 @@ pub struct TrackRecord {
 pub struct Tracked {
     pub refusal: u32,
     pub record: TrackRecord,
+}
+
+// A track's ten numbers without its corrected values, or the number of the refusal.
+pub enum Found {
+    Ten(Numbers),
+    Refused(u32),
+}
+
+// The number of the refusal, 0 where there is none.
+pub fn found_number(found: Found) -> u32
+    ensures { λ r. ⌜ r ≡ foundNumber found ⌝ }
+{
+    match found {
+        Found::Ten(_) => 0,
+        Found::Refused(number) => number,
+    }
 }
 
 // A track of n blocks, n from 4 to 52: 15n one-second measurements, the delays INT, CAB, REF and GD, and five columns of n
@@ -63,7 +82,11 @@ pub fn track(
         (now (geometry .entry)) (now (relativity .entry)) (now (ionosphere .entry)) (now (troposphere .entry))
         (now (clock .entry))) (r .«record» .numbers)) ⌝ }
 {
-    let values = correct(
+    let mut a = [0i64; 52];
+    let mut b = [0i64; 52];
+    let mut c = [0i64; 52];
+    let mut d = [0i64; 52];
+    let corrected = correct(
         measurements,
         int,
         cab,
@@ -74,10 +97,28 @@ pub fn track(
         ionosphere,
         troposphere,
         clock,
+        &mut a,
+        &mut b,
+        &mut c,
+        &mut d,
     );
-    let refusal = values.refusal;
-    if refusal != 0 {
-        return refused(refusal);
+    let Corrected::Values { read: _ } = corrected else {
+        return refused(corrected_number(corrected));
+    };
+    let n = geometry.len();
+    let found = judged(n, &a, &b, &c, &d);
+    let Found::Ten(numbers) = found else {
+        return refused(found_number(found));
+    };
+    Tracked {
+        refusal: 0,
+        record: TrackRecord {
+            blocks: n,
+            a,
+            b,
+            c,
+            d,
+            numbers,
+        },
     }
-    judged(values)
 }

@@ -4,12 +4,11 @@ use mathlib.Core.Path.{_≡_, refl, sym, ap, _∙_, subst}
 use mathlib.Core.Bool.{true, false}
 use mathlib.Core.List.{List, _++_}
 use Prim.Native.Nat.{ℕ, _+_, _*_, _≤_}
-use native.Mathlib.Nat.{le-of-eq}
 use native.Mathlib.Omega.{arith}
 use lib.Dec.{T, leb, leb→le}
 use lib.IntN.{ℤ}
 use lib.ListN.{length, take}
-use lib.Seq.{length-take-le, take-at, take-all}
+use lib.Seq.{length-take-le, take-at}
 use mir.Facts.{and-yes}
 use Rattle.limits.specs.Blocks.{blocksFit}
 use Rattle.limits.specs.Refusal.{_when_, _then_}
@@ -17,9 +16,10 @@ use Rattle.decode.specs.Number.{signedsAt}
 use Rattle.decode.proofs.Signeds.{length-signeds}
 use Rattle.exact.specs.Corrected.{Given, steps}
 use Rattle.exact.specs.Accurate.{AccurateTrack}
-use Rattle.fit.specs.declared.Tracked.{Tracked}
+use Rattle.fit.specs.declared.Found.{Found}
 use Rattle.correcting.specs.Correct.{wrongSizes}
-use Rattle.fit.specs.Track.{trackNumber, zeros, tracked, trackRule}
+use Rattle.fit.specs.Track.{trackNumber}
+use Rattle.fit.specs.Found.{foundNumber, foundNumbers, found, foundIn}
 use Rattle.hire.specs.Hire.{correctionsFrom, delayedIn, givenIn}
 
 -- ---- rows
@@ -35,10 +35,6 @@ module _ (b : List ℕ) (at stride count : ℕ) (row : List ℤ) (e : take count
   pub part-counted : count ≡ length (take count row)
   part-counted = sym (ap length e ∙ length-signeds b at stride count)
 
-  -- all places are filled
-  pub filled-whole : count ≡ length row → row ≡ signedsAt b at stride count
-  filled-whole l = sym (take-all count row (le-of-eq (sym l))) ∙ e
-
 -- they have room for a track that there may be
 pub fits-most : (n : ℕ) → blocksFit n ≡ true → n ≤ 52
 unfolding blocksFit
@@ -47,8 +43,8 @@ fits-most n e = leb→le n 52 (and-yes (leb 4 n) (leb n 52) (subst T (sym e) tt)
 -- ---- Track's answer
 
 -- What is promised of a track of n blocks.
-abbrev pub Promised : (b : List ℕ) → Tracked → (n : ℕ) → Type 0
-Promised b x n = (x ≡ trackRule (givenIn n b)) × (x .refusal ≡ 0 → AccurateTrack steps n (givenIn n b) (x .«record» .numbers))
+abbrev pub Promised : (b : List ℕ) → Found → (n : ℕ) → Type 0
+Promised b x n = (x ≡ foundIn (givenIn n b)) × (foundNumber x ≡ 0 → AccurateTrack steps n (givenIn n b) (foundNumbers x))
 
 -- the answer to the lists of n blocks
 module _ (n : ℕ) (b : List ℕ) {m g r i t c : List ℤ}
@@ -62,35 +58,35 @@ module _ (n : ℕ) (b : List ℕ) {m g r i t c : List ℤ}
   unfolding givenIn
   lists-are = λ k. delayedIn b (em k) (eg k) (er k) (ei k) (et k) (ec k)
 
-  pub answered : (x : Tracked)
-      → (x ≡ trackRule (delayedIn b m g r i t c))
-      × (x .refusal ≡ 0 → AccurateTrack steps (length g) (delayedIn b m g r i t c) (x .«record» .numbers))
+  pub answered : (x : Found)
+      → (x ≡ foundIn (delayedIn b m g r i t c))
+      × (foundNumber x ≡ 0 → AccurateTrack steps (length g) (delayedIn b m g r i t c) (foundNumbers x))
       → Promised b x n
   answered x p = (
-    p .0 ∙ ap trackRule lists-are,
-    λ z. subst (λ (G : Given). AccurateTrack steps n G (x .«record» .numbers)) lists-are
-        (subst (λ (k : ℕ). AccurateTrack steps k (delayedIn b m g r i t c) (x .«record» .numbers)) (ap length eg ∙ length-signeds b (correctionsFrom n) 40 n) (p .1 z)),
+    p .0 ∙ ap foundIn lists-are,
+    λ z. subst (λ (G : Given). AccurateTrack steps n G (foundNumbers x)) lists-are
+        (subst (λ (k : ℕ). AccurateTrack steps k (delayedIn b m g r i t c) (foundNumbers x)) (ap length eg ∙ length-signeds b (correctionsFrom n) 40 n) (p .1 z)),
   )
 
 -- and to blocks that are too few or too many
-miscounted-refused : (g : Given) → wrongSizes g ≡ true → trackRule g ≡ record { refusal = 1; «record» = zeros }
-unfolding trackRule trackNumber tracked _when_ _then_
+miscounted-refused : (g : Given) → wrongSizes g ≡ true → foundIn g ≡ Found.Refused 1
+unfolding foundIn found trackNumber _when_ _then_
 miscounted-refused g e = rw e
 
 unfit-sizes : (n : ℕ) (b : List ℕ) → blocksFit n ≡ false → wrongSizes (givenIn n b) ≡ true
 unfolding wrongSizes givenIn
 unfit-sizes n b e = simp (length-signeds b (correctionsFrom n) 40 n, e)
 
-unfit-refused : (n : ℕ) (b : List ℕ) → blocksFit n ≡ false → trackRule (givenIn n b) ≡ record { refusal = 1; «record» = zeros }
+unfit-refused : (n : ℕ) (b : List ℕ) → blocksFit n ≡ false → foundIn (givenIn n b) ≡ Found.Refused 1
 unfit-refused n b e = miscounted-refused (givenIn n b) (unfit-sizes n b e)
 
 -- which are as good as none
-pub unfit-alike : (n : ℕ) (b : List ℕ) → blocksFit n ≡ false → (x : Tracked) → x ≡ trackRule (givenIn 0 b) → Promised b x n
+pub unfit-alike : (n : ℕ) (b : List ℕ) → blocksFit n ≡ false → (x : Found) → x ≡ foundIn (givenIn 0 b) → Promised b x n
 unfolding blocksFit
 unfit-alike n b e x p = (
   p ∙ unfit-refused 0 b refl ∙ sym (unfit-refused n b e),
-  λ z. absurd (refused z (ap (λ (y : Tracked). y .refusal) (p ∙ unfit-refused 0 b refl))),
+  λ z. absurd (refused z (ap foundNumber (p ∙ unfit-refused 0 b refl))),
 )
   where
-    refused : x .refusal ≡ 0 → x .refusal ≡ 1 → ⊥
+    refused : foundNumber x ≡ 0 → foundNumber x ≡ 1 → ⊥
     refused z k = omega arith

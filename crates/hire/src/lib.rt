@@ -3,16 +3,16 @@
 ghost use mathlib.Core.Path.{_≡_};
 ghost use Prim.Native.Nat.{_*_, _≤_};
 ghost use lib.ListN.{length, take};
-ghost use Rattle.decode.specs.Number.{signedsAt};
-ghost use Rattle.fit.specs.Track.{trackRule};
-ghost use Rattle.exact.specs.Accurate.{AccurateTrack};
 ghost use Rattle.exact.specs.Corrected.{steps};
+ghost use Rattle.decode.specs.Number.{signedsAt};
+ghost use Rattle.fit.specs.Found.{foundNumber, foundNumbers, foundIn};
+ghost use Rattle.exact.specs.Accurate.{AccurateTrack};
 ghost use Rattle.hire.specs.Hire.{blocksIn, sizesFit, blockLength, byteAt, blockLabels, delayedIn, givenIn, blockGiven};
 use decode::fill;
 use decode::signed64;
 use decode::unsigned16;
 use decode::unsigned32;
-use fit::Tracked;
+use fit::Found;
 use labels::Labels;
 use limits::blocks_fit;
 
@@ -67,26 +67,6 @@ fn fill_first(block: &[u8], at: usize, stride: usize, count: usize, out: &mut [i
     fill(block, at, stride, &mut out[..count]);
 }
 
-// The one-second measurements of n blocks, in the first places of 780.
-fn seconds(block: &[u8], n: usize) -> [i64; 780]
-    requires { ⌜ n ≤ 52 ⌝ }
-    ensures { λ r. ⌜ take (15 * n) r ≡ signedsAt (now (block .entry)) 58 8 (15 * n) ⌝ }
-{
-    let mut values = [0i64; 780];
-    fill_first(block, 58, 8, 15 * n, &mut values);
-    values
-}
-
-// A column of the corrections of n blocks, its first number at an offset, in the first places of 52.
-fn column(block: &[u8], at: usize, n: usize) -> [i64; 52]
-    requires { ⌜ n ≤ 52 ⌝ }
-    ensures { λ r. ⌜ take n r ≡ signedsAt (now (block .entry)) at 40 n ⌝ }
-{
-    let mut values = [0i64; 52];
-    fill_first(block, at, 40, n, &mut values);
-    values
-}
-
 // Track of these lists and of the delays in the block.
 fn with_delays(
     block: &[u8],
@@ -96,14 +76,14 @@ fn with_delays(
     ionosphere: &[i64],
     troposphere: &[i64],
     clock: &[i64],
-) -> Tracked
-    ensures answer { λ r. ⌜ r ≡ trackRule (delayedIn (now (block .entry)) (now (measurements .entry)) (now (geometry .entry))
+) -> Found
+    ensures answer { λ r. ⌜ r ≡ foundIn (delayedIn (now (block .entry)) (now (measurements .entry)) (now (geometry .entry))
         (now (relativity .entry)) (now (ionosphere .entry)) (now (troposphere .entry)) (now (clock .entry))) ⌝ }
-    ensures accurate { λ r. ⌜ (r .refusal ≡ 0 → AccurateTrack steps (length (now (geometry .entry))) (delayedIn (now (block .entry))
+    ensures accurate { λ r. ⌜ (foundNumber r ≡ 0 → AccurateTrack steps (length (now (geometry .entry))) (delayedIn (now (block .entry))
         (now (measurements .entry)) (now (geometry .entry)) (now (relativity .entry)) (now (ionosphere .entry)) (now (troposphere .entry))
-        (now (clock .entry))) (r .«record» .numbers)) ⌝ }
+        (now (clock .entry))) (foundNumbers r)) ⌝ }
 {
-    fit::track(
+    let tracked = fit::track(
         measurements,
         signed64(block, 26),
         signed64(block, 34),
@@ -114,20 +94,34 @@ fn with_delays(
         ionosphere,
         troposphere,
         clock,
-    )
+    );
+    let refusal = tracked.refusal;
+    if refusal != 0 {
+        return Found::Refused(refusal);
+    }
+    let record = tracked.record;
+    let numbers = record.numbers;
+    Found::Ten(numbers)
 }
 
-// Track of 52 blocks, whose lists have lengths and offsets that the compiler knows.
-fn full_track(block: &[u8]) -> Tracked
-    ensures answer { λ r. ⌜ r ≡ trackRule (givenIn 52 (now (block .entry))) ⌝ }
-    ensures accurate { λ r. ⌜ (r .refusal ≡ 0 → AccurateTrack steps 52 (givenIn 52 (now (block .entry))) (r .«record» .numbers)) ⌝ }
+// Track of 52 blocks, whose lists have lengths and offsets that the compiler knows. Block gives it a whole block alone, so that no row is tested for
+// lying within the bytes.
+fn full_track(block: &[u8]) -> Found
+    ensures answer { λ r. ⌜ r ≡ foundIn (givenIn 52 (now (block .entry))) ⌝ }
+    ensures accurate { λ r. ⌜ (foundNumber r ≡ 0 → AccurateTrack steps 52 (givenIn 52 (now (block .entry))) (foundNumbers r)) ⌝ }
 {
-    let measurements = seconds(block, 52);
-    let geometry = column(block, 6298, 52);
-    let relativity = column(block, 6306, 52);
-    let ionosphere = column(block, 6314, 52);
-    let troposphere = column(block, 6322, 52);
-    let clock = column(block, 6330, 52);
+    let mut measurements = [0i64; 780];
+    let mut geometry = [0i64; 52];
+    let mut relativity = [0i64; 52];
+    let mut ionosphere = [0i64; 52];
+    let mut troposphere = [0i64; 52];
+    let mut clock = [0i64; 52];
+    fill(block, 58, 8, &mut measurements);
+    fill(block, 6298, 40, &mut geometry);
+    fill(block, 6306, 40, &mut relativity);
+    fill(block, 6314, 40, &mut ionosphere);
+    fill(block, 6322, 40, &mut troposphere);
+    fill(block, 6330, 40, &mut clock);
     with_delays(
         block,
         &measurements,
@@ -140,18 +134,24 @@ fn full_track(block: &[u8]) -> Tracked
 }
 
 // Track of n blocks.
-fn short_track(block: &[u8], n: usize) -> Tracked
+fn short_track(block: &[u8], n: usize) -> Found
     requires { ⌜ n ≤ 52 ⌝ }
-    ensures answer { λ r. ⌜ r ≡ trackRule (givenIn n (now (block .entry))) ⌝ }
-    ensures accurate { λ r. ⌜ (r .refusal ≡ 0 → AccurateTrack steps n (givenIn n (now (block .entry))) (r .«record» .numbers)) ⌝ }
+    ensures answer { λ r. ⌜ r ≡ foundIn (givenIn n (now (block .entry))) ⌝ }
+    ensures accurate { λ r. ⌜ (foundNumber r ≡ 0 → AccurateTrack steps n (givenIn n (now (block .entry))) (foundNumbers r)) ⌝ }
 {
     let from = 58 + 120 * n;
-    let measurements = seconds(block, n);
-    let geometry = column(block, from, n);
-    let relativity = column(block, from + 8, n);
-    let ionosphere = column(block, from + 16, n);
-    let troposphere = column(block, from + 24, n);
-    let clock = column(block, from + 32, n);
+    let mut measurements = [0i64; 780];
+    let mut geometry = [0i64; 52];
+    let mut relativity = [0i64; 52];
+    let mut ionosphere = [0i64; 52];
+    let mut troposphere = [0i64; 52];
+    let mut clock = [0i64; 52];
+    fill_first(block, 58, 8, 15 * n, &mut measurements);
+    fill_first(block, from, 40, n, &mut geometry);
+    fill_first(block, from + 8, 40, n, &mut relativity);
+    fill_first(block, from + 16, 40, n, &mut ionosphere);
+    fill_first(block, from + 24, 40, n, &mut troposphere);
+    fill_first(block, from + 32, 40, n, &mut clock);
     with_delays(
         block,
         &measurements[..15 * n],
@@ -164,14 +164,14 @@ fn short_track(block: &[u8], n: usize) -> Tracked
 }
 
 // Track of the block's numbers. Blocks that are too few or too many are given to it as none, which it refuses alike.
-pub fn track(block: &[u8]) -> Tracked
-    ensures answer { λ r. ⌜ r ≡ trackRule (blockGiven (now (block .entry))) ⌝ }
-    ensures accurate { λ r. ⌜ (r .refusal ≡ 0 → AccurateTrack steps (blocksIn (now (block .entry))) (blockGiven (now (block .entry)))
-        (r .«record» .numbers)) ⌝ }
+pub fn track(block: &[u8]) -> Found
+    ensures answer { λ r. ⌜ r ≡ foundIn (blockGiven (now (block .entry))) ⌝ }
+    ensures accurate { λ r. ⌜ (foundNumber r ≡ 0 → AccurateTrack steps (blocksIn (now (block .entry))) (blockGiven (now (block .entry)))
+        (foundNumbers r)) ⌝ }
 {
     let n = unsigned16(block, 2) as usize;
-    if n == 52 {
-        return full_track(block);
+    if (n == 52) & (block.len() == 8378) {
+        return full_track(&block[..8378]);
     }
     if blocks_fit(n) {
         return short_track(block, n);

@@ -27,20 +27,3 @@ reply-values zeros values (suc n) e = absurd (never (ap (λ (t : Reply _). t .nu
   where
     never : 0 ≡ suc n → ⊥
     never e = omega arith
-
--- a reply in two parts, its number and its values
-module _ {A : Type 0} (zeros values : A) (n : ℕ) {number : ℕ} (e : number ≡ reply zeros n values .number) where
-  pub part-refused : (number ≡ 0 → ⊥) → (record { number = number; values = zeros } ≡ reply zeros n values) × (0 < number)
-  part-refused h =
-      let is = e ∙ reply-number zeros values n in (
-        ap (λ (m : ℕ). record { number = m; values = zeros }) is ∙ sym (reply-refused zeros values (some is h)),
-        omega arith,
-      )
-    where
-      some : {m n : ℕ} → m ≡ n → (m ≡ 0 → ⊥) → 0 < n
-      some e h = omega arith
-
-  pub part-accepted : {v : A} → v ≡ reply zeros n values .values → number ≡ 0 → record { number = 0; values = v } ≡ reply zeros n values
-  part-accepted {v} p z =
-      let accepted = reply-accepted zeros values (sym (reply-number zeros values n) ∙ sym e ∙ z) in
-      ap (λ (x : A). record { number = 0; values = x }) (p ∙ ap (λ (t : Reply A). t .values) accepted) ∙ sym accepted

@@ -10,9 +10,11 @@ use Rattle.limits.specs.Refusal.{_then_}
 use Rattle.limits.proofs.Laws.{then-refused, then-passed}
 use Rattle.exact.specs.Corrected.{Given, steps}
 use Rattle.exact.specs.Accurate.{AccurateTrack}
-use Rattle.fit.specs.declared.TrackRecord.{TrackRecord}
+use Rattle.fit.specs.declared.Found.{Found}
 use Rattle.fit.specs.declared.Tracked.{Tracked}
 use Rattle.fit.specs.Track.{results, tracked, trackNumber, trackRule}
+use Rattle.fit.specs.Found.{foundNumber, foundNumbers, foundIn}
+use Rattle.fit.proofs.Tracks.{found-number, found-numbers}
 use Rattle.limits.specs.declared.Numbers.{Numbers}
 use Rattle.columns.specs.Columns.{readNumbers}
 use Rattle.line.specs.Line.{lineAnswer, lineAfter}
@@ -81,17 +83,17 @@ module _ (b lent : List ℕ) where
   unfolding lineAfter blockAfter
   same-after e = rw e
 
-  pub written : (t : Tracked) → sizesNumber b ≡ 0 → t ≡ trackRule (blockGiven b)
-      → (t .refusal ≡ 0 → AccurateTrack steps (blocksIn b) (blockGiven b) (t .«record» .numbers)) → t .refusal ≡ 0
-      → (r : ℕ) (after : List ℕ) → r ≡ lineAnswer (blockLabels b) (t .«record» .numbers) (length lent)
-      → after ≡ lineAfter (blockLabels b) (t .«record» .numbers) lent → Promised r after
-  written t s e accurate z r after answer line =
+  pub written : (x : Found) → sizesNumber b ≡ 0 → x ≡ foundIn (blockGiven b)
+      → (foundNumber x ≡ 0 → AccurateTrack steps (blocksIn b) (blockGiven b) (foundNumbers x)) → foundNumber x ≡ 0
+      → (r : ℕ) (after : List ℕ) → r ≡ lineAnswer (blockLabels b) (foundNumbers x) (length lent)
+      → after ≡ lineAfter (blockLabels b) (foundNumbers x) lent → Promised r after
+  written x s e accurate z r after answer line =
       let g = blockGiven b in
-      let is = ap (λ (x : TrackRecord). x .numbers) (track-record g t e z) in
-      let number = line-answers b (length lent) s (sym (track-number g t e) ∙ z) in (
+      let is = found-numbers g x e z in
+      let number = line-answers b (length lent) s (sym (found-number g x e) ∙ z) in (
         answer ∙ ap (λ (n : Numbers). lineAnswer (blockLabels b) n (length lent)) is ∙ number,
         (
           line ∙ ap (λ (n : Numbers). lineAfter (blockLabels b) n lent) is ∙ same-after number,
-          λ k. subst (AccurateTrack steps (blocksIn b) g) (sym (ap readNumbers line ∙ numbers-read (blockLabels b) (t .«record» .numbers) lent (sym answer ∙ k))) (accurate z),
+          λ k. subst (AccurateTrack steps (blocksIn b) g) (sym (ap readNumbers line ∙ numbers-read (blockLabels b) (foundNumbers x) lent (sym answer ∙ k))) (accurate z),
         ),
       )

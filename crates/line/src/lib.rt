@@ -10,6 +10,8 @@ ghost use Rattle.columns.specs.Columns.{readNumbers};
 ghost use Rattle.line.specs.Line.{lineAnswer, lineAfter};
 ghost use Rattle.hire.specs.Hire.{blocksIn, blockGiven};
 ghost use Rattle.line.specs.Block.{sizesNumber, blockAnswer, blockAfter};
+use fit::Found;
+use fit::found_number;
 pub use labels::Labels;
 pub use labels::Numbers;
 use limits::then;
@@ -53,11 +55,9 @@ pub fn block(block: &[u8], lent: &mut [u8]) -> u32
     if sizes != 0 {
         return sizes;
     }
-    let tracked = hire::track(block);
-    let refusal = tracked.refusal;
-    if refusal != 0 {
-        return refusal;
-    }
-    let record = tracked.record;
-    line(hire::labels(block), record.numbers, lent)
+    let found = hire::track(block);
+    let Found::Ten(numbers) = found else {
+        return found_number(found);
+    };
+    line(hire::labels(block), numbers, lent)
 }

@@ -36,11 +36,15 @@ pub fn refusal(file: &[u8]) -> u32
     then(number, when(12, file.len() % LINE != 0))
 }
 
-// What two files are refused for: the first before the second.
+// What two files are refused for: the first before the second, which is not read where the first is refused.
 pub fn refusals(first: &[u8], second: &[u8]) -> u32
     ensures { λ r. ⌜ r ≡ fileNumber (now (first .entry)) then fileNumber (now (second .entry)) ⌝ }
 {
-    then(refusal(first), refusal(second))
+    let number = refusal(first);
+    if number != 0 {
+        return number;
+    }
+    refusal(second)
 }
 
 // Two bytes of a line, as if they were digits and '0' were 0. What stands past its end counts as 0.

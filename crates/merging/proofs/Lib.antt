@@ -3,5 +3,6 @@ pub mod Steps
 pub mod Written
 pub mod Walking
 pub mod Replies
+pub mod Answers
 pub mod Merging
 pub mod MergedFiles

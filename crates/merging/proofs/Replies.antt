@@ -13,7 +13,7 @@ use Rattle.limits.proofs.Laws.{then-zero, then-refused, then-passed, then-assoc
 use Rattle.limits.proofs.Replies.{reply-accepted, reply-refused}
 use Rattle.linefile.specs.Files.{lines, fileNumber}
 use Rattle.linefile.specs.Partners.{partners}
-use Rattle.merging.specs.Merge.{anyDiffer, mergedFile, mergeNumber, mergeRule, madeOf, mergeAfter}
+use Rattle.merging.specs.Merge.{anyDiffer, mergedFile, mergeNumber, mergeRule, mergeAfter}
 
 -- 15 and 17, which are tried where both files are accepted
 abbrev pub resultNumber : (first second : List ℕ) (room : ℕ) → ℕ
@@ -29,10 +29,10 @@ number-is first second room z =
 module _ (first second lent : List ℕ) where
   -- the answer and the lent file of a refusal
   refused : {number : ℕ} → number ≡ mergeNumber first second (length lent) → 0 < number
-      → (record { number = number; bytes = 0 } ≡ madeOf (mergeRule first second (length lent))) × (lent ≡ mergeAfter first second lent)
+      → (record { number = number; values = 0 } ≡ mergeRule first second (length lent)) × (lent ≡ mergeAfter first second lent)
   unfolding mergeRule mergeAfter
   refused {number} e h = (
-    ap madeOf (sym (ap (λ (n : ℕ). reply 0 n (length (mergedFile first second))) (sym e) ∙ reply-refused 0 (length (mergedFile first second)) h)),
+    sym (ap (λ (n : ℕ). reply 0 n (length (mergedFile first second))) (sym e) ∙ reply-refused 0 (length (mergedFile first second)) h),
     sym (simp (ne-eqb (mergeNumber first second (length lent)) 0 (other e h))),
   )
     where
@@ -40,7 +40,7 @@ module _ (first second lent : List ℕ) where
       other e h z = omega arith
 
   pub files-refused : {number : ℕ} → number ≡ fileNumber first then fileNumber second → 0 < number
-      → (record { number = number; bytes = 0 } ≡ madeOf (mergeRule first second (length lent))) × (lent ≡ mergeAfter first second lent)
+      → (record { number = number; values = 0 } ≡ mergeRule first second (length lent)) × (lent ≡ mergeAfter first second lent)
   unfolding mergeNumber
   files-refused {number} e h =
       refused
@@ -49,7 +49,7 @@ module _ (first second lent : List ℕ) where
 
   module _ (z : fileNumber first then fileNumber second ≡ 0) where
     pub result-refused : {number : ℕ} → number ≡ resultNumber first second (length lent) → 0 < number
-        → (record { number = number; bytes = 0 } ≡ madeOf (mergeRule first second (length lent))) × (lent ≡ mergeAfter first second lent)
+        → (record { number = number; values = 0 } ≡ mergeRule first second (length lent)) × (lent ≡ mergeAfter first second lent)
     result-refused e h = refused (e ∙ sym (number-is first second (length lent) z)) h
 
     pub result-fits : resultNumber first second (length lent) ≡ 0 → length (mergedFile first second) ≤ length lent
@@ -57,9 +57,9 @@ module _ (first second lent : List ℕ) where
 
     pub result-written : {bytes : ℕ} {after : List ℕ} → resultNumber first second (length lent) ≡ 0 → bytes ≡ length (mergedFile first second)
         → after ≡ mergedFile first second ++ drop (length (mergedFile first second)) lent
-        → (record { number = 0; bytes = bytes } ≡ madeOf (mergeRule first second (length lent))) × (after ≡ mergeAfter first second lent)
+        → (record { number = 0; values = bytes } ≡ mergeRule first second (length lent)) × (after ≡ mergeAfter first second lent)
     unfolding mergeRule mergeAfter
     result-written e b w = (
-      ap (λ (n : ℕ). record { number = 0; bytes = n }) b ∙ ap madeOf (sym (reply-accepted 0 (length (mergedFile first second)) (number-is first second (length lent) z ∙ e))),
+      ap (λ (n : ℕ). record { number = 0; values = n }) b ∙ sym (reply-accepted 0 (length (mergedFile first second)) (number-is first second (length lent) z ∙ e)),
       w ∙ sym (simp (eq-eqb (mergeNumber first second (length lent)) 0 (number-is first second (length lent) z ∙ e))),
     )

@@ -9,7 +9,6 @@ use Rattle.limits.specs.Refusal.{_when_, _then_}
 use Rattle.limits.specs.Reply.{Reply, reply}
 use Rattle.linefile.specs.Files.{same, keys, before, lines, fileNumber}
 use Rattle.linefile.specs.Partners.{partners}
-use Rattle.merging.specs.declared.Made.{Made}
 
 -- Some two of such lines differ.
 unfoldable pub anyDiffer : List (List ℕ × List ℕ) → Bool
@@ -50,10 +49,6 @@ mergeNumber first second room =
 -- That number, and how many bytes are written.
 unfoldable pub mergeRule : (first second : List ℕ) (room : ℕ) → Reply ℕ
 mergeRule first second room = reply 0 (mergeNumber first second room) (length (mergedFile first second))
-
--- The same as it is answered.
-abbrev pub madeOf : Reply ℕ → Made
-madeOf r = record { number = r .number; bytes = r .values }
 
 -- The lent file afterwards: the result in its first bytes where nothing is refused, and else as it was lent.
 unfoldable pub mergeAfter : (first second lent : List ℕ) → List ℕ

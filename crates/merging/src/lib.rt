@@ -3,36 +3,45 @@
 // and nothing behind the result.
 ghost use mathlib.Core.Path.{_≡_};
 ghost use lib.ListN.{length};
-ghost use Rattle.merging.specs.Merge.{mergeRule, madeOf, mergeAfter};
+ghost use Rattle.merging.specs.Merge.{mergeRule, mergeAfter};
+ghost use Rattle.merging.specs.Answers.{mergeReply, mergeNumbered};
 use limits::then;
 use limits::when;
 
 mod walk;
 
-// The number of the refusal, 0 where there is none, and how many bytes are written, 0 where it is refused.
-pub struct Made {
-    pub number: u32,
-    pub bytes: usize,
+// What merge answers: how many bytes it wrote, or the number of the refusal.
+pub enum Merged {
+    Bytes(usize),
+    Refused(u32),
 }
 
-// Writes the lines of both files, each once, into the lent file.
-pub fn make(first: &[u8], second: &[u8], file: &mut [u8]) -> Made
-    ensures answer { λ r. ⌜ r ≡ madeOf (mergeRule (now (first .entry)) (now (second .entry)) (length (now (file .entry)))) ⌝ }
+// One file from two, into the lent file.
+pub fn merge(first: &[u8], second: &[u8], file: &mut [u8]) -> Merged
+    ensures answer { λ r. ⌜ mergeReply r ≡ mergeRule (now (first .entry)) (now (second .entry)) (length (now (file .entry))) ⌝ }
+    ensures variant { λ r. ⌜ mergeNumbered r ⌝ }
     ensures written { λ _. ⌜ now (file .exit) ≡ mergeAfter (now (first .entry)) (now (second .entry)) (now (file .entry)) ⌝ }
 {
     let refusal = linefile::refusals(first, second);
     if refusal != 0 {
-        return Made {
-            number: refusal,
-            bytes: 0,
-        };
+        return Merged::Refused(refusal);
     }
     let measured = walk::measure(first, second);
     let bytes = measured.bytes;
     let number = then(when(15, measured.differ), when(17, file.len() < bytes));
     if number != 0 {
-        return Made { number, bytes: 0 };
+        return Merged::Refused(number);
     }
     walk::write(first, second, file);
-    Made { number: 0, bytes }
+    Merged::Bytes(bytes)
+}
+
+// The number of an answer: that of the refusal, 0 where there is none.
+pub fn merged_number(merged: Merged) -> u32
+    ensures { λ r. ⌜ r ≡ mergeReply merged .number ⌝ }
+{
+    match merged {
+        Merged::Bytes(_) => 0,
+        Merged::Refused(number) => number,
+    }
 }

@@ -3,6 +3,7 @@ pub mod Columns
 pub mod Hexadecimals
 pub mod Signs
 pub mod Refusals
+pub mod Readings
 pub mod Spelling
 pub mod AcceptedLine
 pub mod Writing

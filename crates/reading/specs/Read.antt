@@ -17,7 +17,6 @@ use Rattle.labels.specs.Labels.{labelsFit, trackLengthFits}
 use Rattle.columns.specs.Columns.{byteIn, field, readLabels, readNumbers}
 use Rattle.characters.specs.Kinds.{kinds}
 use Rattle.characters.specs.Characters.{charactersNumber}
-use Rattle.reading.specs.declared.LineContents.{LineContents}
 
 -- The columns of the signed fields: REFSV, SRSV, REFSYS, SRSYS, SMDT and SMDI.
 abbrev pub signedFields : List (ℕ × ℕ)
@@ -61,7 +60,3 @@ noNumbers = numbersOf (pos 0) (pos 0) (pos 0) (pos 0) (pos 0) (pos 0) (pos 0) (p
 -- That number, and the labels and the ten numbers in the columns.
 unfoldable pub readRule : List ℕ → Reply (Labels × Numbers)
 readRule line = reply (noLabels, noNumbers) (readNumber line) (readLabels line, readNumbers line)
-
--- A reply as the crate answers it: its number, labels and numbers.
-abbrev pub contentsOf : Reply (Labels × Numbers) → LineContents
-contentsOf r = record { refusal = r .number; labels = r .values .0; numbers = r .values .1 }

@@ -5,7 +5,8 @@ ghost use mathlib.Core.Bool.{true};
 ghost use mathlib.Core.Path.{_≡_};
 ghost use Rattle.columns.specs.Columns.{readLabels, readNumbers};
 ghost use Rattle.characters.specs.Kinds.{kinds, allowed};
-ghost use Rattle.reading.specs.Read.{valuesNumber, noLabels, noNumbers, readRule, contentsOf};
+ghost use Rattle.reading.specs.Read.{valuesNumber, readRule};
+ghost use Rattle.reading.specs.Answers.{readReply, readNumbered};
 use labels::Labels;
 use labels::Numbers;
 use limits::then;
@@ -13,11 +14,10 @@ use limits::when;
 
 mod values;
 
-// The number of the refusal, 0 where there is none, and what stands in the line, 0 throughout where it is refused.
-pub struct LineContents {
-    pub refusal: u32,
-    pub labels: Labels,
-    pub numbers: Numbers,
+// What the reader answers: what stands in the line, or the number of the refusal.
+pub enum Reading {
+    Line { labels: Labels, numbers: Numbers },
+    Refused(u32),
 }
 
 // What a line is refused for once its characters are those of its columns.
@@ -33,59 +33,33 @@ fn values_refusal(line: &[u8], labels: Labels, numbers: Numbers) -> u32
     then(minus, then(label, clock))
 }
 
-// The answer of a refusal.
-fn refused(number: u32) -> LineContents
-    ensures { λ r. ⌜ r ≡ contentsOf (record { number = number; values = (noLabels, noNumbers) }) ⌝ }
-{
-    LineContents {
-        refusal: number,
-        labels: Labels {
-            constellation: 0,
-            satellite: 0,
-            cl: 0,
-            fr: 0,
-            hc: 0,
-            frc1: 0,
-            frc2: 0,
-            frc3: 0,
-            mjd: 0,
-            start: 0,
-            elv: 0,
-            azth: 0,
-            ioe: 0,
-        },
-        numbers: Numbers {
-            refsv: 0,
-            srsv: 0,
-            refsys: 0,
-            srsys: 0,
-            mdtr: 0,
-            smdt: 0,
-            mdio: 0,
-            smdi: 0,
-            dsg: 0,
-            trkl: 0,
-        },
-    }
-}
-
 // The labels and the numbers in the columns of a line.
-pub fn contents(line: &[u8]) -> LineContents
-    ensures { λ r. ⌜ r ≡ contentsOf (readRule (now (line .entry))) ⌝ }
+pub fn read(line: &[u8]) -> Reading
+    ensures answer { λ r. ⌜ readReply r ≡ readRule (now (line .entry)) ⌝ }
+    ensures variant { λ r. ⌜ readNumbered r ⌝ }
 {
     let characters = characters::refusal(line);
     if characters != 0 {
-        return refused(characters);
+        return Reading::Refused(characters);
     }
     let labels = values::labels(line);
     let numbers = values::numbers(line);
     let refusal = values_refusal(line, labels, numbers);
     if refusal != 0 {
-        return refused(refusal);
+        return Reading::Refused(refusal);
     }
-    LineContents {
-        refusal: 0,
-        labels,
-        numbers,
+    Reading::Line { labels, numbers }
+}
+
+// The number of a reading: that of the refusal, 0 where there is none.
+pub fn reading_number(reading: Reading) -> u32
+    ensures { λ r. ⌜ r ≡ readReply reading .number ⌝ }
+{
+    match reading {
+        Reading::Line {
+            labels: _,
+            numbers: _,
+        } => 0,
+        Reading::Refused(number) => number,
     }
 }

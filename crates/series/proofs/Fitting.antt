@@ -2,7 +2,7 @@
 -- past its n.
 -- Assumes nothing.
 use mathlib.Core.Path.{_≡_, refl, sym, ap, ap₂, _∙_, subst}
-use mathlib.Core.Bool.{false}
+use mathlib.Core.Bool.{true, false, not}
 use mathlib.Core.List.{List, [], _∷_}
 use Prim.Native.Nat.{ℕ, _+_, _*_, _-_, _^_, _≤_, _<_}
 use native.Mathlib.Nat.{le-trans, le-of-eq, le-refl, mul-le-mul, mul-le-mul-left, mul-le-mul-right, one-le-mul, mul-comm}
@@ -24,7 +24,9 @@ use Rattle.whole.specs.Words.{Word, Within, told, partial}
 use Rattle.exact.specs.Corrected.{at, steps}
 use Rattle.exact.specs.Weights.{place}
 use Rattle.exact.specs.Places.{sum-magnitude-place}
-use Rattle.limits.specs.Lists.{anyBeyond}
+use Rattle.limits.specs.Blocks.{blocksFit}
+use Rattle.limits.specs.Refusal.{_when_, _then_}
+use Rattle.limits.specs.Lists.{anyBeyond, rangeRule}
 use Rattle.series.specs.Fit.{total, moment, midpoint, slope, valuesRule, fitRule, valuesLimit}
 use Rattle.limits.specs.Reply.{Reply}
 use Rattle.limits.proofs.Blocks.{blocks-within, within-blocks}
@@ -44,18 +46,9 @@ place-bound n j h = apart (2 * j) (n - 1) n (omega arith) (omega arith)
 
 -- sums over the first k of n values that are inside Fit's limit, n being at most 52
 module _ (l : List ℤ) (e : anyBeyond valuesLimit l ≡ false) (n : ℕ) (h : n ≤ 52) where
-  product-bound : (j : ℕ) → j < n → natAbs (place n j *ℤ at l j) ≤ n * valuesLimit
-  product-bound j k =
-      le-trans (le-of-eq (natAbs-mul (place n j) (at l j))) (mul-le-mul (place-bound n j k) (within-limit valuesLimit l e j))
-
   pub total-part : (k : ℕ) → k ≤ n → natAbs (sum k (at l)) ≤ 52 * valuesLimit
   total-part k m =
       le-trans (partial n k (at l) valuesLimit m (λ j i. within-limit valuesLimit l e j)) (mul-le-mul-right valuesLimit h)
-
-  pub moment-part : (k : ℕ) → k ≤ n → natAbs (sum k (λ j. place n j *ℤ at l j)) ≤ 2704 * valuesLimit
-  moment-part k m =
-      le-trans (partial n k (λ j. place n j *ℤ at l j) (n * valuesLimit) m product-bound)
-      (mul-le-mul h (mul-le-mul-right valuesLimit h))
 
   pub total-bound : natAbs (total n (at l)) ≤ 52 * valuesLimit
   unfolding total
@@ -90,6 +83,18 @@ values-inside l e =
     let a = list-accepted _ _ _ l e in
     let b = blocks-within (length l) (a .0) in
     (b .0, b .1, a .1)
+
+-- and one that they refuse is refused for its count first
+pub values-miscounted : (l : List ℤ) → not (blocksFit (length l)) ≡ true → valuesRule l ≡ 1
+unfolding rangeRule _when_ _then_
+values-miscounted l e = rw e
+
+pub values-beyond : (l : List ℤ) → not (blocksFit (length l)) ≡ false → anyBeyond valuesLimit l ≡ true → valuesRule l ≡ 2
+unfolding rangeRule _when_ _then_
+values-beyond l e h = rw (e, h)
+
+pub values-pass : (l : List ℤ) → not (blocksFit (length l)) ≡ false → anyBeyond valuesLimit l ≡ false → valuesRule l ≡ 0
+values-pass l e h = list-passes _ _ _ l e h
 
 -- n² - 1 and n (n² - 1), for n from 2 to 52
 pub square-bound : (n : ℕ) → n ≤ 52 → n * n - 1 ≤ 2703

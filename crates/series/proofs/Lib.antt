@@ -3,3 +3,4 @@ pub mod Replies
 pub mod Fitting
 pub mod Residuals
 pub mod Thresholds
+pub mod Running

@@ -6,14 +6,15 @@
 mod number;
 mod sums;
 
+use limits::blocks_fit;
 use number::nearest;
+use number::nearest_by_count;
 use number::nearest_by_span;
 use sums::CAP;
 use sums::dsg;
 use sums::list_refusal;
 use sums::squares;
 use sums::sums;
-use sums::values_refusal;
 use sums::weighted;
 ghost use mathlib.Core.Path.{_≡_};
 ghost use Rattle.series.specs.Answers.{smoothReply, smoothNumbered, fitReply, fitNumbered, scatterReply, scatterNumbered};
@@ -61,14 +62,16 @@ pub fn fit(values: &[i64]) -> Fitted
     ensures answer { λ r. ⌜ fitReply r ≡ fitRule (now (values .entry)) ⌝ }
     ensures variant { λ r. ⌜ fitNumbered r ⌝ }
 {
-    let refusal = values_refusal(values);
-    if refusal != 0 {
-        return Fitted::Refused(refusal);
-    }
     let n = values.len();
+    if !blocks_fit(n) {
+        return Fitted::Refused(1);
+    }
     let s = sums(values);
+    if s.outside {
+        return Fitted::Refused(2);
+    }
     Fitted::Line {
-        midpoint: nearest(s.total, 1000 * n as u32),
+        midpoint: nearest_by_count(s.total, n),
         slope: nearest_by_span(4 * s.moment, 10, n),
     }
 }
@@ -78,12 +81,14 @@ pub fn scatter(values: &[i64]) -> Scattered
     ensures answer { λ r. ⌜ scatterReply r ≡ scatterRule (now (values .entry)) ⌝ }
     ensures variant { λ r. ⌜ scatterNumbered r ⌝ }
 {
-    let refusal = values_refusal(values);
-    if refusal != 0 {
-        return Scattered::Refused(refusal);
-    }
     let n = values.len();
+    if !blocks_fit(n) {
+        return Scattered::Refused(1);
+    }
     let s = sums(values);
+    if s.outside {
+        return Scattered::Refused(2);
+    }
     let q = squares(values, s.total, s.moment);
     if CAP * n as u64 <= q {
         return Scattered::Refused(6);

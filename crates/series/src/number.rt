@@ -31,6 +31,17 @@ pub fn nearest(n: i64, d: u32) -> i64
     floor(n + (d / 2) as i64, d as u64)
 }
 
+// The nearest whole number to numerator / 1000n: a midpoint of n values in tenths. The divisor of a full track is written out, as below.
+pub fn nearest_by_count(numerator: i64, n: usize) -> i64
+    requires { ⌜ Within (2 ^ 63 - 2 ^ 31) numerator × (2 ≤ n) × (n ≤ 52) ⌝ }
+    ensures { λ r. ⌜ r ≡ nearest numerator (1000 * n) ⌝ }
+{
+    if n == 52 {
+        return nearest(numerator, 52000);
+    }
+    nearest(numerator, 1000 * n as u32)
+}
+
 // The nearest whole number to numerator / (s n (n² - 1)), for values in steps of which a picosecond has s. A full track has 52
 // values: their n (n² - 1) is written out, as a quotient by a constant costs less.
 pub fn nearest_by_span(numerator: i64, s: u32, n: usize) -> i64

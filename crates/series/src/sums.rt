@@ -1,7 +1,7 @@
 // Lists of values: the refusals that they share, the weighted sum of a block, the sums of a fit, the squared residuals, and DSG.
 use super::number::nearest_by_span;
 use limits::any_outside;
-use limits::blocks_fit;
+use limits::outside;
 use limits::then;
 use limits::when;
 use whole::magnitude;
@@ -16,7 +16,7 @@ ghost use Rattle.whole.specs.Words.{Within};
 ghost use Rattle.exact.specs.Corrected.{at, steps};
 ghost use Rattle.exact.specs.Weights.{weights, place};
 ghost use Rattle.limits.specs.Lists.{anyBeyond, rangeRule};
-ghost use Rattle.series.specs.Fit.{total, moment, valuesRule, valuesLimit};
+ghost use Rattle.series.specs.Fit.{total, moment, valuesLimit};
 ghost use Rattle.series.specs.Scatter.{squares, threshold, dsg};
 
 // The weights of the parabola's value at the middle of fifteen measurements, over 1105.
@@ -48,18 +48,6 @@ pub fn list_refusal(values: &[i64], wrong: bool, low: i64, high: i64) -> u32
     then(when(1, wrong), when(2, any_outside(values, low, high)))
 }
 
-// The same for the values of Fit and Scatter: 4 to 52 of them, each within ±2 × 10^13 tenths.
-pub fn values_refusal(values: &[i64]) -> u32
-    ensures { λ r. ⌜ r ≡ valuesRule (now (values .entry)) ⌝ }
-{
-    list_refusal(
-        values,
-        !blocks_fit(values.len()),
-        -20_000_000_000_000,
-        20_000_000_000_000,
-    )
-}
-
 // The sum of fifteen measurements, each times its weight.
 pub fn weighted(measurements: &[i64]) -> i64
     requires { ⌜ (length (now measurements) ≡ 15) × (anyBeyond (10 ^ 12) (now measurements) ≡ false) ⌝ }
@@ -75,8 +63,9 @@ pub fn weighted(measurements: &[i64]) -> i64
     sum
 }
 
-// S and T of document 01: the sum of the values, and that of each times its place.
+// Whether a value is outside its limit; else S and T of document 01: the sum of the values, and that of each times its place.
 pub struct Moments {
+    pub outside: bool,
     pub total: i64,
     pub moment: i64,
 }
@@ -89,24 +78,53 @@ pub fn place(n: usize, j: usize) -> i64
     2 * (j as i64) - (n - 1) as i64
 }
 
-// S and T of at most 52 values.
-pub fn sums(values: &[i64]) -> Moments
-    requires { ⌜ (length (now values) ≤ 52) × (anyBeyond valuesLimit (now values) ≡ false) ⌝ }
-    ensures { λ r. ⌜ (r .total ≡ total (length (now (values .entry))) (at (now (values .entry))))
-        × (r .moment ≡ moment (length (now (values .entry))) (at (now (values .entry)))) ⌝ }
-    ensures { λ r. ⌜ Within (52 * valuesLimit) (r .total) × Within (1352 * valuesLimit) (r .moment) ⌝ }
+// S and T of n values, 1 to 52 of them, up to the first that is outside ±2 × 10^13 tenths. T comes from the sums on the way, without a product for each
+// value.
+fn sums_of(values: &[i64], n: usize) -> Moments
+    requires { ⌜ (n ≡ length (now values)) × (1 ≤ n) × (n ≤ 52) ⌝ }
+    ensures { λ r. ⌜ r .outside ≡ anyBeyond valuesLimit (now (values .entry)) ⌝ }
+    ensures { λ r. ⌜ (r .outside ≡ false → ((r .total ≡ total (length (now (values .entry))) (at (now (values .entry))))
+        × (r .moment ≡ moment (length (now (values .entry))) (at (now (values .entry)))))
+        × (Within (52 * valuesLimit) (r .total) × Within (1352 * valuesLimit) (r .moment))) ⌝ }
 {
-    let n = values.len();
     let mut total: i64 = 0;
-    let mut moment: i64 = 0;
+    let mut totals: i64 = 0;
     let mut j = 0;
     while j < n {
         let value = values[j];
+        if outside(-20_000_000_000_000, 20_000_000_000_000, value) {
+            return Moments {
+                outside: true,
+                total: 0,
+                moment: 0,
+            };
+        }
+        let earlier = total;
         total += value;
-        moment += place(n, j) * value;
+        totals += earlier;
         j += 1;
     }
-    Moments { total, moment }
+    let moment = (n - 1) as i64 * total - 2 * totals;
+    Moments {
+        outside: false,
+        total,
+        moment,
+    }
+}
+
+// The same, with a loop of its own for a full track, whose length the compiler knows.
+pub fn sums(values: &[i64]) -> Moments
+    requires { ⌜ (1 ≤ length (now values)) × (length (now values) ≤ 52) ⌝ }
+    ensures { λ r. ⌜ r .outside ≡ anyBeyond valuesLimit (now (values .entry)) ⌝ }
+    ensures { λ r. ⌜ (r .outside ≡ false → ((r .total ≡ total (length (now (values .entry))) (at (now (values .entry))))
+        × (r .moment ≡ moment (length (now (values .entry))) (at (now (values .entry)))))
+        × (Within (52 * valuesLimit) (r .total) × Within (1352 * valuesLimit) (r .moment))) ⌝ }
+{
+    let n = values.len();
+    if n == 52 {
+        return sums_of(values, 52);
+    }
+    sums_of(values, n)
 }
 
 // The residual of one of n values, at a place, by the two sums of its list. The value is taken out of the fraction: with it the

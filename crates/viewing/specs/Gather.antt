@@ -1,14 +1,10 @@
--- What the functions that gather the report promise each other: how one difference more changes it, how large its numbers are, and what a refusal
--- answers.
+-- What the functions that gather the report promise each other: how one difference more changes it and how large its numbers are.
 -- Assumes nothing.
 use Prim.Native.Nat.{ℕ, _*_, _≤_}
 use mathlib.Core.Bool.{cond, _||_}
-use mathlib.Core.List.{[]}
 use lib.IntN.{ℤ, pos, natAbs, _+ℤ_}
 use lib.Signed.{ltZ}
 use Rattle.viewing.specs.declared.Figures.{Figures}
-use Rattle.viewing.specs.declared.Viewed.{Viewed}
-use Rattle.viewing.specs.View.{figures, viewedOf}
 
 -- One difference more. The first one is the smallest and the largest by itself.
 unfoldable pub counted : Figures → ℤ → Figures
@@ -28,7 +24,3 @@ widest = 19999999998
 pub record Bounded (most : ℕ) (f : Figures) : Type 0 where
   pub pairs : natAbs (f .pairs) ≤ most
   pub sum : natAbs (f .sum) ≤ widest * most
-
--- The answer of a refusal: its number, and no figures.
-abbrev pub refusedBy : ℕ → Viewed
-refusedBy number = viewedOf (record { number = number; values = figures [] })

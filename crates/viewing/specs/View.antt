@@ -14,7 +14,6 @@ use Rattle.columns.specs.Columns.{readNumbers}
 use Rattle.linefile.specs.Files.{columnsOf, lines, fileNumber}
 use Rattle.linefile.specs.Partners.{partners}
 use Rattle.viewing.specs.declared.Figures.{Figures}
-use Rattle.viewing.specs.declared.Viewed.{Viewed}
 
 -- TRKL of a line in seconds, which has no sign, and its REFSYS in 0.1 ns.
 unfoldable pub trklOf : List ℕ → ℕ
@@ -83,7 +82,3 @@ viewNumber first second =
 -- That number, and the report.
 unfoldable pub viewRule : (first second : List ℕ) → Reply Figures
 viewRule first second = reply (figures []) (viewNumber first second) (figures (viewed first second))
-
--- The same as it is answered.
-abbrev pub viewedOf : Reply Figures → Viewed
-viewedOf r = record { number = r .number; figures = r .values }

@@ -1,6 +1,6 @@
 //! Where an accepted block is spoilt so that it is refused after a known part of the work.
 
-use crate::case::{CLOCK, TROPOSPHERE};
+use crate::case::{CLOCK, GEOMETRY, TROPOSPHERE};
 
 pub struct Stage {
     /// the work between the refusal before and this one
@@ -13,12 +13,13 @@ pub const fn stage(part: &'static str, answer: u32, spoil: fn(&mut Vec<u8>)) -> 
     Stage { part, answer, spoil }
 }
 
-/// In the order of the refusals, named as in the table of docs/SPEED.md.
+/// In the order in which the proved library refuses, named as in the table of docs/SPEED.md. Plain Rust tests the measurements before the
+/// corrections, so its part "limits of corrections" has the measurements' limits too.
 pub const STAGES: [Stage; 6] = [
     stage("length and sizes", 1, |block| block[2] -= 1),
-    stage("decoding", 2, |block| put(block, 58, i64::MAX)),
-    stage("limits", 2, last_clock_beyond),
-    stage("smoothing, correcting, four fits", 5, negative_troposphere),
+    stage("decoding", 2, first_of_both_beyond),
+    stage("limits of corrections", 2, last_clock_beyond),
+    stage("scan, smoothing, correcting, four fits", 5, negative_troposphere),
     stage("scatter", 7, |block| block[5] = 0),
     stage("labels and start, text", 0, |_| {}),
 ];
@@ -34,6 +35,13 @@ pub fn blocks(block: &[u8]) -> usize {
 
 fn correction(block: &[u8], which: usize, j: usize) -> usize {
     58 + 120 * blocks(block) + 40 * j + 8 * which
+}
+
+/// The first number that either side tests: the first geometry, and in plain Rust the first measurement.
+fn first_of_both_beyond(block: &mut Vec<u8>) {
+    let geometry = correction(block, GEOMETRY, 0);
+    put(block, geometry, i64::MAX);
+    put(block, 58, i64::MAX);
 }
 
 fn last_clock_beyond(block: &mut Vec<u8>) {

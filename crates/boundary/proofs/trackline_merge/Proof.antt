@@ -3,10 +3,10 @@
 use mathlib.Core.Path.{sym, ap, _∙_}
 use native.Mathlib.Omega.{arith}
 use lib.ListN.{length}
-use Rattle.files.specs.declared.Merged.{Merged}
-use Rattle.files.specs.Answers.{mergeReply}
+use Rattle.merging.specs.declared.Merged.{Merged}
+use Rattle.merging.specs.Answers.{mergeReply}
 use Rattle.merging.specs.Merge.{mergedFile}
-use Rattle.files.proofs.Replies.{accepted-case, refused-case}
+use Rattle.merging.proofs.Answers.{accepted-case, refused-case}
 use Rattle.boundary.specs.Values.{placeAfter}
 use Rattle.boundary.proofs.Rows.{place-kept}
 use borrow.Author.Needs.{needs}

@@ -2,9 +2,9 @@
 -- Assumes nothing.
 use mathlib.Core.Path.{ap, ap₂, _∙_}
 use native.Mathlib.Omega.{arith}
-use Rattle.reader.specs.declared.Reading.{Reading}
-use Rattle.reader.specs.Answers.{readReply}
-use Rattle.reader.proofs.Readings.{accepted-case, accepted-values, refused-case, refused-number}
+use Rattle.reading.specs.declared.Reading.{Reading}
+use Rattle.reading.specs.Answers.{readReply}
+use Rattle.reading.proofs.Readings.{accepted-case, accepted-values, refused-case, refused-number}
 use Rattle.columns.specs.Columns.{readLabels, readNumbers}
 use Rattle.reading.specs.Read.{readNumber}
 use Rattle.boundary.specs.Values.{valuesOf, readAnswer, readAfter}

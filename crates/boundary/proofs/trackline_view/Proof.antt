@@ -7,11 +7,11 @@ use mir.Syntax.{w64}
 use mir.Val.{toZ, ofZ}
 use mir.Facts.{toZ-ofZ}
 use Rattle.viewing.specs.declared.Figures.{Figures}
-use Rattle.files.specs.declared.View.{View}
+use Rattle.viewing.specs.declared.View.{View}
 use Rattle.viewing.specs.View.{figures, viewed, viewNumber}
-use Rattle.files.specs.Answers.{viewReply}
+use Rattle.viewing.specs.Answers.{viewReply}
 use Rattle.viewing.proofs.Gathering.{Fits}
-use Rattle.files.proofs.Reports.{refused-case, reported-case}
+use Rattle.viewing.proofs.Answers.{refused-case, reported-case}
 use Rattle.boundary.specs.Values.{reportOf, viewAnswer, viewAfter}
 use Rattle.boundary.proofs.Rows.{row-refused, row-put}
 use borrow.Author.Needs.{needs}

@@ -1,15 +1,17 @@
--- `correcting::correct` meets its contract: each test tells what is answered.
+-- `correcting::correct` meets its contract: each test tells what is answered, and how many blocks have their values in the rows.
 -- Assumes nothing.
 use mathlib.Core.Bool.{false, _||_}
-use mathlib.Core.Path.{_≡_, sym, ap, ap₂, _∙_}
-use Prim.Native.Nat.{_^_}
+use mathlib.Core.List.{List}
+use mathlib.Core.Path.{_≡_, refl, sym, ap, ap₂, _∙_, subst}
+use Prim.Native.Nat.{ℕ, _^_}
+use lib.IntN.{ℤ}
 use mir.Facts.{toZ-ofZ}
 use Rattle.limits.specs.Limits.{beyond}
-use Rattle.limits.specs.Scan.{scanRule}
-use Rattle.limits.specs.declared.Scanned.{Scanned}
 use Rattle.exact.specs.Corrected.{Given}
-use Rattle.correcting.specs.Correct.{given, wrongSizes, outOfLimits}
-use Rattle.correcting.proofs.Refusals.{sizes-refused, limits-refused}
+use Rattle.correcting.specs.Correct.{given, wrongSizes, valueA, valueB, valueC, valueD}
+use Rattle.correcting.specs.Answer.{othersBeyond, filled, wholeBlocks, correctedBlocks}
+use Rattle.correcting.proofs.Arrays.{filled-none}
+use Rattle.correcting.proofs.Refusals.{sized, sizes-refused, others-refused, by-measurements}
 use borrow.Author.Needs.{needs}
 use Rattle.correcting.proofs.correct.Statement.{statement}
 use Rattle.correcting.proofs.correct.Tie as tie
@@ -32,75 +34,90 @@ sizes-fit c = sym (sizes-are (c .before)) ∙ c .if1 .left
 
 -- the delays are those that were passed
 delays-are : (c : tie.After-delays-beyond)
-    → let a = c .before .before .before .before .before .before .args in
+    → let a = c .before .before .before .before .args in
     c .delays-beyond .result
     ≡ beyond (10 ^ 10) (a .int) || beyond (10 ^ 10) (a .cab) || beyond (10 ^ 10) (a .refdly) || beyond (10 ^ 10) (a .gd)
 delays-are c =
-    let f = c .before .before .before .before .before .before .fits in
+    let f = c .before .before .before .before .fits in
     simp (toZ-ofZ (f .int), toZ-ofZ (f .cab), toZ-ofZ (f .refdly), toZ-ofZ (f .gd)) at (c .delays-beyond .ensures)
 
--- and so are the numbers' limits
-limits-are : (c : tie.After-delays-beyond)
-    → let k = c .before .before in
-    let o = k .before in
-    o .scan .result .outside || k .columns-beyond .result || c .delays-beyond .result ≡ outOfLimits (g (o .before .before .before))
-unfolding outOfLimits scanRule
-limits-are c =
-    let k = c .before .before in
-    let o = k .before in
-    ap₂ _||_ (ap₂ _||_ (ap (λ (s : Scanned). s .outside) (o .scan .ensures)) (k .columns-beyond .ensures)) (delays-are c)
+-- and so are the limits of all but the measurements
+others-are : (c : tie.After-delays-beyond)
+    → let k = c .before in
+    k .columns-beyond .result || c .delays-beyond .result ≡ othersBeyond (g (k .before .before .before))
+unfolding othersBeyond
+others-are c = ap₂ _||_ (c .before .columns-beyond .ensures) (delays-are c)
+
+-- a row that keeps what it held
+kept : (f : ℕ → ℤ) (row : List ℤ) {k : ℕ} → k ≡ 0 → row ≡ filled k f row
+kept f row e = filled-none f row ∙ ap (λ (k : ℕ). filled k f row) (sym e)
 
 sizes-wrong-requires : tie.Need-sizes-wrong-requires
 sizes-wrong-requires c κs = search needs
 
-refused-requires : tie.Need-refused-requires
-refused-requires c κs = search needs
-
 returns : tie.Need-returns
 returns c =
-    let n = c .before .before in
-    c .refused .ensures ∙ sym (sizes-refused (g (n .before)) (sym (sizes-are n) ∙ c .before .if1 .taken))
-
-scan-requires : tie.Need-scan-requires
-scan-requires c κs = search needs
+    let s = c .before .before in
+    let a = s .args in
+    let r = sizes-refused (g s) (sym (sizes-are (c .before)) ∙ c .if1 .taken) in
+    (r .0, (kept _ (a .a .now) (r .1), (kept _ (a .b .now) (r .1), (kept _ (a .c .now) (r .1), kept _ (a .d .now) (r .1)))))
 
 columns-beyond-requires : tie.Need-columns-beyond-requires
-columns-beyond-requires c κs = search needs
+columns-beyond-requires c κs =
+    let z = sized (g (c .before .before)) (sizes-fit c) in
+    (z .size-relativity, z .size-ionosphere, z .size-troposphere, z .size-clock)
 
 delays-beyond-requires : tie.Need-delays-beyond-requires
 delays-beyond-requires c κs = search needs
 
-refused-requires-2 : tie.Need-refused-requires-2
-refused-requires-2 c κs = search needs
-
 returns-2 : tie.Need-returns-2
 returns-2 c =
-    let n = c .before .before in
-    let e = n .before .before .before .before in
-    c .refused2 .ensures ∙ sym (limits-refused (g (e .before .before)) (sizes-fit e) (sym (limits-are n) ∙ c .before .if2 .taken))
+    let d = c .before in
+    let e = d .before .before in
+    let s = e .before .before in
+    let a = s .args in
+    let r = others-refused (g s) (sizes-fit e) (sym (others-are d) ∙ c .if2 .taken) in
+    (r .0, (kept _ (a .a .now) (r .1), (kept _ (a .b .now) (r .1), (kept _ (a .c .now) (r .1), kept _ (a .d .now) (r .1)))))
 
-corrected-values-requires : tie.Need-corrected-values-requires
-corrected-values-requires c κs =
-    let e = c .before .before .before .before .before in
+correct-blocks-requires : tie.Need-correct-blocks-requires
+correct-blocks-requires c κs =
+    let k = c .before .before .before .before in
+    let d = k .before in
+    let e = d .before .before in
     let f = e .before .before .fits in
-    simp (toZ-ofZ (f .int), toZ-ofZ (f .cab), toZ-ofZ (f .refdly), toZ-ofZ (f .gd)) (sizes-fit e, sym (limits-are (c .before)) ∙ c .if2 .left)
+    simp (toZ-ofZ (f .int), toZ-ofZ (f .cab), toZ-ofZ (f .refdly), toZ-ofZ (f .gd)) (sizes-fit e, sym (others-are d) ∙ k .if2 .left)
 
 returns-3 : tie.Need-returns-3
 returns-3 c =
-    let f = c .before .before .before .before .before .before .before .before .fits in
-    simp (toZ-ofZ (f .int), toZ-ofZ (f .cab), toZ-ofZ (f .refdly), toZ-ofZ (f .gd)) at (c .corrected-values .ensures)
+    let k = c .before .before .before .before .before in
+    let d = k .before in
+    let e = d .before .before in
+    let s = e .before .before in
+    let a = s .args in
+    let f = s .fits in
+    let r = by-measurements (g s) (sizes-fit e) (sym (others-are d) ∙ k .if2 .left) in
+    let now = c .correct-blocks .ensures in (
+      now .0 ∙ r .0,
+      (
+        (simp (toZ-ofZ (f .int), toZ-ofZ (f .cab), toZ-ofZ (f .refdly), toZ-ofZ (f .gd)) at (now .1 .0)) ∙ ap (λ (k : ℕ). filled k (valueA (g s)) (a .a .now)) (sym (r .1)),
+        (
+          (simp (toZ-ofZ (f .int), toZ-ofZ (f .cab), toZ-ofZ (f .refdly), toZ-ofZ (f .gd)) at (now .1 .1 .0)) ∙ ap (λ (k : ℕ). filled k (valueB (g s)) (a .b .now)) (sym (r .1)),
+          (
+            (simp (toZ-ofZ (f .int), toZ-ofZ (f .cab), toZ-ofZ (f .refdly), toZ-ofZ (f .gd)) at (now .1 .1 .1 .0)) ∙ ap (λ (k : ℕ). filled k (valueC (g s)) (a .c .now)) (sym (r .1)),
+            (simp (toZ-ofZ (f .int), toZ-ofZ (f .cab), toZ-ofZ (f .refdly), toZ-ofZ (f .gd)) at (now .1 .1 .1 .1)) ∙ ap (λ (k : ℕ). filled k (valueD (g s)) (a .d .now)) (sym (r .1)),
+          ),
+        ),
+      ),
+    )
 
 pub correct-spec : {M : Type 1} → statement M
 correct-spec =
     tie.close
     (tie.spec
     sizes-wrong-requires
-    refused-requires
     returns
-    scan-requires
     columns-beyond-requires
     delays-beyond-requires
-    refused-requires-2
     returns-2
-    corrected-values-requires
+    correct-blocks-requires
     returns-3)

@@ -1,27 +1,45 @@
 -- `hire::full_track` meets its contract: the lists are filled whole.
 -- Assumes nothing.
-use Rattle.hire.proofs.Lists.{filled-whole, answered}
+use Rattle.hire.proofs.Lists.{answered}
 use borrow.Author.Needs.{needs}
 use Rattle.hire.proofs.full_track.Statement.{statement}
 use Rattle.hire.proofs.full_track.Tie as tie
 
-seconds-requires : tie.Need-seconds-requires
-seconds-requires c κs = search needs
+slice-aggregate-fill : tie.Need-slice-aggregate-fill
+slice-aggregate-fill c = search needs
 
-column-requires : tie.Need-column-requires
-column-requires c κs = search needs
+fill-requires : tie.Need-fill-requires
+fill-requires c κs = search needs
 
-column-requires-2 : tie.Need-column-requires-2
-column-requires-2 c κs = search needs
+slice-aggregate-fill-2 : tie.Need-slice-aggregate-fill-2
+slice-aggregate-fill-2 c = search needs
 
-column-requires-3 : tie.Need-column-requires-3
-column-requires-3 c κs = search needs
+fill-requires-2 : tie.Need-fill-requires-2
+fill-requires-2 c κs = search needs
 
-column-requires-4 : tie.Need-column-requires-4
-column-requires-4 c κs = search needs
+slice-aggregate-fill-3 : tie.Need-slice-aggregate-fill-3
+slice-aggregate-fill-3 c = search needs
 
-column-requires-5 : tie.Need-column-requires-5
-column-requires-5 c κs = search needs
+fill-requires-3 : tie.Need-fill-requires-3
+fill-requires-3 c κs = search needs
+
+slice-aggregate-fill-4 : tie.Need-slice-aggregate-fill-4
+slice-aggregate-fill-4 c = search needs
+
+fill-requires-4 : tie.Need-fill-requires-4
+fill-requires-4 c κs = search needs
+
+slice-aggregate-fill-5 : tie.Need-slice-aggregate-fill-5
+slice-aggregate-fill-5 c = search needs
+
+fill-requires-5 : tie.Need-fill-requires-5
+fill-requires-5 c κs = search needs
+
+slice-aggregate-fill-6 : tie.Need-slice-aggregate-fill-6
+slice-aggregate-fill-6 c = search needs
+
+fill-requires-6 : tie.Need-fill-requires-6
+fill-requires-6 c κs = search needs
 
 slice-aggregate-with-delays : tie.Need-slice-aggregate-with-delays
 slice-aggregate-with-delays c = search needs
@@ -46,37 +64,31 @@ with-delays-requires c κs = search needs
 
 returns : tie.Need-returns
 returns c =
-    let clock = c .before in
-    let troposphere = clock .before in
-    let ionosphere = troposphere .before in
-    let relativity = ionosphere .before in
-    let geometry = relativity .before in
-    let measurements = geometry .before in
-    let k5 = measurements .before in
-    let k4 = k5 .before in
-    let k3 = k4 .before in
-    let k2 = k3 .before in
-    let k1 = k2 .before in
-    let m = k1 .before in
-    answered 52 (m .before .before .args .block .now)
-    (filled-whole _ _ _ _ _ (m .seconds .ensures) (slice-aggregate-with-delays measurements))
-    (filled-whole _ _ _ _ _ (k1 .column .ensures) (slice-aggregate-with-delays-2 geometry))
-    (filled-whole _ _ _ _ _ (k2 .column2 .ensures) (slice-aggregate-with-delays-3 relativity))
-    (filled-whole _ _ _ _ _ (k3 .column3 .ensures) (slice-aggregate-with-delays-4 ionosphere))
-    (filled-whole _ _ _ _ _ (k4 .column4 .ensures) (slice-aggregate-with-delays-5 troposphere))
-    (filled-whole _ _ _ _ _ (k5 .column5 .ensures) (slice-aggregate-with-delays-6 clock))
-    (c .with-delays .result) (c .with-delays .ensures)
+    let k5 = c .before .before .before .before .before .before .before .before in
+    let k4 = k5 .before .before .before in
+    let k3 = k4 .before .before .before in
+    let k2 = k3 .before .before .before in
+    let k1 = k2 .before .before .before in
+    let m = k1 .before .before .before in
+    answered 52 (m .before .before .before .args .block .now) (m .fill .ensures) (k1 .fill2 .ensures) (k2 .fill3 .ensures) (k3 .fill4 .ensures) (k4 .fill5 .ensures)
+    (k5 .fill6 .ensures) (c .with-delays .result) (c .with-delays .ensures)
 
 pub full-track-spec : {M : Type 1} → statement M
 full-track-spec =
     tie.close
     (tie.spec
-    seconds-requires
-    column-requires
-    column-requires-2
-    column-requires-3
-    column-requires-4
-    column-requires-5
+    slice-aggregate-fill
+    fill-requires
+    slice-aggregate-fill-2
+    fill-requires-2
+    slice-aggregate-fill-3
+    fill-requires-3
+    slice-aggregate-fill-4
+    fill-requires-4
+    slice-aggregate-fill-5
+    fill-requires-5
+    slice-aggregate-fill-6
+    fill-requires-6
     slice-aggregate-with-delays
     slice-aggregate-with-delays-2
     slice-aggregate-with-delays-3

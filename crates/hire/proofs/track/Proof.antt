@@ -1,6 +1,14 @@
 -- `hire::track` meets its contract: the lists are those of as many blocks as the second size says.
 -- Assumes nothing.
-use mathlib.Core.Path.{sym, _∙_, subst}
+use mathlib.Core.Path.{_≡_, sym, _∙_, subst}
+use mathlib.Core.Bool.{true, _&&_}
+use mathlib.Core.List.{List}
+use Prim.Native.Nat.{ℕ, _≤_}
+use native.Mathlib.Nat.{le-of-eq}
+use lib.Dec.{T, eqb, eqb→eq}
+use lib.ListN.{length, take}
+use lib.Seq.{length-take-le, take-all}
+use mir.Facts.{and-yes}
 use Rattle.hire.specs.Hire.{blocksIn, blockGiven}
 use Rattle.hire.proofs.Lists.{Promised, fits-most, unfit-alike}
 use borrow.Author.Needs.{needs}
@@ -13,15 +21,30 @@ unsigned16-requires c κs = search needs
 cast-n : tie.Need-cast-n
 cast-n c = search needs
 
+-- what the test for a full block tells
+both : {a m b n : ℕ} → eqb a m && eqb b n ≡ true → (a ≡ m) × (b ≡ n)
+both {a} {m} {b} {n} e = let t = and-yes (eqb a m) (eqb b n) (subst T (sym e) tt) in (eqb→eq a m (t .0), eqb→eq b n (t .1))
+
+full : (c : tie.Then1) → let u = c .before in (u .unsigned16 .result ≡ 52) × (length (u .before .before .args .block .now) ≡ 8378)
+full c = both (c .if1 .taken)
+
+slice-aggregate-full-track : tie.Need-slice-aggregate-full-track
+slice-aggregate-full-track c =
+    let h : 8378 ≤ length (c .before .before .before .before .args .block .now) = le-of-eq (sym (full (c .before) .1)) in
+    sym (length-take-le 8378 (c .before .before .before .before .args .block .now) h)
+
 full-track-requires : tie.Need-full-track-requires
 full-track-requires c κs = search needs
 
 returns : tie.Need-returns
 unfolding blocksIn blockGiven
 returns c =
-    let u = c .before .before in
+    let t = c .before .before in
+    let u = t .before in
     let b = u .before .before .args .block .now in
-    subst (Promised b (c .full-track .result)) (sym (c .before .if1 .taken) ∙ u .unsigned16 .ensures) (c .full-track .ensures)
+    let r = c .full-track .result in
+    let whole : take 8378 b ≡ b = take-all 8378 b (le-of-eq (full t .1)) in
+    subst (Promised b r) (sym (full t .0) ∙ u .unsigned16 .ensures) (subst (λ (l : List ℕ). Promised l r 52) whole (c .full-track .ensures))
 
 blocks-fit-requires : tie.Need-blocks-fit-requires
 blocks-fit-requires c κs = search needs
@@ -54,6 +77,7 @@ track-spec =
     (tie.spec
     unsigned16-requires
     cast-n
+    slice-aggregate-full-track
     full-track-requires
     returns
     blocks-fit-requires

@@ -2,13 +2,16 @@
 -- Assumes nothing.
 use borrow.Author.Needs.{needs}
 use native.Mathlib.Omega.{arith}
-use mathlib.Core.Path.{_≡_, sym, ap, _∙_}
+use mathlib.Core.Path.{_≡_, sym, ap, ap₂, _∙_}
 use Prim.Native.Nat.{_<_}
 use lib.ListN.{length}
 use Rattle.labels.specs.declared.Labels.{Labels}
+use Rattle.limits.specs.declared.Numbers.{Numbers}
+use Rattle.fit.specs.Found.{foundNumber, foundNumbers}
+use Rattle.fit.proofs.Tracks.{found-number, found-some}
 use Rattle.line.specs.Line.{lineAnswer, lineAfter}
 use Rattle.line.specs.Block.{sizesNumber}
-use Rattle.line.proofs.Blocks.{sizes-refuse, track-number, track-refuses, refused, written}
+use Rattle.line.proofs.Blocks.{sizes-refuse, track-refuses, refused, written}
 use Rattle.line.proofs.block.Statement.{statement}
 use Rattle.line.proofs.block.Tie as tie
 
@@ -31,16 +34,27 @@ passed c = sym (c .before .sizes-refusal .ensures) ∙ c .if1 .left
 track-requires : tie.Need-track-requires
 track-requires c κs = search needs
 
+enum-known-found : tie.Need-enum-known-found
+enum-known-found c = search needs
+
+enum-told : tie.Need-enum-told
+enum-told c = search needs
+
+found-number-requires : tie.Need-found-number-requires
+found-number-requires c κs = search needs
+
 returns-2 : tie.Need-returns-2
 returns-2 c =
-    let e = c .before .before in
+    let t = c .before .before .before in
+    let e = t .before in
     let a = e .before .before .before .before .args in
     let b = a .block .now in
     let l = a .lent .now in
-    let t = c .before .track in
-    let h : 0 < t .result .refusal = omega (arith, c .if2 .taken) in
-    refused b l (t .result .refusal) h
-    (track-refuses b (length l) (passed e) (t .result .refusal) (track-number _ (t .result) (t .ensures .0)) h)
+    let told = c .before .enum-told .given .1 in
+    let number = c .found-number .ensures in
+    let h : 0 < c .found-number .result = rw (number ∙ ap foundNumber told) (found-some _ (t .track .ensures .0) told) in
+    refused b l (c .found-number .result) h
+    (track-refuses b (length l) (passed e) (c .found-number .result) (number ∙ found-number _ (t .track .result) (t .track .ensures .0)) h)
 
 labels-requires : tie.Need-labels-requires
 labels-requires c κs = search needs
@@ -55,17 +69,20 @@ returns-3 : tie.Need-returns-3
 returns-3 c =
     let w = c .before .before in
     let n = w .before .before in
-    let i = n .before .before in
-    let t = i .before in
+    let k = n .before in
+    let t = k .before .before .before in
     let e = t .before in
     let a = e .before .before .before .before .args in
     let b = a .block .now in
     let l = a .lent .now in
+    let x = t .track .result in
+    let told = k .before .found .given .1 in
     let labels = n .labels .ensures in
-    written b l (t .track .result) (passed e) (t .track .ensures .0) (t .track .ensures .1) (i .if2 .left)
+    let numbers = sym (ap foundNumbers told) in
+    written b l x (passed e) (t .track .ensures .0) (t .track .ensures .1) (ap foundNumber told)
     (w .line .result) (w .line .last .1 .1 .0)
-    (w .line .ensures .0 ∙ ap (λ (x : Labels). lineAnswer x (t .track .result .«record» .numbers) (length l)) labels)
-    (w .line .ensures .1 ∙ ap (λ (x : Labels). lineAfter x (t .track .result .«record» .numbers) l) labels)
+    (w .line .ensures .0 ∙ ap₂ (λ (y : Labels) (m : Numbers). lineAnswer y m (length l)) labels numbers)
+    (w .line .ensures .1 ∙ ap₂ (λ (y : Labels) (m : Numbers). lineAfter y m l) labels numbers)
 
 pub block-spec : {M : Type 1} → statement M
 block-spec =
@@ -74,6 +91,9 @@ block-spec =
     sizes-refusal-requires
     returns
     track-requires
+    enum-known-found
+    enum-told
+    found-number-requires
     returns-2
     labels-requires
     line-requires

@@ -13,7 +13,7 @@ use Rattle.reader.specs.Part.{PartFrom}
 use Rattle.reader.specs.Comment.{commentOffset}
 use Rattle.reading.specs.Read.{readNumber}
 use Rattle.reading.proofs.Refusals.{accepted}
-use Rattle.reader.proofs.Readings.{accepted-case, refused-case}
+use Rattle.reading.proofs.Readings.{accepted-case, refused-case}
 use Rattle.reader.proofs.Comments.{offset-accepted, offset-refused}
 use borrow.Author.Needs.{needs}
 use Rattle.reader.proofs.comment.Statement.{statement}

@@ -1,206 +1,260 @@
--- `fit::results::ten_numbers` meets its contract: each refusal comes where the rule has it.
+-- `fit::results::ten_numbers` meets its contract: Fit refuses none of the values, which are inside their limit, and the numbers are those of the
+-- record.
 -- Assumes nothing.
-use mathlib.Core.Path.{_≡_, sym, ap, ap₂, _∙_, subst}
-use mathlib.Core.Bool.{true, false}
-use Prim.Native.Nat.{ℕ, _<_}
+use borrow.Author.Needs.{needs}
+use mathlib.Core.Path.{_≡_, sym, ap, _∙_, subst}
+use Prim.Native.Nat.{ℕ, zero, suc, _*_, _≤_, _<_}
 use native.Mathlib.Omega.{arith}
-use lib.Dec.{lit<}
 use lib.IntN.{ℤ, pos}
 use mir.Syntax.{w64}
 use mir.Val.{toZ, ofZ}
-use Rattle.whole.specs.Words.{back-of}
-use Rattle.limits.specs.Refusal.{_when_, _then_}
-use Rattle.limits.specs.Limits.{limitsRule, dsgRule}
-use Rattle.limits.specs.Reply.{Reply, reply}
+use Rattle.whole.specs.Words.{count, count-read, fits, plain-is, back-of}
 use Rattle.limits.specs.declared.Numbers.{Numbers}
+use Rattle.limits.specs.Limits.{limitsRule, dsgRule}
+use Rattle.limits.specs.Refusal.{_then_}
+use Rattle.limits.specs.Reply.{Reply, reply}
+use Rattle.limits.proofs.Laws.{then-refused, then-passed}
+use Rattle.limits.proofs.Replies.{reply-values, reply-number}
 use Rattle.series.specs.declared.Scattered.{Scattered}
 use Rattle.series.specs.Answers.{scatterReply, scatterNumbered}
+use Rattle.fit.specs.declared.Found.{Found}
 use Rattle.fit.specs.declared.TrackRecord.{TrackRecord}
-use Rattle.fit.specs.declared.results.Found.{Found}
-use Rattle.fit.specs.Track.{numbersWith, recordOf, correctedBeyond, numbersRule, recordNumber, zeros}
-use Rattle.limits.proofs.Laws.{then-refused, then-passed}
-use Rattle.limits.proofs.Replies.{reply-number, reply-values}
-use Rattle.fit.proofs.Tracks as tracks
-use borrow.Author.Needs.{needs}
+use Rattle.fit.specs.Track.{recordOf, numbersWith, numbersRule}
+use Rattle.fit.specs.Found.{found, foundOf}
+use Rattle.fit.proofs.Tracks.{Inside, inside, fit-never, fit-numbers}
 use Rattle.fit.proofs.results.ten_numbers.Statement.{statement}
 use Rattle.fit.proofs.results.ten_numbers.Tie as tie
 
--- the record
+-- the record of the values, and that they are inside their limit
 abbrev t : tie.Start → TrackRecord
 t c = let a = c .args in recordOf (a .n) (a .a .now) (a .b .now) (a .c .now) (a .d .now)
 
--- the four tests are the rule's
-beyond-is : (c : tie.After-corrected-beyond) → c .corrected-beyond .result ≡ correctedBeyond (t (c .before))
-unfolding correctedBeyond recordOf
-beyond-is c = c .corrected-beyond .ensures
+fine : (c : tie.Start) → let a = c .args in Inside (a .a .now) (a .b .now) (a .c .now) (a .d .now)
+fine c = let a = c .args in inside (a .n) (a .a .now) (a .b .now) (a .c .now) (a .d .now) (c .pre .1 .1)
 
--- where the values have passed them
-passed : (c : tie.Else1) → correctedBeyond (t (c .before .before)) ≡ false
-passed c = sym (beyond-is (c .before)) ∙ c .if1 .left
+-- the first refusal of the numbers, and their case
+refuse : (r : TrackRecord) (number : ℕ) → 0 < number → numbersRule r ≡ number → Found.Refused number ≡ foundOf r
+unfolding foundOf found
+refuse r zero h e = absurd (omega (arith, h))
+refuse r (suc number) h e = sym (ap (λ (k : ℕ). found k (r .numbers)) e)
 
--- the first refusal of a record, by what is found of its values
-first : (r : TrackRecord) → correctedBeyond r ≡ true → recordNumber r ≡ 10
-unfolding recordNumber _when_ _then_
-first r e = rw e
+accept : (r : TrackRecord) → numbersRule r ≡ 0 → Found.Ten (r .numbers) ≡ foundOf r
+unfolding foundOf found
+accept r e = sym (ap (λ (k : ℕ). found k (r .numbers)) e)
 
-next : (r : TrackRecord) → correctedBeyond r ≡ false → recordNumber r ≡ numbersRule r
-unfolding recordNumber _when_ _then_
-next r e = rw e
+-- the track length
+seconds : (s : tie.Start) → 15 * s .args .n ≤ 780
+seconds s = omega (arith, s .pre .0 .1)
 
--- a refusal by the record's own number
-refuse : (f : Found) (number : ℕ) (r : TrackRecord) → f ≡ record { refusal = number; numbers = zeros .numbers } → 0 < number → recordNumber r ≡ number
-    → (f .refusal ≡ recordNumber r) × (f .refusal ≡ 0 → f .numbers ≡ r .numbers)
-refuse f number r e h k =
-    let n = ap (λ (g : Found). g .refusal) e in
-    (n ∙ sym k, λ z. absurd (omega (arith, h, n, z)))
+-- the numbers as they are put together, and what they are
+abbrev put : (c : tie.After-known-told4) (dsg : ℤ) → Numbers
+put c dsg =
+    let three = c .before .before .before .before in
+    let two = three .before .before .before .before in
+    let one = two .before .before .before .before in
+    record {
+      refsv = toZ w64 (ofZ w64 (one .before .line-a .given .0 .0));
+      srsv = toZ w64 (ofZ w64 (one .before .line-a .given .0 .1 .0));
+      refsys = toZ w64 (ofZ w64 (two .before .line-b .given .0 .0));
+      srsys = toZ w64 (ofZ w64 (two .before .line-b .given .0 .1 .0));
+      mdtr = toZ w64 (ofZ w64 (three .before .line-c .given .0 .0));
+      smdt = toZ w64 (ofZ w64 (three .before .line-c .given .0 .1 .0));
+      mdio = toZ w64 (ofZ w64 (c .before .line-d .given .0 .0));
+      smdi = toZ w64 (ofZ w64 (c .before .line-d .given .0 .1 .0));
+      dsg = dsg;
+      trkl = toZ w64 (15 * one .before .before .before .before .args .n);
+    }
 
--- where each call stands, seen from the limits' test
-abbrev fits : tie.After-limits → tie.After-fitted
-fits c = c .before .before .before .before
-
-abbrev start : tie.After-limits → tie.Start
-start c = fits c .before .before .before
+numbers-are : (c : tie.After-known-told4) (dsg : ℤ)
+    → let a = c .before .before .before .before .before .before .before .before .before .before .before .before .before .before .before .before .args in put c dsg ≡ numbersWith dsg (a .n) (a .a .now) (a .b .now) (a .c .now) (a .d .now)
+unfolding numbersWith
+numbers-are c dsg =
+    let three = c .before .before .before .before in
+    let two = three .before .before .before .before in
+    let one = two .before .before .before .before in
+    let A = fit-numbers (one .before .before .before .fit-blocks .ensures) (one .before .line-a .given .1) (one .known-told .given .0 .1) (one .known-told .given .1 .0 .1) in
+    let B = fit-numbers (two .before .before .before .fit-blocks2 .ensures) (two .before .line-b .given .1) (two .known-told2 .given .0 .1) (two .known-told2 .given .1 .0 .1) in
+    let C = fit-numbers (three .before .before .before .fit-blocks3 .ensures) (three .before .line-c .given .1) (three .known-told3 .given .0 .1) (three .known-told3 .given .1 .0 .1) in
+    let D = fit-numbers (c .before .before .before .fit-blocks4 .ensures) (c .before .line-d .given .1) (c .known-told4 .given .0 .1) (c .known-told4 .given .1 .0 .1) in
+    let n : toZ w64 (15 * one .before .before .before .before .args .n) ≡ pos (15 * one .before .before .before .before .args .n) = plain-is (count-read (seconds (one .before .before .before .before))) tt in
+    λ z. record {
+      refsv = A .0 z;
+      srsv = A .1 z;
+      refsys = B .0 z;
+      srsys = B .1 z;
+      mdtr = C .0 z;
+      smdt = C .1 z;
+      mdio = D .0 z;
+      smdi = D .1 z;
+      dsg = dsg;
+      trkl = n z;
+    }
 
 -- the limits do not ask for DSG
-limit-is : (c : tie.After-limits) → c .limits .result ≡ limitsRule (t (start c) .numbers)
+limit-is : (c : tie.After-limits) → c .limits .result ≡ limitsRule (t (c .before .before .before .before .before .before .before .before .before .before .before .before .before .before .before .before .before) .numbers)
 unfolding limitsRule recordOf numbersWith
-limit-is c = c .limits .ensures ∙ ap (λ (f : Found). limitsRule (f .numbers)) (fits c .fitted .ensures)
+limit-is c = c .limits .ensures ∙ ap limitsRule (numbers-are (c .before) (pos 0))
 
 -- the first refusal of the numbers: from 3 to 5, or else 6
-from-limits : (c : tie.After-limits) → 0 < c .limits .result → recordNumber (t (start c)) ≡ c .limits .result
+from-limits : (c : tie.After-limits) → 0 < c .limits .result → numbersRule (t (c .before .before .before .before .before .before .before .before .before .before .before .before .before .before .before .before .before)) ≡ c .limits .result
 unfolding numbersRule
-from-limits c h =
-    next (t (start c)) (passed (fits c .before))
-    ∙ ap (λ (k : ℕ). k then dsgRule (t (start c) .numbers .dsg)) (sym (limit-is c))
-    ∙ then-refused _ _ h
+from-limits c h = ap (λ (k : ℕ). k then dsgRule (t (c .before .before .before .before .before .before .before .before .before .before .before .before .before .before .before .before .before) .numbers .dsg)) (sym (limit-is c)) ∙ then-refused _ _ h
 
-from-scatter : (c : tie.Else3) → recordNumber (t (start (c .before))) ≡ dsgRule (t (start (c .before)) .numbers .dsg)
+from-scatter : (c : tie.Else1) → numbersRule (t (c .before .before .before .before .before .before .before .before .before .before .before .before .before .before .before .before .before .before)) ≡ dsgRule (t (c .before .before .before .before .before .before .before .before .before .before .before .before .before .before .before .before .before .before) .numbers .dsg)
 unfolding numbersRule
-from-scatter c = next (t (start (c .before))) (passed (fits (c .before) .before)) ∙ then-passed _ _ (sym (limit-is (c .before)) ∙ c .if3 .left)
+from-scatter c = then-passed _ _ (sym (limit-is (c .before)) ∙ c .if1 .left)
 
 -- what Scatter replies
 sigma : (c : tie.After-scatter-blocks)
-    → let s = t (start (c .before .before)) .numbers .dsg in scatterReply (c .scatter-blocks .result) ≡ reply (pos 0) (dsgRule s) s
+    → let d = t (c .before .before .before .before .before .before .before .before .before .before .before .before .before .before .before .before .before .before .before) .numbers .dsg in scatterReply (c .scatter-blocks .result) ≡ reply (pos 0) (dsgRule d) d
 unfolding recordOf numbersWith
 sigma c = c .scatter-blocks .ensures .0
 
-corrected-beyond-requires : tie.Need-corrected-beyond-requires
-corrected-beyond-requires c κs = search needs
+-- where Scatter accepts, its value is the record's DSG
+sigma-is : (c : tie.After-known-told5)
+    → let d = t (c .before .before .before .before .before .before .before .before .before .before .before .before .before .before .before .before .before .before .before .before .before .before) .numbers .dsg in (dsgRule d ≡ 0) × (c .before .answer .given .0 .0 ≡ d)
+sigma-is c =
+    let w = c .before .before .before in
+    let d = t (w .before .before .before .before .before .before .before .before .before .before .before .before .before .before .before .before .before .before .before) .numbers .dsg in
+    reply-values (pos 0) d (dsgRule d) (sym (ap scatterReply (c .before .answer .given .1)) ∙ sigma w)
 
-no-numbers-requires : tie.Need-no-numbers-requires
-no-numbers-requires c κs = search needs
+ten-are : (c : tie.After-known-told5) → put (c .before .before .before .before .before .before) (toZ w64 (ofZ w64 (c .before .answer .given .0 .0))) ≡ t (c .before .before .before .before .before .before .before .before .before .before .before .before .before .before .before .before .before .before .before .before .before .before) .numbers
+unfolding recordOf numbersWith
+ten-are c =
+    let a = c .before .before .before .before .before .before .before .before .before .before .before .before .before .before .before .before .before .before .before .before .before .before .args in
+    numbers-are (c .before .before .before .before .before .before) (toZ w64 (ofZ w64 (c .before .answer .given .0 .0)))
+    ∙ ap (λ (d : ℤ). numbersWith d (a .n) (a .a .now) (a .b .now) (a .c .now) (a .d .now)) (back-of (c .known-told5 .given .0 .1) ∙ sigma-is c .1)
 
-returns : tie.Need-returns
-returns c =
-    let n = c .before .before in
-    refuse (c .no-numbers .result) 10 (t (n .before)) (c .no-numbers .ensures) (lit< tt) (first (t (n .before)) (sym (beyond-is n) ∙ c .before .if1 .taken))
+fit-blocks-requires : tie.Need-fit-blocks-requires
+fit-blocks-requires c κs = (c .pre .0 .0, c .pre .0 .1, c .pre .1 .0 .0, fine c .in-a)
 
-fitted-requires : tie.Need-fitted-requires
-fitted-requires c κs = let s = c .before .before in (s .pre .0, (s .pre .1, passed c))
-
-no-numbers-requires-2 : tie.Need-no-numbers-requires-2
-no-numbers-requires-2 c κs = search needs
-
-returns-2 : tie.Need-returns-2
-returns-2 c = absurd (omega (arith, ap (λ (f : Found). f .refusal) (c .before .before .before .fitted .ensures), c .before .if2 .taken))
-
-limits-requires : tie.Need-limits-requires
-limits-requires c κs = search needs
-
-no-numbers-requires-3 : tie.Need-no-numbers-requires-3
-no-numbers-requires-3 c κs = search needs
-
-returns-3 : tie.Need-returns-3
-returns-3 c =
-    let n = c .before .before in
-    let h : 0 < n .limits .result = omega (arith, c .before .if3 .taken) in
-    refuse (c .no-numbers3 .result) (n .limits .result) (t (start n)) (c .no-numbers3 .ensures) h (from-limits n h)
-
-scatter-blocks-requires : tie.Need-scatter-blocks-requires
-scatter-blocks-requires c κs =
-    let s = start (c .before) in
-    let a = s .args in (
-      s .pre .0 .0,
-      s .pre .0 .1,
-      s .pre .1 .1,
-      tracks.inside (a .n) (a .a .now) (a .b .now) (a .c .now) (a .d .now) (passed (fits (c .before) .before)) .in-b,
-    )
-
-enum-known-answer : tie.Need-enum-known-answer
-enum-known-answer c = search needs
+enum-known-line-a : tie.Need-enum-known-line-a
+enum-known-line-a c = search needs
 
 enum-told : tie.Need-enum-told
 enum-told c = search needs
 
+fitted-number-requires : tie.Need-fitted-number-requires
+fitted-number-requires c κs = search needs
+
+returns : tie.Need-returns
+returns c = absurd (fit-never (c .before .before .before .fit-blocks .ensures) (c .before .enum-told .given .1))
+
+fit-blocks-requires-2 : tie.Need-fit-blocks-requires-2
+fit-blocks-requires-2 c κs = let s = c .before .before .before .before in (s .pre .0 .0, s .pre .0 .1, s .pre .1 .0 .1, fine s .in-b)
+
+enum-known-line-b : tie.Need-enum-known-line-b
+enum-known-line-b c = search needs
+
+enum-told-2 : tie.Need-enum-told-2
+enum-told-2 c = search needs
+
+fitted-number-requires-2 : tie.Need-fitted-number-requires-2
+fitted-number-requires-2 c κs = search needs
+
+returns-2 : tie.Need-returns-2
+returns-2 c = absurd (fit-never (c .before .before .before .fit-blocks2 .ensures) (c .before .enum-told2 .given .1))
+
+fit-blocks-requires-3 : tie.Need-fit-blocks-requires-3
+fit-blocks-requires-3 c κs = let s = c .before .before .before .before .before .before .before .before in (s .pre .0 .0, s .pre .0 .1, s .pre .1 .0 .2, fine s .in-c)
+
+enum-known-line-c : tie.Need-enum-known-line-c
+enum-known-line-c c = search needs
+
+enum-told-3 : tie.Need-enum-told-3
+enum-told-3 c = search needs
+
+fitted-number-requires-3 : tie.Need-fitted-number-requires-3
+fitted-number-requires-3 c κs = search needs
+
+returns-3 : tie.Need-returns-3
+returns-3 c = absurd (fit-never (c .before .before .before .fit-blocks3 .ensures) (c .before .enum-told3 .given .1))
+
+fit-blocks-requires-4 : tie.Need-fit-blocks-requires-4
+fit-blocks-requires-4 c κs = let s = c .before .before .before .before .before .before .before .before .before .before .before .before in (s .pre .0 .0, s .pre .0 .1, s .pre .1 .0 .3, fine s .in-d)
+
+enum-known-line-d : tie.Need-enum-known-line-d
+enum-known-line-d c = search needs
+
+enum-told-4 : tie.Need-enum-told-4
+enum-told-4 c = search needs
+
+fitted-number-requires-4 : tie.Need-fitted-number-requires-4
+fitted-number-requires-4 c κs = search needs
+
+returns-4 : tie.Need-returns-4
+returns-4 c = absurd (fit-never (c .before .before .before .fit-blocks4 .ensures) (c .before .enum-told4 .given .1))
+
+mul-t26 : tie.Need-mul-t26
+mul-t26 c = record { fits = omega (arith, seconds (c .before .before .before .before .before .before .before .before .before .before .before .before .before .before .before .before)) }
+
+cast-t27 : tie.Need-cast-t27
+cast-t27 c = fits (count (seconds (c .before .before .before .before .before .before .before .before .before .before .before .before .before .before .before .before))) tt
+
+limits-requires : tie.Need-limits-requires
+limits-requires c κs = search needs
+
+returns-5 : tie.Need-returns-5
+returns-5 c =
+    let l = c .before in
+    let h : 0 < l .limits .result = omega (arith, c .if1 .taken) in
+    refuse (t (l .before .before .before .before .before .before .before .before .before .before .before .before .before .before .before .before .before)) (l .limits .result) h (from-limits l h)
+
+scatter-blocks-requires : tie.Need-scatter-blocks-requires
+scatter-blocks-requires c κs = let s = c .before .before .before .before .before .before .before .before .before .before .before .before .before .before .before .before .before .before in (s .pre .0 .0, s .pre .0 .1, s .pre .1 .0 .1, fine s .in-b)
+
+enum-known-answer : tie.Need-enum-known-answer
+enum-known-answer c = search needs
+
+enum-told-5 : tie.Need-enum-told-5
+enum-told-5 c = search needs
+
 scattered-number-requires : tie.Need-scattered-number-requires
 scattered-number-requires c κs = search needs
 
-no-numbers-requires-4 : tie.Need-no-numbers-requires-4
-no-numbers-requires-4 c κs = search needs
-
-returns-4 : tie.Need-returns-4
-returns-4 c =
-    let a = c .before .before .before .before in
-    let n = a .before in
-    let told = c .before .before .enum-told .given .1 in
-    let number = c .before .scattered-number .ensures in
-    let some : 0 < c .before .scattered-number .result = rw (number ∙ ap (λ (r : Scattered). scatterReply r .number) told) (subst scatterNumbered told (a .scatter-blocks .ensures .1)) in
-    let e = from-scatter n ∙ sym (number ∙ ap (λ (r : Reply ℤ). r .number) (sigma a) ∙ reply-number _ _ _) in
-    refuse (c .no-numbers4 .result) (c .before .scattered-number .result) (t (start (n .before))) (c .no-numbers4 .ensures) some e
-
--- where Scatter accepts, its value is the record's DSG
-sigma-is : (c : tie.After-known-told)
-    → let s = t (start (c .before .before .before .before .before)) .numbers .dsg in
-    (dsgRule s ≡ 0) × (c .before .answer .given .0 .0 ≡ s)
-sigma-is c =
+returns-6 : tie.Need-returns-6
+returns-6 c =
     let w = c .before .before .before in
-    let s = t (start (w .before .before)) .numbers .dsg in
-    reply-values (pos 0) s (dsgRule s) (sym (ap scatterReply (c .before .answer .given .1)) ∙ sigma w)
+    let told = c .before .enum-told5 .given .1 in
+    let number = c .scattered-number .ensures in
+    let some : 0 < c .scattered-number .result = rw (number ∙ ap (λ (r : Scattered). scatterReply r .number) told) (subst scatterNumbered told (w .scatter-blocks .ensures .1)) in
+    refuse (t (w .before .before .before .before .before .before .before .before .before .before .before .before .before .before .before .before .before .before .before)) (c .scattered-number .result) some
+    (from-scatter (w .before) ∙ sym (number ∙ ap (λ (r : Reply ℤ). r .number) (sigma w) ∙ reply-number _ _ _))
 
--- the numbers with another DSG
-abbrev put : Numbers → ℤ → Numbers
-put f d =
-    record {
-      refsv = f .refsv;
-      srsv = f .srsv;
-      refsys = f .refsys;
-      srsys = f .srsys;
-      mdtr = f .mdtr;
-      smdt = f .smdt;
-      mdio = f .mdio;
-      smdi = f .smdi;
-      dsg = d;
-      trkl = f .trkl;
-    }
-
-numbers-are : (c : tie.After-known-told)
-    → let l = c .before .before .before .before .before in
-    put (fits l .fitted .result .numbers) (toZ w64 (ofZ w64 (c .before .answer .given .0 .0))) ≡ t (start l) .numbers
-unfolding recordOf numbersWith
-numbers-are c =
-    let l = c .before .before .before .before .before in
-    ap₂ put (ap (λ (f : Found). f .numbers) (fits l .fitted .ensures)) (back-of (c .known-told .given .0 .1) ∙ sigma-is c .1)
-
-returns-5 : tie.Need-returns-5
-returns-5 c = (sym (from-scatter (c .before .before .before .before) ∙ sigma-is c .0), λ z. numbers-are c)
+returns-7 : tie.Need-returns-7
+returns-7 c = ap Found.Ten (ten-are c) ∙ accept (t (c .before .before .before .before .before .before .before .before .before .before .before .before .before .before .before .before .before .before .before .before .before .before)) (from-scatter (c .before .before .before .before) ∙ sigma-is c .0)
 
 pub ten-numbers-spec : {M : Type 1} → statement M
 ten-numbers-spec =
     tie.close
     (tie.spec
-    corrected-beyond-requires
-    no-numbers-requires
+    fit-blocks-requires
+    enum-known-line-a
+    enum-told
+    fitted-number-requires
     returns
-    fitted-requires
-    no-numbers-requires-2
+    fit-blocks-requires-2
+    enum-known-line-b
+    enum-told-2
+    fitted-number-requires-2
     returns-2
-    limits-requires
-    no-numbers-requires-3
+    fit-blocks-requires-3
+    enum-known-line-c
+    enum-told-3
+    fitted-number-requires-3
     returns-3
+    fit-blocks-requires-4
+    enum-known-line-d
+    enum-told-4
+    fitted-number-requires-4
+    returns-4
+    mul-t26
+    cast-t27
+    limits-requires
+    returns-5
     scatter-blocks-requires
     enum-known-answer
-    enum-told
+    enum-told-5
     scattered-number-requires
-    no-numbers-requires-4
-    returns-4
-    returns-5)
+    returns-6
+    returns-7)

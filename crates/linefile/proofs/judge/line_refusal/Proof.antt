@@ -3,9 +3,9 @@
 use mathlib.Core.Path.{sym, ap, _∙_}
 use native.Mathlib.Omega.{arith}
 use lib.Seq.{length-take-le}
-use Rattle.reader.specs.declared.Reading.{Reading}
-use Rattle.reader.specs.Answers.{readReply}
-use Rattle.reader.proofs.Readings.{accepted-case, refused-case, refused-number}
+use Rattle.reading.specs.declared.Reading.{Reading}
+use Rattle.reading.specs.Answers.{readReply}
+use Rattle.reading.proofs.Readings.{accepted-case, refused-case, refused-number}
 use Rattle.linefile.specs.Files.{columnsOf}
 use Rattle.linefile.proofs.Judging.{refused-line, read-line}
 use borrow.Author.Needs.{needs}

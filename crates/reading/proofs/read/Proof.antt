@@ -1,0 +1,61 @@
+-- `reading::read` meets its contract: what the characters and then the values are refused for, else what stands in the columns.
+-- Assumes nothing.
+use mathlib.Core.Path.{_≡_, sym, _∙_}
+use Prim.Native.Nat.{ℕ, _<_}
+use native.Mathlib.Omega.{arith}
+use Rattle.limits.proofs.Laws.{then-passed}
+use Rattle.characters.specs.Kinds.{kinds}
+use Rattle.characters.specs.Characters.{charactersNumber}
+use Rattle.characters.proofs.Spelled.{spelled}
+use Rattle.reading.specs.Read.{readNumber}
+use Rattle.reading.proofs.Refusals.{reply-characters, reply-values, reply-line}
+use borrow.Author.Needs.{needs}
+use Rattle.reading.proofs.read.Statement.{statement}
+use Rattle.reading.proofs.read.Tie as tie
+
+refusal-requires : tie.Need-refusal-requires
+refusal-requires c κs = search needs
+
+-- a number that is not 0
+some : {n : ℕ} → (n ≡ 0 → ⊥) → 0 < n
+some h = omega arith
+
+returns : tie.Need-returns
+returns c =
+    (reply-characters _ (c .before .refusal .ensures) (some (c .if1 .taken)), some (c .if1 .taken))
+
+passed : (c : tie.Else1) → charactersNumber 111 140 kinds (c .before .before .before .args .line .now) ≡ 0
+passed c = sym (c .before .refusal .ensures) ∙ c .if1 .left
+
+labels-requires : tie.Need-labels-requires
+labels-requires c κs = spelled _ (passed c) .columns
+
+numbers-requires : tie.Need-numbers-requires
+numbers-requires c κs = spelled _ (passed (c .before)) .columns
+
+values-refusal-requires : tie.Need-values-refusal-requires
+values-refusal-requires c κs = (spelled _ (passed (c .before .before)) .columns, (c .before .labels .ensures, c .numbers .ensures))
+
+returns-2 : tie.Need-returns-2
+returns-2 c =
+    let v = c .before in
+    (reply-values _ (passed (v .before .before .before)) (v .values-refusal .ensures) (some (c .if2 .taken)), some (c .if2 .taken))
+
+returns-3 : tie.Need-returns-3
+unfolding readNumber
+returns-3 c =
+    let v = c .before in
+    let e = v .before .before .before in
+    (reply-line _ (then-passed _ _ (passed e) ∙ sym (v .values-refusal .ensures) ∙ c .if2 .left) (v .before .before .labels .ensures) (v .before .numbers .ensures), tt)
+
+pub read-spec : {M : Type 1} → statement M
+read-spec =
+    tie.close
+    (tie.spec
+    refusal-requires
+    returns
+    labels-requires
+    numbers-requires
+    values-refusal-requires
+    returns-2
+    returns-3)
