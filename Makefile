@@ -16,7 +16,7 @@
 # make install       the programs, the libraries, the header, the manual pages: make install PREFIX=/usr/local DESTDIR=
 # make uninstall     remove what install put there, with the same PREFIX and DESTDIR; folders stay
 # make clean         remove target/, which holds everything that was built
-VERSION := 1.4.0
+VERSION := 1.5.0
 BLOCK ?= examples/sample.blk
 PREFIX ?= /usr/local
 SECONDS ?= 120
@@ -37,6 +37,8 @@ CARGO := cargo --offline
 # The folder of the prover's small files, in memory where they can be there: a disk takes longer to make and remove them than a small crate takes to prove.
 PROVER_TMP ?= $(shell tests/memory.sh)
 RT = $(if $(PROVER_TMP),TMPDIR="$$(cd "$(PROVER_TMP)" && pwd)" )rt
+# The same with a line for each crate that is proved, and the rest in a log.
+PROVE = $(if $(PROVER_TMP),TMPDIR="$$(cd "$(PROVER_TMP)" && pwd)" )tools/prove
 INSTALLED := $(DESTDIR)$(abspath $(PREFIX))
 # What the archive is made of: every crate but the programs.
 SOURCES := crates.txt $(shell find crates -name must-fail -prune -o -path crates/trackline -prune -o -path crates/bench -prune -o -type f -print)
@@ -47,30 +49,35 @@ PROGRAM_SOURCES := $(shell find crates -name must-fail -prune -o -path 'crates/t
 # What install puts below the prefix, and uninstall removes.
 PROGRAMS := $(PROGRAM) $(CGGTTS) tools/hireblock
 PAGES := $(wildcard man/*.[1-8])
-DOCUMENTS := docs/REFUSALS.md docs/HIRE-BLOCK.md docs/COMMON-VIEW.md docs/common-view.svg docs/SHARED-OFFSET.md
-EXAMPLES := examples/receiver.c examples/sample.txt examples/sample.blk examples/short.txt examples/short.blk examples/changed.txt examples/changed.blk examples/first.cggtts examples/second.cggtts examples/week.cggtts examples/roof-a.cggtts examples/roof-b.cggtts
+DOCUMENTS := docs/REFUSALS.md docs/HIRE-BLOCK.md docs/COMMON-VIEW.md docs/common-view.svg docs/SHARED-OFFSET.md docs/LAST-DIGIT.md docs/last-digit.svg docs/TRUST.md
+EXAMPLES := examples/receiver.c examples/sample.txt examples/sample.blk examples/short.txt examples/short.blk examples/worked.txt examples/worked.blk examples/changed.txt examples/changed.blk examples/first.cggtts examples/second.cggtts examples/week.cggtts examples/roof-a.cggtts examples/roof-b.cggtts
 TWO_TRACKS := $(wildcard examples/shared/*)
+# What follows a track to its last digit; beside the examples, of which it takes the worked track where none is named.
+FOLLOWER := tools/lastdigit tools/lastdigit_prose.py tools/lastdigit_picture.py
 INSTALLS := $(addprefix bin/,$(notdir $(PROGRAMS))) include/trackline.h lib/libtrackline.a lib/$(SONAME) \
 	lib/libtrackline.so lib/pkgconfig/trackline.pc \
 	$(foreach page,$(PAGES),share/man/man$(subst .,,$(suffix $(page)))/$(notdir $(page))) \
 	$(addprefix share/doc/trackline/,$(notdir $(DOCUMENTS))) $(addprefix share/trackline/examples/,$(notdir $(EXAMPLES))) \
-	$(addprefix share/trackline/examples/shared/,$(notdir $(TWO_TRACKS)))
+	$(addprefix share/trackline/examples/shared/,$(notdir $(TWO_TRACKS))) $(addprefix share/trackline/tools/,$(notdir $(FOLLOWER)))
 
 .PHONY: help run test beside proofs bench speed instructions turns fuzz program programs cggtts archive shared install uninstall clean
 # rt ci clears target/, where everything else is built. Only the two rows of tests are run at once.
 ifndef ROWS
 .NOTPARALLEL:
 endif
-.PHONY: one-prefix side-by-side compared described
+.PHONY: one-prefix side-by-side compared described rt-there
 
 help:
 	@sed -n 's/^# make /make /p' Makefile
+
+rt-there:
+	@tools/prove --there
 
 # The line alone goes to standard output.
 run:
 	@test -r "$(BLOCK)" || { echo "make run: cannot read the block '$(BLOCK)'" >&2; exit 1; }
 	@$(MAKE) --no-print-directory program >&2
-	@target/bin/trackline < "$(BLOCK)"
+	@tools/run target/bin/trackline "$(BLOCK)"
 
 program: $(PROGRAM)
 
@@ -79,17 +86,17 @@ $(PROGRAM): $(SOURCES) $(PROGRAM_SOURCES)
 	@mkdir -p target
 	@echo "proving and building trackline; from nothing this takes a minute or two (target/trackline.log)"
 	@test -s $@ || rm -f target/stamp/trackline
-	@$(RT) check trackline > target/trackline.log 2>&1 || { cat target/trackline.log >&2; rm -f $@ target/stamp/trackline; exit 1; }
+	@$(PROVE) target/trackline.log check trackline || { rm -f $@ target/stamp/trackline; exit 1; }
 	@touch -c $@ && test -s $@
 
 # What the proofs do not cover comes first, so that the proofs' own line is the last.
 test: beside proofs
 
-proofs:
+proofs: rt-there
 	$(RT) ci
 
 # What the tests are of is proved at once, and not for the archive and then for the programs; three crates at a time, as bench takes longest.
-side-by-side:
+side-by-side: rt-there
 	RT_JOBS=3 $(RT) check boundary trackline bench
 
 beside: side-by-side archive programs cggtts shared
@@ -106,6 +113,8 @@ compared:
 	target/files_test
 	$(CC) $(CFLAGS) $(STRICT) -Iinclude tests/c/view_test.c $(ARCHIVE) -o target/view_test
 	target/view_test
+	$(CC) $(CFLAGS) $(STRICT) -Iinclude tests/c/limits_test.c $(ARCHIVE) -o target/limits_test
+	target/limits_test
 	$(CC) $(CFLAGS) $(STRICT) -Iinclude examples/receiver.c $(ARCHIVE) -o target/receiver
 	target/receiver | cmp - crates/trackline/stdout
 	python3 tests/c/receiver.py target/receiver
@@ -116,7 +125,11 @@ compared:
 	python3 tests/cggtts/test_cggtts.py
 	python3 tests/cggtts/test_merge.py
 	python3 tests/cggtts/test_view.py
+	python3 tests/cggtts/test_parted.py
+	python3 tests/cggtts/test_convert.py
+	python3 tests/cggtts/test_files.py
 	python3 tests/cggtts/test_offset.py
+	python3 tests/cggtts/test_words.py
 
 # What the tools, the examples and the documents say, and what is installed.
 described:
@@ -156,35 +169,37 @@ described:
 	tools/clauses docs/CLAUSES.md
 	tests/install.sh
 
-bench:
+bench: rt-there
 	@mkdir -p target
 	@echo "proving and building bench first; from nothing this takes two to three minutes (target/bench.log)"
 	@$(RT) check bench > target/bench.log 2>&1 || { cat target/bench.log >&2; exit 1; }
 	@tests/bench.sh target/bin/bench "$(CASES)"
 
 # Both at once, as rt check proves them side by side.
-programs:
+programs: rt-there
 	$(RT) check trackline bench
 
 archive: $(ARCHIVE)
 
 # rt staticlib proves the crates below one at a time, rt check side by side.
 $(ARCHIVE): $(SOURCES)
-	$(RT) check boundary
-	rm -rf $(@D)
-	$(RT) staticlib boundary
+	@mkdir -p target
+	@echo "proving and building the library; from nothing this takes two to three minutes (target/archive.log)"
+	@$(PROVE) target/archive.log check boundary
+	@rm -rf $(@D)
+	@$(PROVE) target/archive.log staticlib boundary
 
 shared: $(SHARED)
 
 $(SHARED): $(ARCHIVE) install/trackline.map
-	$(CC) -shared -Wl,-soname,$(SONAME) -Wl,--version-script=install/trackline.map -Wl,-z,defs -Wl,-z,now \
+	@$(CC) -shared -Wl,-soname,$(SONAME) -Wl,--version-script=install/trackline.map -Wl,-z,defs -Wl,-z,now \
 		-Wl,--whole-archive $(ARCHIVE) -Wl,--no-whole-archive -o $@
 
 cggtts: $(CGGTTS)
 
 $(CGGTTS): $(CGGTTS_SOURCES) cggtts/cggtts.h include/trackline.h Makefile $(ARCHIVE)
 	@mkdir -p $(@D)
-	$(CC) $(CFLAGS) $(STRICT) -DVERSION='"$(VERSION)"' -Iinclude $(CGGTTS_SOURCES) $(ARCHIVE) -lm -o $@
+	@$(CC) $(CFLAGS) $(STRICT) -DVERSION='"$(VERSION)"' -Iinclude $(CGGTTS_SOURCES) $(ARCHIVE) -lm -o $@
 
 # make's own lists of files are parted by blanks, so a prefix can't have one.
 one-prefix:
@@ -192,18 +207,20 @@ one-prefix:
 
 # What is built already is installed without rt.
 install: one-prefix $(PROGRAM) $(ARCHIVE) $(SHARED) $(CGGTTS)
-	mkdir -p "$(INSTALLED)" && cd "$(INSTALLED)" && install -d $(sort $(dir $(INSTALLS)))
-	install $(PROGRAMS) "$(INSTALLED)/bin"
-	install -m 644 include/trackline.h "$(INSTALLED)/include"
-	install -m 644 $(ARCHIVE) "$(INSTALLED)/lib/libtrackline.a"
-	install $(SHARED) "$(INSTALLED)/lib"
-	ln -sf $(SONAME) "$(INSTALLED)/lib/libtrackline.so"
-	sed -e 's|@PREFIX@|$(abspath $(PREFIX))|' -e 's|@VERSION@|$(VERSION)|' install/trackline.pc.in > target/trackline.pc
-	install -m 644 target/trackline.pc "$(INSTALLED)/lib/pkgconfig"
-	for page in $(PAGES); do install -m 644 $$page "$(INSTALLED)/share/man/man$${page##*.}" || exit 1; done
-	install -m 644 $(DOCUMENTS) "$(INSTALLED)/share/doc/trackline"
-	install -m 644 $(EXAMPLES) "$(INSTALLED)/share/trackline/examples"
-	install -m 644 $(TWO_TRACKS) "$(INSTALLED)/share/trackline/examples/shared"
+	@mkdir -p "$(INSTALLED)" && cd "$(INSTALLED)" && install -d $(sort $(dir $(INSTALLS)))
+	@install $(PROGRAMS) "$(INSTALLED)/bin"
+	@install -m 644 include/trackline.h "$(INSTALLED)/include"
+	@install -m 644 $(ARCHIVE) "$(INSTALLED)/lib/libtrackline.a"
+	@install $(SHARED) "$(INSTALLED)/lib"
+	@ln -sf $(SONAME) "$(INSTALLED)/lib/libtrackline.so"
+	@sed -e 's|@PREFIX@|$(abspath $(PREFIX))|' -e 's|@VERSION@|$(VERSION)|' install/trackline.pc.in > target/trackline.pc
+	@install -m 644 target/trackline.pc "$(INSTALLED)/lib/pkgconfig"
+	@for page in $(PAGES); do install -m 644 $$page "$(INSTALLED)/share/man/man$${page##*.}" || exit 1; done
+	@install -m 644 $(DOCUMENTS) "$(INSTALLED)/share/doc/trackline"
+	@install -m 644 $(EXAMPLES) "$(INSTALLED)/share/trackline/examples"
+	@install -m 644 $(TWO_TRACKS) "$(INSTALLED)/share/trackline/examples/shared"
+	@install $(FOLLOWER) "$(INSTALLED)/share/trackline/tools"
+	@echo "installed below $(INSTALLED): $(words $(INSTALLS)) files"
 
 uninstall: one-prefix
 	test ! -d "$(INSTALLED)" || { cd "$(INSTALLED)" && rm -f $(INSTALLS); }

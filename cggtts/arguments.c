@@ -4,7 +4,7 @@
 #include <stdio.h>
 #include <string.h>
 
-/* An option that names a file: in the same word, a long option with = between, or in the next word. */
+/* An option that names a file or a range: in the same word, a long option with = between, or in the next word. */
 static int read_named(int argc, char **argv, int *i, const char *option, const char **file)
 {
     const char *behind = argv[*i] + strlen(option);
@@ -12,36 +12,105 @@ static int read_named(int argc, char **argv, int *i, const char *option, const c
         return wrong_use("%s: %s twice", argv[0], option);
     }
     if (*behind == '\0' && *i + 1 == argc) {
-        return wrong_use("%s: %s without a file", argv[0], option);
+        return wrong_use("%s: %s without %s", argv[0], option,
+                         strcmp(option, "--range") == 0     ? "LOW:HIGH"
+                             : strcmp(option, "--frc") == 0 ? "OLD=NEW"
+                                                            : "a file");
     }
     *file = *behind == '\0' ? argv[++*i] : behind + (option[1] == '-');
     return ACCEPTED;
 }
 
+/* A code and the one that is put in its place: OLD=NEW, three characters each, as they stand in the columns of FRC. */
+static int read_code(int argc, char **argv, int *i, struct arguments *found)
+{
+    const char *codes = NULL;
+    if (read_named(argc, argv, i, "--frc", &codes) != ACCEPTED) {
+        return FAILED;
+    }
+    if (strlen(codes) != 2 * FRC_WIDTH + 1 || codes[FRC_WIDTH] != '=' || !is_code(codes + FRC_WIDTH + 1)) {
+        return wrong_use("%s: '%s' is not OLD=NEW, three characters each, those of NEW A to Z or 0 to 9", argv[0], codes);
+    }
+    if (code_for(found, (const uint8_t *)codes) != NULL) {
+        return wrong_use("%s: --frc twice for '%.3s'", argv[0], codes);
+    }
+    if (found->codes_count == MOST_CODES) {
+        return wrong_use("%s: more than %d times --frc", argv[0], MOST_CODES);
+    }
+    found->codes[found->codes_count++] = codes;
+    return ACCEPTED;
+}
+
+/* The code that is put in the place of this one, or NULL. */
+const char *code_for(const struct arguments *given, const uint8_t *code)
+{
+    for (int i = 0; i < given->codes_count; i++) {
+        if (memcmp(given->codes[i], code, FRC_WIDTH) == 0) {
+            return given->codes[i] + FRC_WIDTH + 1;
+        }
+    }
+    return NULL;
+}
+
+/* Whether a word is this option with what it names in the same word or in the next. */
+static int is_option(const char *word, const char *option)
+{
+    size_t length = strlen(option);
+    return strncmp(word, option, length) == 0 && (word[length] == '\0' || word[length] == '=');
+}
+
+/* The options that name nothing. Answers where the one that is given is noted, or NULL. */
+static int *noted(const char *word, int allowed, struct arguments *found)
+{
+    struct {
+        const char *word;
+        int where;
+        int *given;
+    } const options[] = {{"--pairs", WITH_VIEW, &found->pairs},
+                         {"--about", WITH_VIEW, &found->about},
+                         {"--parted", WITH_VIEW, &found->parted},
+                         {"--skip", WITH_CONVERT, &found->skip},
+                         {"--bad", WITH_READ, &found->bad},
+                         {"--csv", WITH_READ, &found->csv}};
+    for (size_t i = 0; i < sizeof options / sizeof options[0]; i++) {
+        if ((allowed & options[i].where) && strcmp(word, options[i].word) == 0) {
+            return options[i].given;
+        }
+    }
+    return NULL;
+}
+
 static int read_option(int argc, char **argv, int *i, int allowed, struct arguments *found)
 {
     const char *word = argv[*i];
+    int *given = noted(word, allowed, found);
+    if (given != NULL) {
+        *given = 1;
+        return ACCEPTED;
+    }
+    if ((allowed & WITH_CONVERT) && is_option(word, "--frc")) {
+        return read_code(argc, argv, i, found);
+    }
     if ((allowed & WITH_OUTPUT) && word[1] == 'o') {
         return read_named(argc, argv, i, "-o", &found->output);
     }
-    if ((allowed & WITH_VIEW) && (strcmp(word, "--svg") == 0 || strncmp(word, "--svg=", 6) == 0)) {
+    if ((allowed & WITH_VIEW) && is_option(word, "--svg")) {
         return read_named(argc, argv, i, "--svg", &found->picture);
     }
-    if ((allowed & WITH_VIEW) && strcmp(word, "--pairs") == 0) {
-        found->pairs = 1;
-        return ACCEPTED;
+    if ((allowed & WITH_VIEW) && is_option(word, "--range")) {
+        return read_named(argc, argv, i, "--range", &found->range);
     }
     return wrong_use("%s: no option '%s'", argv[0], word);
 }
 
-/* A file that standard output goes to was emptied by the shell, or would grow while it is read. */
+/* A file that standard output goes to was emptied by the shell before this program began, or would grow while it is read. */
 static int complain_of_output(const char *name, int replacing)
 {
-    char reason[NAME_ROOM] = "is also standard output";
-    if (replacing) {
-        int named = strcmp(name, "-") != 0;
-        snprintf(reason, sizeof reason, "is also standard output; use -o%s%s", named ? " " : "", named ? name : "");
-    }
+    char reason[NAME_ROOM];
+    int emptied = is_empty(name), named = replacing && strcmp(name, "-") != 0;
+    snprintf(reason, sizeof reason, "is also standard output%s%s%s%s",
+             emptied ? ", and is empty now: it has to be fetched again" : "",
+             replacing ? (emptied ? "; then use -o" : "; use -o") : "", named ? " " : "", named ? name : "");
     complain(name, reason);
     return FAILED;
 }

@@ -18,10 +18,10 @@
 enum { ACCEPTED = 0, REFUSED = 1, FAILED = 2 };
 
 /* The schedule's dates, for messages. */
-enum { FIRST_MJD = 50722, LAST_MJD = 99999 };
+enum { FIRST_MJD = TRACKLINE_FIRST_MJD, LAST_MJD = TRACKLINE_LAST_MJD };
 
-/* The seconds of a day, and room for a file's name with a line's number. */
-enum { DAY = 86400, NAME_ROOM = 4200 };
+/* The seconds of a day, room for a file's name with a line's number, and for all that is said of two when each byte takes four. */
+enum { DAY = 86400, NAME_ROOM = 4200, CLEAN_ROOM = 12 * NAME_ROOM };
 
 /* The bytes of a file. */
 struct bytes {
@@ -37,13 +37,15 @@ int append_bytes(struct bytes *bytes, const void *more, size_t length);
 int looks_like_text(const struct bytes *bytes);
 int is_input(const char *output, const char *input);
 int is_standard_output(const char *name);
+int is_empty(const char *name);
 void free_bytes(struct bytes *bytes);
 
 /* output.c: standard output, and what goes wrong with it, which is told once, at the end. */
 void print_bytes(const void *bytes, size_t length);
 void print_text(const char *text);
 void print_form(const char *form, ...);
-void flush_output(void);
+void print_name(const char *file);
+int flush_output(void);
 int close_output(void);
 
 /* messages.c: all on standard error. */
@@ -53,26 +55,39 @@ void report_refusal(const char *file, uint32_t number);
 void explain(const char *form, ...);
 int wrong_use(const char *form, ...);
 const char *called(const char *file); /* standard input is given as - */
+const char *clean(const char *text);  /* without control characters */
 
 /* numbers.c: the nearest whole number, a tie going up, and a number as people write it. */
 enum { DECIMAL_ROOM = 32 };
 int64_t nearest(int64_t numerator, int64_t divisor);
 const char *decimal_text(int64_t value, int places, char *room);
 
+/* dates.c: the calendar date of an MJD as yyyy-mm-dd, and the other way round, which answers whether the word is a date. */
+enum { DATE_ROOM = 64 };
+const char *date_text(int64_t mjd, char *room);
+int read_calendar(const char *word, int64_t *mjd);
+
 /*
  * arguments.c: what stands behind a subcommand. Answers ACCEPTED, or FAILED after a message. Allowed may be an option -o, that
- * no file is named, that -o replaces a file that is read, and the options --pairs and --svg. Nothing else that is read may be
- * written to.
+ * no file is named, that -o replaces a file that is read, and the options of view, of convert and of read. Nothing else that is
+ * read may be written to.
  */
-enum { WITH_OUTPUT = 1, NO_FILE = 2, REPLACING = 4, WITH_VIEW = 8 };
+enum { WITH_OUTPUT = 1, NO_FILE = 2, REPLACING = 4, WITH_VIEW = 8, WITH_CONVERT = 16, WITH_READ = 64 };
+enum { MOST_CODES = 32, FRC_WIDTH = TRACKLINE_WIDTH_FRC };
 struct arguments {
-    const char *output;  /* what -o names, or NULL */
-    const char *picture; /* what --svg names, or NULL */
-    int pairs;           /* --pairs is given */
+    const char *output;            /* what -o names, or NULL */
+    const char *picture;           /* what --svg names, or NULL */
+    const char *range;             /* what stands behind --range, or NULL */
+    int pairs, about, parted;      /* options of view that are given */
+    int bad, csv;                  /* options of read that are given */
+    int skip;                      /* --skip is given */
+    const char *codes[MOST_CODES]; /* what --frc names, OLD=NEW */
+    int codes_count;
     int count;
     char **names;
 };
 int read_arguments(int argc, char **argv, int allowed, struct arguments *found);
+const char *code_for(const struct arguments *given, const uint8_t *code);
 
 /* block.c: the numbers in a hire block. The sizes are asked for first: 15n and n where they are those of n blocks. */
 uint64_t unsigned_at(const uint8_t *block, size_t at, size_t width);
@@ -95,8 +110,16 @@ void explain_start(const uint8_t *block);
 const char *shown(uint8_t byte, char *room); /* labels.c: a byte that may not be visible, in a room of 8 bytes */
 const char *constellation_name(uint8_t letter);
 
+/* farthest.c: where in a block with these sizes the values lie farthest from the line, for refusals 4 and 6. */
+void explain_farthest(const uint8_t *block, uint32_t number);
+
+/* kinds.c: what else a file or a line is that was given as a block, as lines, or as a line. Each answers whether it is told. */
+int explain_no_block(const struct bytes *file);
+int explain_no_lines(const struct bytes *file);
+int explain_other_line(const uint8_t *line, size_t length);
+
 /* columns.c: the fields of a data line by their columns, counted from 1, and what a refused line is refused for. */
-enum form { LETTER, WHOLE, HEXADECIMAL, TENTHS, CLOCK, CHARACTERS };
+enum form { LETTER, WHOLE, CALENDAR, HEXADECIMAL, TENTHS, CLOCK, CHARACTERS };
 struct field {
     const char *name;
     size_t first, last;
@@ -121,38 +144,103 @@ const uint8_t *line_at(const struct bytes *file, size_t number);
 const char *keys_of(const uint8_t *line, char *room);
 int compare_keys(const uint8_t *line, const uint8_t *other);
 size_t column_of_difference(const uint8_t *line, const uint8_t *other);
-const char *field_at(size_t column);
+const struct field *field_at(size_t column);
 int files_refused(const struct bytes *first, const struct bytes *second);
 size_t blamed_line(const struct bytes *file, const struct bytes *other);
 struct bytes head_of(const struct bytes *file, size_t lines);
 void report_line(const struct line_file *file, size_t number, uint32_t answer);
 int report_file(const struct line_file *first, const struct line_file *second, uint32_t answer);
 
+/* table.c: accepted lines as a table. */
+void print_table_heading(void);
+void print_table_row(const char *file, size_t number, const uint8_t *line, size_t length, const int64_t *values);
+
+/* differ.c: two lines with the same keys, each by where it stands, and two lines of two files. */
+void explain_difference(const char *place, const uint8_t *line, const char *other_place, const uint8_t *other);
+void explain_two_lines(const struct line_file *first, size_t number, const struct line_file *second, size_t other_number);
+
+/* range.c: what a picture shows of the differences, in 0.1 ns, both ends included; not given, all. */
+struct range_of_picture {
+    int given;
+    int64_t low, high;
+};
+int read_range(const char *word, struct range_of_picture *range);
+
 /* pairs.c: the pairs of two line files one by one, and why there is none. */
 struct pair {
-    const uint8_t *line; /* that of the first file */
-    uint32_t mjd, start; /* the second of the day */
-    int64_t difference;  /* of REFSYS, first less second, in 0.1 ns */
+    const uint8_t *line, *other; /* those of the first and the second file */
+    uint32_t mjd, start;         /* the second of the day */
+    int64_t difference;          /* of REFSYS, first less second, in 0.1 ns */
 };
 struct view {
     const struct line_file *first, *second;
     int64_t report[TRACKLINE_REPORT_NUMBERS];
     struct pair *pairs; /* as many as the report says, or NULL */
+    struct range_of_picture range;
+    size_t parts;       /* of how many parts the report is joined, or 0 where the files were not parted */
 };
 int find_pairs(struct view *view);
 size_t pairs_of_two_codes(const struct bytes *first, const struct bytes *second);
+size_t lines_that_differ(const struct bytes *first, const struct bytes *second);
 void explain_no_pair(const struct line_file *first, const struct line_file *second);
 
 /* picture.c: the differences over time, as SVG. */
 int draw_view(const struct view *view, struct bytes *picture);
 
-/* view.c: the mean as a decimal in ns, and whether it is rounded. */
-int mean_text(const int64_t *report, char *room);
+/* parted.c: the common view of two line files of any length, by dates: the number of a refusal, or 0 with the report. */
+uint32_t view_parted(const struct bytes *first, const struct bytes *second, int64_t *report, size_t *parts);
+
+/* joining.c: one line file from any number of them; ACCEPTED, or FAILED after a message. The answer is the library's. */
+int join_files(struct bytes *pieces, size_t count, struct bytes *joined, uint32_t *answer);
+
+/* texts.c: the lines of a text. A line ends with line feed, or carriage return and line feed; the last one need not. */
+struct text {
+    const uint8_t *at;
+    size_t length; /* without the line end */
+    size_t next;   /* where the next line begins */
+};
+int text_at(const struct bytes *file, size_t from, struct text *line);
+size_t text_begin(const struct bytes *file); /* behind a byte order mark */
+
+/* headers.c: the header of a published file, found by its form. */
+struct header {
+    size_t lines, next; /* how many there are, and where what follows begins */
+    size_t check_line;  /* that of CKSUM, counted from 1 in the header, or 0 where there is none */
+    int fits;           /* CKSUM is right */
+    unsigned stated, sum;
+};
+int find_header(const struct bytes *file, size_t from, struct header *found);
+size_t header_lines(const struct bytes *file, size_t *from);
+int begins_with_header(const struct bytes *file);
+int begins_like_data(const uint8_t *line, size_t length);
+int holds_data(const uint8_t *line, size_t length);
+
+/* published.c: a data line as it is published, and what keeps it from being a line of ours. */
+struct taken {
+    uint8_t line[TRACKLINE_LINE_BYTES]; /* as the library makes it */
+    int filled, coded, commented;       /* other fills, another FRC put in, a comment left out */
+};
+struct fault {
+    size_t column;
+    char reason[200];
+};
+int take_line(const uint8_t *line, size_t length, const struct arguments *given, struct taken *taken, struct fault *fault);
+int is_code(const char *code);
+
+/* advice.c: the commands that help with a file that is refused, below the refusal. */
+void advise_convert(const char *name, const char *what);
+void advise_header(const char *name);
+void advise_parted(const char *first, const char *second);
+void advise_line(const struct line_file *file, const uint8_t *line, size_t length);
+
+/* about.c: rounded figures for people. */
+int print_about(const struct view *view);
 
 /* The subcommands. Each takes what main was given from its own name on, and answers the exit status. */
 int line_command(int argc, char **argv);
 int check_command(int argc, char **argv);
 int read_command(int argc, char **argv);
+int convert_command(int argc, char **argv);
 int merge_command(int argc, char **argv);
 int view_command(int argc, char **argv);
 int starts_command(int argc, char **argv);

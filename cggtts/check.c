@@ -43,6 +43,9 @@ static void explain_length(const struct bytes *block)
 /* A block has bytes of 0, as its sizes are small numbers, and so is no text. */
 static int explain_text(const struct bytes *block)
 {
+    if (explain_no_block(block)) {
+        return 1;
+    }
     if (!looks_like_text(block)) {
         return 0;
     }
@@ -79,6 +82,9 @@ static void explain_refusal(const struct bytes *block, uint32_t number)
     case TRACKLINE_DELAY:
     case TRACKLINE_SCATTER:
         explain_figures(block->at, number);
+        if (number == TRACKLINE_SLOPE || number == TRACKLINE_SCATTER) {
+            explain_farthest(block->at, number);
+        }
         break;
     case TRACKLINE_LABEL:
         explain_labels(block->at);
@@ -91,6 +97,22 @@ static void explain_refusal(const struct bytes *block, uint32_t number)
     }
 }
 
+/* A track whose values scatter by more than 10 ns is accepted, and hardly one to be used unseen. */
+static void remark(const uint8_t *block, const uint8_t *line)
+{
+    enum { MUCH = 100 };
+    int64_t values[TRACKLINE_VALUES];
+    char scatter[DECIMAL_ROOM];
+    uint32_t answer = trackline_read(line, TRACKLINE_LINE_BYTES, values, TRACKLINE_VALUES);
+    if (answer != TRACKLINE_ACCEPTED || values[TRACKLINE_VALUE_DSG] <= MUCH) {
+        return;
+    }
+    flush_output();
+    explain("a remark: DSG is %s ns, above 10 ns; look at the track before it is used",
+            decimal_text(values[TRACKLINE_VALUE_DSG], 1, scatter));
+    explain_farthest(block, TRACKLINE_SCATTER);
+}
+
 static int check(const char *name)
 {
     struct bytes block;
@@ -101,8 +123,9 @@ static int check(const char *name)
     }
     uint32_t answer = trackline_block(block.at, block.length, line, sizeof line);
     if (answer == TRACKLINE_ACCEPTED) {
-        print_text(name);
+        print_name(name);
         print_text(": accepted\n");
+        remark(block.at, line);
     } else {
         report_refusal(name, answer);
         explain_refusal(&block, answer);

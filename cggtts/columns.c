@@ -15,7 +15,7 @@ const struct field FIELD[FIELDS] = {
     {"constellation", 1, 1, LETTER, TRACKLINE_VALUE_CONSTELLATION, ""},
     {"satellite", 2, 3, WHOLE, TRACKLINE_VALUE_SATELLITE, ""},
     FIELD_OF(CL, 5, 6, HEXADECIMAL, ""),
-    FIELD_OF(MJD, 8, 12, WHOLE, ""),
+    FIELD_OF(MJD, 8, 12, CALENDAR, ""),
     {"start", 14, 19, CLOCK, TRACKLINE_VALUE_START, ""},
     FIELD_OF(TRKL, 21, 24, WHOLE, "s"),
     FIELD_OF(ELV, 26, 28, TENTHS, "degrees"),
@@ -60,10 +60,21 @@ static const char *wanted(char kind, uint8_t byte)
     return byte != 0 && strchr(of->characters, byte) != NULL ? NULL : of->name;
 }
 
+/* What a column holds, in words where there are any. */
+static const char *held_in(uint8_t byte, char *room)
+{
+    switch (byte) {
+    case ' ': return "a blank";
+    case '\t': return "a tab";
+    case '\r': return "a carriage return";
+    default: return shown(byte, room);
+    }
+}
+
 static void explain_column(const uint8_t *line, size_t column, const char *what)
 {
     char room[8];
-    const char *held = line[column - 1] == ' ' ? "a blank" : shown(line[column - 1], room);
+    const char *held = held_in(line[column - 1], room);
     const struct field *field = FIELD;
     while (field < FIELD + FIELDS && field->last < column) {
         field++;

@@ -114,20 +114,20 @@ void explain_figures(const uint8_t *block, uint32_t number)
     size_t n = values.count;
     switch (number) {
     case TRACKLINE_MIDPOINT:
-        judge("REFSV", midpoint(values.a, n), -9999999999, 9999999999);
-        judge("REFSYS", midpoint(values.b, n), -9999999999, 9999999999);
+        judge("REFSV", midpoint(values.a, n), -TRACKLINE_MOST_MIDPOINT, TRACKLINE_MOST_MIDPOINT);
+        judge("REFSYS", midpoint(values.b, n), -TRACKLINE_MOST_MIDPOINT, TRACKLINE_MOST_MIDPOINT);
         break;
     case TRACKLINE_SLOPE:
-        judge("SRSV", slope(values.a, n), -99999, 99999);
-        judge("SRSYS", slope(values.b, n), -99999, 99999);
-        judge("SMDT", slope(values.c, n), -999, 999);
-        judge("SMDI", slope(values.d, n), -999, 999);
+        judge("SRSV", slope(values.a, n), -TRACKLINE_MOST_SLOPE, TRACKLINE_MOST_SLOPE);
+        judge("SRSYS", slope(values.b, n), -TRACKLINE_MOST_SLOPE, TRACKLINE_MOST_SLOPE);
+        judge("SMDT", slope(values.c, n), -TRACKLINE_MOST_DELAY_SLOPE, TRACKLINE_MOST_DELAY_SLOPE);
+        judge("SMDI", slope(values.d, n), -TRACKLINE_MOST_DELAY_SLOPE, TRACKLINE_MOST_DELAY_SLOPE);
         break;
     case TRACKLINE_DELAY:
-        judge("MDTR", midpoint(values.c, n), 0, 9999);
-        judge("MDIO", midpoint(values.d, n), 0, 9999);
+        judge("MDTR", midpoint(values.c, n), 0, TRACKLINE_MOST_DELAY);
+        judge("MDIO", midpoint(values.d, n), 0, TRACKLINE_MOST_DELAY);
         break;
     default:
-        explain("DSG is about %.0f, not 0 to 9999 (worked out by cggtts, not by the library)", scatter(values.b, n));
+        explain("DSG is about %.0f, not 0 to %d (worked out by cggtts, not by the library)", scatter(values.b, n), TRACKLINE_MOST_DSG);
     }
 }

@@ -3,6 +3,7 @@
 
 #include <errno.h>
 #include <fcntl.h>
+#include <libgen.h>
 #include <signal.h>
 #include <stdio.h>
 #include <stdlib.h>
@@ -127,21 +128,58 @@ int is_standard_output(const char *name)
     return input_stands(name, &in) && fstat(STDOUT_FILENO, &out) == 0 && one_file(&out, &in);
 }
 
-/* Writes all of it and closes the file, whatever happens. */
+/* Whether a file that is read has no byte. */
+int is_empty(const char *name)
+{
+    struct stat in;
+    return input_stands(name, &in) && in.st_size == 0;
+}
+
 static int write_all(int file, const struct bytes *bytes)
 {
     size_t done = 0;
     while (done < bytes->length) {
         ssize_t put = write(file, bytes->at + done, bytes->length - done);
         if (put < 0 && errno != EINTR) {
-            int error = errno;
-            close(file);
-            errno = error;
             return -1;
         }
         done += put > 0 ? (size_t)put : 0;
     }
+    return 0;
+}
+
+/* What was written goes to the disk now. Some file systems, and what is no file, have no such call. */
+static int flush_to_disk(int file)
+{
+    int answer = fsync(file);
+    return answer != 0 && (errno == EINVAL || errno == ENOTSUP) ? 0 : answer;
+}
+
+/* Writes all of it, flushes it to the disk and closes the file, whatever happens. */
+static int write_and_close(int file, const struct bytes *bytes)
+{
+    if (write_all(file, bytes) != 0 || flush_to_disk(file) != 0) {
+        int error = errno;
+        close(file);
+        errno = error;
+        return -1;
+    }
     return close(file);
+}
+
+/* A file's name goes to the disk with its folder. One that may not be read can't be flushed; the name is right even so. */
+static int flush_folder(const char *name)
+{
+    char *copy = strdup(name);
+    int folder = copy == NULL ? -1 : open(dirname(copy), O_RDONLY | O_DIRECTORY | O_CLOEXEC);
+    free(copy);
+    if (folder < 0) {
+        return errno == EACCES ? 0 : -1;
+    }
+    int answer = flush_to_disk(folder), error = errno;
+    close(folder);
+    errno = error;
+    return answer;
 }
 
 /* Writes beside the file and then puts it in its place, with the mode that the file had. */
@@ -155,24 +193,21 @@ static int replace(const char *name, const char *beside, const struct stat *old,
         /* a mode that can't be kept is no reason to write nothing */
         (void)fchmod(file, old->st_mode & 07777);
     }
-    if (write_all(file, bytes) != 0 || rename(beside, name) != 0) {
+    if (write_and_close(file, bytes) != 0 || rename(beside, name) != 0) {
         int error = errno;
         unlink(beside);
         errno = error;
         return -1;
     }
-    return 0;
+    return flush_folder(name);
 }
 
-/* The same, with the signals that end the program kept back until the file beside has gone. */
+/* The same, with every signal that can be kept back kept back until the file beside has gone. */
 static int replace_undisturbed(const char *name, const char *beside, const struct stat *old, const struct bytes *bytes)
 {
-    sigset_t ending, before;
-    sigemptyset(&ending);
-    sigaddset(&ending, SIGHUP);
-    sigaddset(&ending, SIGINT);
-    sigaddset(&ending, SIGTERM);
-    sigprocmask(SIG_BLOCK, &ending, &before);
+    sigset_t all, before;
+    sigfillset(&all);
+    sigprocmask(SIG_BLOCK, &all, &before);
     int answer = replace(name, beside, old, bytes);
     int error = errno;
     sigprocmask(SIG_SETMASK, &before, NULL);
@@ -198,7 +233,7 @@ static int write_whole(const char *name, const struct bytes *bytes)
     int stands = stat(name, &old) == 0;
     if (stands && !S_ISREG(old.st_mode)) {
         int file = open(name, O_WRONLY | O_TRUNC | O_CLOEXEC);
-        return file < 0 ? -1 : write_all(file, bytes);
+        return file < 0 ? -1 : write_and_close(file, bytes);
     }
     char *place = own_place(name, stands);
     size_t room = place != NULL ? strlen(place) + 32 : 0;
@@ -219,7 +254,7 @@ int write_file(const char *name, const struct bytes *bytes)
 {
     if (strcmp(name, "-") == 0) {
         print_bytes(bytes->at, bytes->length);
-        return ACCEPTED;
+        return flush_output();
     }
     if (write_whole(name, bytes) != 0) {
         complain_of_error(name, errno);

@@ -13,11 +13,11 @@ struct range {
 #define RANGE(name, low, high) {#name, TRACKLINE_AT_##name, TRACKLINE_WIDTH_##name, low, high}
 
 static const struct range RANGES[] = {
-    {"satellite", TRACKLINE_AT_SATELLITE, TRACKLINE_WIDTH_SATELLITE, 1, 99},
-    RANGE(HC, 0, 99),
+    {"satellite", TRACKLINE_AT_SATELLITE, TRACKLINE_WIDTH_SATELLITE, TRACKLINE_LEAST_SATELLITE, TRACKLINE_MOST_SATELLITE},
+    RANGE(HC, 0, TRACKLINE_MOST_HC),
     RANGE(MJD, FIRST_MJD, LAST_MJD),
-    RANGE(ELV, 0, 900),
-    RANGE(AZTH, 0, 3599),
+    RANGE(ELV, 0, TRACKLINE_MOST_ELV),
+    RANGE(AZTH, 0, TRACKLINE_MOST_AZTH),
 };
 
 /* The letters, their names and the ranges that go by them. */
@@ -26,9 +26,11 @@ static const struct constellation {
     const char *name;
     struct range ioe, fr;
 } CONSTELLATIONS[] = {
-    {'G', "GPS", RANGE(IOE, 0, 255), RANGE(FR, 0, 0)},     {'R', "GLONASS", RANGE(IOE, 1, 96), RANGE(FR, 1, 24)},
-    {'E', "Galileo", RANGE(IOE, 0, 999), RANGE(FR, 0, 0)}, {'C', "BeiDou", RANGE(IOE, 0, 23), RANGE(FR, 0, 0)},
-    {'J', "QZSS", RANGE(IOE, 0, 255), RANGE(FR, 0, 0)},
+    {'G', "GPS", RANGE(IOE, 0, TRACKLINE_MOST_IOE_G), RANGE(FR, 0, 0)},
+    {'R', "GLONASS", RANGE(IOE, TRACKLINE_LEAST_IOE_R, TRACKLINE_MOST_IOE_R), RANGE(FR, TRACKLINE_LEAST_FR_R, TRACKLINE_MOST_FR_R)},
+    {'E', "Galileo", RANGE(IOE, 0, TRACKLINE_MOST_IOE_E), RANGE(FR, 0, 0)},
+    {'C', "BeiDou", RANGE(IOE, 0, TRACKLINE_MOST_IOE_C), RANGE(FR, 0, 0)},
+    {'J', "QZSS", RANGE(IOE, 0, TRACKLINE_MOST_IOE_J), RANGE(FR, 0, 0)},
 };
 enum { LETTERS = sizeof CONSTELLATIONS / sizeof CONSTELLATIONS[0] };
 

@@ -4,7 +4,8 @@
 #include <inttypes.h>
 #include <stdio.h>
 
-static const int64_t MEASUREMENT_LIMIT = 1000000000000, GEOMETRY_LIMIT = 200000000000, OTHER_LIMIT = 10000000000;
+static const int64_t MEASUREMENT_LIMIT = TRACKLINE_MOST_MEASUREMENT, GEOMETRY_LIMIT = TRACKLINE_MOST_GEOMETRY,
+                     OTHER_LIMIT = TRACKLINE_MOST_CORRECTION;
 
 static const char *const DELAYS[] = {"INT", "CAB", "REF", "GD"};
 static const char *const COLUMNS[] = {"geometry", "relativity", "ionosphere", "troposphere", "clock"};

@@ -95,14 +95,14 @@ size_t column_of_difference(const uint8_t *line, const uint8_t *other)
     return 0;
 }
 
-/* The name of the field that a column stands in. */
-const char *field_at(size_t column)
+/* The field that a column stands in, or before. */
+const struct field *field_at(size_t column)
 {
     const struct field *field = FIELD;
     while (field->last < column) {
         field++;
     }
-    return field->name;
+    return field;
 }
 
 void report_line(const struct line_file *file, size_t number, uint32_t answer)
@@ -112,22 +112,37 @@ void report_line(const struct line_file *file, size_t number, uint32_t answer)
     report_refusal(place, answer);
 }
 
+/* The two bytes behind column 113, which are not carriage return and line feed. */
 static void explain_end(const uint8_t *end)
 {
-    char first[8], second[8];
-    explain("its line end is %s and %s, not carriage return and line feed", end[0] == ' ' ? "a blank" : shown(end[0], first),
-            end[1] == ' ' ? "a blank" : shown(end[1], second));
+    if (end[0] == '\n') {
+        explain("its lines end with line feed alone, not carriage return and line feed");
+    } else if (end[0] == '\r') {
+        explain("its lines end with carriage return alone: tr '\\r' '\\n' puts line feeds in their place, which convert takes");
+    } else {
+        explain("it goes on behind column 113: a comment, which a line of a file has not");
+    }
 }
 
-static int begins_with(const struct bytes *file, const char *word)
+/* A last line that is too short; with line feed alone it would be whole. */
+static void explain_tail(const uint8_t *line, size_t length)
 {
-    return file->length >= strlen(word) && memcmp(file->at, word, strlen(word)) == 0;
+    if (length == TRACKLINE_LINE_BYTES + 1 && line[TRACKLINE_LINE_BYTES] == '\n') {
+        explain_end(line + TRACKLINE_LINE_BYTES);
+    } else {
+        explain("it has %zu byte%s, and a line of a file has %d with its line end", length, length == 1 ? "" : "s",
+                TRACKLINE_FILE_LINE_BYTES);
+    }
 }
 
-/* The form's name, with which the header of a published file begins, or the name of the first column. */
-static int begins_with_header(const struct bytes *file)
+/* What stands from a line of a file on, up to the next line feed, without a line end. */
+static size_t length_of_text(const struct bytes *file, size_t number)
 {
-    return begins_with(file, "CGGTTS") || begins_with(file, "GGTTS") || begins_with(file, "SAT");
+    const uint8_t *line = line_at(file, number);
+    size_t rest = (size_t)(file->at + file->length - line);
+    const uint8_t *end = memchr(line, '\n', rest);
+    size_t length = end != NULL ? (size_t)(end - line) : rest;
+    return length - (length > 0 && line[length - 1] == '\r');
 }
 
 /* 16: the keys of the line and of the line before it, which may be the same, as the whole line may. */
@@ -140,31 +155,46 @@ static void explain_order(const uint8_t *line, const uint8_t *before)
     if (column == 0) {
         explain("it has %s, and is the line before it once more", keys);
     } else if (compare_keys(line, before) == 0) {
-        explain("it has %s as the line before it has, and is another from column %zu on (%s)", keys, column, field_at(column));
+        explain("it has %s as the line before it has, and is another from column %zu on (%s)", keys, column,
+                field_at(column)->name);
     } else {
         explain("it has %s, and the line before it %s", keys, keys_before);
     }
 }
 
-/* What a line of one file is refused for. */
-static void explain_file(const struct bytes *file, size_t number, uint32_t answer)
+/* The command that helps: with lines that do not ascend, or with one that only has other fills or another line end. */
+static void advise_file(const struct line_file *file, size_t number, uint32_t answer)
 {
-    const uint8_t *line = line_at(file, number);
+    if (answer == TRACKLINE_ORDER) {
+        advise_convert(file->name, "convert puts lines in order, and writes equal ones once");
+    } else {
+        advise_line(file, line_at(&file->bytes, number), length_of_text(&file->bytes, number));
+    }
+}
+
+/* What a line of one file is refused for. */
+static void explain_file(const struct line_file *file, size_t number, uint32_t answer)
+{
+    const uint8_t *line = line_at(&file->bytes, number);
+    size_t tail = file->bytes.length - TRACKLINE_FILE_LINE_BYTES * (number - 1);
     int64_t values[TRACKLINE_VALUES];
-    if (begins_with_header(file)) {
-        explain("the file begins with a header, and a line file has data lines alone; this makes one:");
-        explain("  LC_ALL=C grep -aE '^[CEGJR][0-9][0-9] ' FILE | cut -c1-113 | sed 's/$/\\r/' > LINES");
-    } else if (answer == TRACKLINE_LINE_LENGTH) {
-        size_t tail = file->length - TRACKLINE_FILE_LINE_BYTES * (number - 1);
-        explain("it has %zu byte%s, and a line of a file has %d with its line end", tail, tail == 1 ? "" : "s",
-                TRACKLINE_FILE_LINE_BYTES);
+    if (begins_with_header(&file->bytes)) {
+        advise_header(file->name);
+        return;
+    }
+    if (explain_no_lines(&file->bytes) || explain_other_line(line, length_of_text(&file->bytes, number))) {
+        return;
+    }
+    if (answer == TRACKLINE_LINE_LENGTH) {
+        explain_tail(line, tail);
     } else if (answer == TRACKLINE_ORDER) {
-        explain_order(line, line_at(file, number - 1));
+        explain_order(line, line_at(&file->bytes, number - 1));
     } else if (trackline_read(line, TRACKLINE_LINE_BYTES, values, TRACKLINE_VALUES) == TRACKLINE_ACCEPTED) {
         explain_end(line + TRACKLINE_LINE_BYTES);
     } else {
         explain_line(line, TRACKLINE_LINE_BYTES, answer);
     }
+    advise_file(file, number, answer);
 }
 
 /* Reports the line that one of the files is refused for. Answers whether there is one. */
@@ -176,7 +206,7 @@ int report_file(const struct line_file *first, const struct line_file *second, u
     if (blamed != NULL) {
         size_t number = blamed_line(&blamed->bytes, &NOTHING);
         report_line(blamed, number, answer);
-        explain_file(&blamed->bytes, number, answer);
+        explain_file(blamed, number, answer);
     }
     return blamed != NULL;
 }

@@ -4,6 +4,7 @@
  */
 #include "cggtts.h"
 
+#include <signal.h>
 #include <string.h>
 
 #ifndef VERSION
@@ -18,11 +19,17 @@ static const struct command {
 } COMMANDS[] = {
     {"line", "FILE.. [-o OUT]", "print the data line of each hire block, or write them to OUT", line_command},
     {"check", "FILE..", "say whether each hire block is accepted, and what is to blame if not", check_command},
-    {"read", "[FILE..]", "show what stands in each data line, and what is to blame if it is refused", read_command},
-    {"merge", "FIRST SECOND [-o OUT]", "print the lines of two line files as one file, or write it to OUT", merge_command},
-    {"view", "FIRST SECOND [--pairs] [--svg PICTURE]",
-     "report REFSYS of FIRST minus REFSYS of SECOND over the tracks of both, or print each pair; draw them", view_command},
-    {"starts", "MJD", "print the starts of that date's 89 tracks as hhmmss, in order", starts_command},
+    {"read", "[FILE..] [--bad | --csv]",
+     "show what stands in each data line, and what is to blame if it is refused; refused ones alone, or a table", read_command},
+    {"convert", "FILE.. [-o LINES] [--skip] [--frc OLD=NEW]..",
+     "make one line file of published files: headers, comments and other fills and line ends taken off; name what can't be taken",
+     convert_command},
+    {"merge", "FILE FILE.. [-o OUT]", "print the lines of two or more line files as one file, or write it to OUT", merge_command},
+    {"view", "FIRST SECOND [--pairs | --about] [--svg PICTURE [--range LOW:HIGH]] [--parted]",
+     "report REFSYS of FIRST minus REFSYS of SECOND over the tracks of both, or print each pair; with mean, deviation and\n"
+     "        median, rounded; draw them, from LOW to HIGH ns; files of any length, date by date",
+     view_command},
+    {"starts", "MJD | yyyy-mm-dd", "print the starts of that date's 89 tracks as hhmmss, in order", starts_command},
 };
 
 enum { COUNT = sizeof COMMANDS / sizeof COMMANDS[0] };
@@ -55,15 +62,38 @@ static const struct command *command_named(const char *name)
     return NULL;
 }
 
+static int is_help(const char *word)
+{
+    return strcmp(word, "--help") == 0 || strcmp(word, "-h") == 0;
+}
+
+static int is_version(const char *word)
+{
+    return strcmp(word, "--version") == 0 || strcmp(word, "-V") == 0;
+}
+
 /* Whether help is asked for behind a subcommand; behind -- every word is a file. */
 static int asks_for_help(int argc, char **argv)
 {
     for (int i = 2; i < argc && strcmp(argv[i], "--") != 0; i++) {
-        if (strcmp(argv[i], "--help") == 0) {
+        if (is_help(argv[i])) {
             return 1;
         }
     }
     return 0;
+}
+
+/* cggtts help, by itself or with a subcommand behind it. */
+static int help_command(int argc, char **argv)
+{
+    const struct command *only = argc == 3 ? command_named(argv[2]) : NULL;
+    if (argc > 3) {
+        return wrong_use("help: '%s' is one word too many", argv[3]);
+    }
+    if (argc == 3 && only == NULL) {
+        return wrong_use("no subcommand '%s'", argv[2]);
+    }
+    return print_help(only);
 }
 
 static int run(int argc, char **argv)
@@ -71,7 +101,10 @@ static int run(int argc, char **argv)
     if (argc < 2) {
         return wrong_use("a subcommand is missing");
     }
-    int help = strcmp(argv[1], "--help") == 0, version = strcmp(argv[1], "--version") == 0;
+    int help = is_help(argv[1]), version = is_version(argv[1]);
+    if (strcmp(argv[1], "help") == 0) {
+        return help_command(argc, argv);
+    }
     if ((help || version) && argc > 2) {
         return wrong_use("%s: '%s' is one word too many", argv[1], argv[2]);
     }
@@ -92,8 +125,10 @@ static int run(int argc, char **argv)
     return command->run(argc - 1, argv + 1);
 }
 
+/* A file that would grow beyond the limit on its size is an error of writing, as a full disk is, and no signal. */
 int main(int argc, char **argv)
 {
+    signal(SIGXFSZ, SIG_IGN);
     int status = run(argc, argv);
     int closed = close_output();
     return closed > status ? closed : status;

@@ -26,6 +26,12 @@ void print_text(const char *text)
     print_bytes(text, strlen(text));
 }
 
+/* A file's name, as messages have it. */
+void print_name(const char *file)
+{
+    print_text(clean(file));
+}
+
 void print_form(const char *form, ...)
 {
     va_list given;
@@ -35,11 +41,12 @@ void print_form(const char *form, ...)
     va_end(given);
 }
 
-/* What is on its way goes out now: a failure counts as one of a later byte would. */
-void flush_output(void)
+/* What is on its way goes out now. Answers FAILED where anything printed so far did not, which is told at the end. */
+int flush_output(void)
 {
     errno = 0;
     note(fflush(stdout) != 0);
+    return first_error == 0 ? ACCEPTED : FAILED;
 }
 
 int close_output(void)

@@ -20,6 +20,7 @@ static int is_pair(const uint8_t *line, const uint8_t *other, struct pair *pair)
         return 0;
     }
     pair->line = line;
+    pair->other = other;
     pair->mjd = (uint32_t)values[TRACKLINE_VALUE_MJD];
     pair->start = (uint32_t)values[TRACKLINE_VALUE_START];
     pair->difference = report[TRACKLINE_REPORT_SUM];
@@ -104,6 +105,17 @@ size_t pairs_of_two_codes(const struct bytes *first, const struct bytes *second)
     for (; find_level(first, second, &at); at.first++, at.second++) {
         const uint8_t *line = line_at(first, at.first), *other = line_at(second, at.second);
         count += memcmp(length_of(line), length_of(other), 4) == 0 && memcmp(code_of(line), code_of(other), 3) != 0;
+    }
+    return count;
+}
+
+/* How many lines of one file have the keys of a line of the other and are another line. */
+size_t lines_that_differ(const struct bytes *first, const struct bytes *second)
+{
+    struct place at = {1, 1};
+    size_t count = 0;
+    for (; find_level(first, second, &at); at.first++, at.second++) {
+        count += column_of_difference(line_at(first, at.first), line_at(second, at.second)) != 0;
     }
     return count;
 }

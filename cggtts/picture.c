@@ -13,6 +13,8 @@
 enum { WIDTH = 960, HEIGHT = 525, LEFT = 1320, RIGHT = 9300, TOP = 960, BOTTOM = 4660 };
 /* So many ticks at most, the longest name of a file, whose end is shown, and how far apart names in the legend stand. */
 enum { TICKS = 8, LONGEST_NAME = 36, LEGEND = 1590 };
+/* So many characters of the heading fit beside each other, 9 pixels each; so many lines at most, and how far apart. */
+enum { LONGEST_LINE = (WIDTH - LEFT / 10) / 9, SUMMARY_LINES = 4, LINE_HEIGHT = 20 };
 /* The least room beside the first and the last point: 0.05 days, and 0.5 ns. */
 enum { TIME_ROOM = DAY / 20, DIFFERENCE_ROOM = 5 };
 
@@ -176,21 +178,93 @@ static void put_title(struct drawing *drawing, const struct view *view)
     put_name(drawing, second, first);
 }
 
+/* Whether a fraction, over a divisor, is among what is drawn. */
+static int is_inside(const struct range_of_picture *range, int64_t numerator, int64_t divisor)
+{
+    return !range->given || (numerator >= range->low * divisor && numerator <= range->high * divisor);
+}
+
+/* The lines of the heading below its title, each short enough for the picture's width. */
+struct summary {
+    char lines[SUMMARY_LINES][2 * LONGEST_LINE];
+    int count;
+};
+
+/* Puts words behind the last line with a blank, or on a new one where that would be too long. */
+static void add_words(struct summary *summary, const char *form, ...)
+{
+    char words[LONGEST_LINE];
+    va_list given;
+    va_start(given, form);
+    vsnprintf(words, sizeof words, form, given);
+    va_end(given);
+    char *line = summary->lines[summary->count > 0 ? summary->count - 1 : 0];
+    int fits = summary->count > 0 && strlen(line) + 1 + strlen(words) <= LONGEST_LINE;
+    if (fits) {
+        strcat(strcat(line, " "), words);
+    } else {
+        strcpy(summary->lines[summary->count++], words);
+    }
+}
+
+static int64_t pairs_outside(const struct view *view)
+{
+    int64_t outside = 0;
+    for (int64_t i = 0; i < view->report[TRACKLINE_REPORT_PAIRS]; i++) {
+        outside += !is_inside(&view->range, view->pairs[i].difference, 1);
+    }
+    return outside;
+}
+
+/* How many pairs there are, and how many are not drawn, where a range is given. */
+static void add_pairs(struct summary *summary, const struct view *view)
+{
+    char low[DECIMAL_ROOM], high[DECIMAL_ROOM];
+    int64_t pairs = view->report[TRACKLINE_REPORT_PAIRS];
+    add_words(summary, "%" PRId64 " pair%s%s", pairs, pairs == 1 ? "" : "s", view->range.given ? "," : ":");
+    if (view->range.given) {
+        add_words(summary, "%" PRId64 " outside %s to %s ns:", pairs_outside(view), decimal_text(view->range.low, 1, low),
+                  decimal_text(view->range.high, 1, high));
+    }
+}
+
+/* The three figures, and how the line of each is drawn, if it is. */
+static void summarize(struct summary *summary, const struct view *view)
+{
+    static const char OUTSIDE[] = " (outside)", DASHED[] = " (dashed)";
+    const int64_t *report = view->report;
+    char smallest[DECIMAL_ROOM], largest[DECIMAL_ROOM];
+    int low = is_inside(&view->range, report[TRACKLINE_REPORT_SMALLEST], 1);
+    int high = is_inside(&view->range, report[TRACKLINE_REPORT_LARGEST], 1);
+    int mean = is_inside(&view->range, report[TRACKLINE_REPORT_SUM], report[TRACKLINE_REPORT_PAIRS]);
+    add_pairs(summary, view);
+    add_words(summary, "smallest %s ns%s and largest %s ns%s,", decimal_text(report[TRACKLINE_REPORT_SMALLEST], 1, smallest),
+              low && high ? "" : low ? DASHED : OUTSIDE, decimal_text(report[TRACKLINE_REPORT_LARGEST], 1, largest),
+              high ? DASHED : OUTSIDE);
+    add_words(summary, "mean %" PRId64 "/%" PRId64 " x 0.1 ns%s", report[TRACKLINE_REPORT_SUM], report[TRACKLINE_REPORT_PAIRS],
+              mean ? " (red)" : OUTSIDE);
+}
+
+/* Each line beyond the first makes the picture higher at its top, where coordinates are then below 0. */
 static void put_head(struct drawing *drawing, const struct view *view)
 {
-    const int64_t *report = view->report;
-    char smallest[DECIMAL_ROOM], largest[DECIMAL_ROOM], mean[DECIMAL_ROOM];
-    int rounded = mean_text(report, mean);
-    put(drawing, "<svg xmlns=\"http://www.w3.org/2000/svg\" width=\"%d\" height=\"%d\" viewBox=\"0 0 %d %d\">\n<title>", WIDTH,
-        HEIGHT, WIDTH, HEIGHT);
+    struct summary summary = {.count = 0};
+    summarize(&summary, view);
+    int more = LINE_HEIGHT * (summary.count - 1), top = -more;
+    put(drawing, "<svg xmlns=\"http://www.w3.org/2000/svg\" width=\"%d\" height=\"%d\" viewBox=\"0 %d %d %d\">\n<title>", WIDTH,
+        HEIGHT + more, top, WIDTH, HEIGHT + more);
     put_title(drawing, view);
-    put(drawing, "</title>\n<style>%s</style>\n<rect width=\"%d\" height=\"%d\" fill=\"#fff\"/>\n", STYLE, WIDTH, HEIGHT);
-    put(drawing, "<text x=\"%d\" y=\"28\" class=\"head\">", LEFT / 10);
+    put(drawing, "</title>\n<style>%s</style>\n<rect", STYLE);
+    if (more > 0) {
+        put(drawing, " y=\"%d\"", top);
+    }
+    put(drawing, " width=\"%d\" height=\"%d\" fill=\"#fff\"/>\n", WIDTH, HEIGHT + more);
+    put(drawing, "<text x=\"%d\" y=\"%d\" class=\"head\">", LEFT / 10, 28 - more);
     put_title(drawing, view);
-    put(drawing, "</text>\n<text x=\"%d\" y=\"52\">%" PRId64 " pair%s: smallest %s ns and largest %s ns (dashed), ", LEFT / 10,
-        report[TRACKLINE_REPORT_PAIRS], report[TRACKLINE_REPORT_PAIRS] == 1 ? "" : "s",
-        decimal_text(report[TRACKLINE_REPORT_SMALLEST], 1, smallest), decimal_text(report[TRACKLINE_REPORT_LARGEST], 1, largest));
-    put(drawing, "mean %s%s ns (red)</text>\n", rounded ? "about " : "", mean);
+    put(drawing, "</text>\n");
+    for (int i = 0; i < summary.count; i++) {
+        put(drawing, "<text x=\"%d\" y=\"%d\">%s</text>\n", LEFT / 10, 52 - more + LINE_HEIGHT * i, summary.lines[i]);
+    }
 }
 
 static void put_times(struct drawing *drawing, const struct axis *times)
@@ -224,12 +298,21 @@ static void put_differences(struct drawing *drawing, const struct axis *differen
         (TOP + BOTTOM) / 20, x, (TOP + BOTTOM) / 20);
 }
 
-static void put_levels(struct drawing *drawing, const struct axis *differences, const int64_t *report)
+static void put_levels(struct drawing *drawing, const struct axis *differences, const struct view *view)
 {
     static const char DASHED[] = " stroke-dasharray=\"6 4\"", THICK[] = " stroke-width=\"1.6\"";
-    put_level(drawing, place_of(differences, report[TRACKLINE_REPORT_SMALLEST], 1), GREY, DASHED);
-    put_level(drawing, place_of(differences, report[TRACKLINE_REPORT_LARGEST], 1), GREY, DASHED);
-    put_level(drawing, place_of(differences, report[TRACKLINE_REPORT_SUM], report[TRACKLINE_REPORT_PAIRS]), RED, THICK);
+    const int64_t *report = view->report;
+    const struct {
+        int64_t numerator, divisor;
+        const char *colour, *more;
+    } levels[] = {{report[TRACKLINE_REPORT_SMALLEST], 1, GREY, DASHED},
+                  {report[TRACKLINE_REPORT_LARGEST], 1, GREY, DASHED},
+                  {report[TRACKLINE_REPORT_SUM], report[TRACKLINE_REPORT_PAIRS], RED, THICK}};
+    for (size_t i = 0; i < sizeof levels / sizeof levels[0]; i++) {
+        if (is_inside(&view->range, levels[i].numerator, levels[i].divisor)) {
+            put_level(drawing, place_of(differences, levels[i].numerator, levels[i].divisor), levels[i].colour, levels[i].more);
+        }
+    }
 }
 
 static int64_t time_of(const struct pair *pair)
@@ -269,7 +352,7 @@ static int put_constellation(struct drawing *drawing, const struct view *view, c
     put(drawing, "<g fill=\"%s\" fill-opacity=\"0.75\">\n", COLOURS[which].colour);
     for (int64_t i = 0; i < pairs; i++) {
         const struct pair *pair = &view->pairs[i];
-        if (*pair->line == COLOURS[which].letter) {
+        if (*pair->line == COLOURS[which].letter && is_inside(&view->range, pair->difference, 1)) {
             put_pair(drawing, pair, axes, radius);
             count++;
         }
@@ -285,14 +368,22 @@ static int put_constellation(struct drawing *drawing, const struct view *view, c
     return count > 0 ? legend + LEGEND : legend;
 }
 
+/* Over all differences with some room, or over the range that is given. */
+static struct axis axis_of_differences(const struct view *view)
+{
+    const struct range_of_picture *range = &view->range;
+    struct axis given = {range->low, range->high, step_of(1, range->high - range->low), 1, 1, 0, 0};
+    return range->given ? given
+                        : axis_over(view->report[TRACKLINE_REPORT_SMALLEST], view->report[TRACKLINE_REPORT_LARGEST],
+                                    DIFFERENCE_ROOM, 1, 1);
+}
+
 /* The first pair is the earliest, as lines ascend by their dates. */
 int draw_view(const struct view *view, struct bytes *picture)
 {
     struct drawing drawing = {picture, ACCEPTED};
-    const int64_t *report = view->report;
-    struct axis axes[] = {
-        axis_over(time_of(&view->pairs[0]), time_of(&view->pairs[report[TRACKLINE_REPORT_PAIRS] - 1]), TIME_ROOM, DAY / 100, 2),
-        axis_over(report[TRACKLINE_REPORT_SMALLEST], report[TRACKLINE_REPORT_LARGEST], DIFFERENCE_ROOM, 1, 1)};
+    const struct pair *last = &view->pairs[view->report[TRACKLINE_REPORT_PAIRS] - 1];
+    struct axis axes[] = {axis_over(time_of(&view->pairs[0]), time_of(last), TIME_ROOM, DAY / 100, 2), axis_of_differences(view)};
     axes[0].from = LEFT;
     axes[0].to = RIGHT;
     axes[1].from = BOTTOM;
@@ -300,7 +391,7 @@ int draw_view(const struct view *view, struct bytes *picture)
     put_head(&drawing, view);
     put_differences(&drawing, &axes[1]);
     put_times(&drawing, &axes[0]);
-    put_levels(&drawing, &axes[1], report);
+    put_levels(&drawing, &axes[1], view);
     for (int which = 0, legend = LEFT + 40; which < LETTERS; which++) {
         legend = put_constellation(&drawing, view, axes, which, legend);
     }

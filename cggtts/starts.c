@@ -55,6 +55,30 @@ static int read_date(const char *word, uint32_t *mjd)
     return word[0] != '\0';
 }
 
+/* A calendar date, of which one before MJD 0 is no MJD of the schedule either. */
+static int read_day(const char *word, uint32_t *mjd)
+{
+    int64_t day;
+    if (!read_calendar(word, &day)) {
+        return 0;
+    }
+    *mjd = day < 0 ? 0 : (uint32_t)day;
+    return 1;
+}
+
+/* 7: the date as it was given, and the range; of a calendar date that of the calendar too. */
+static void explain_date(const char *word, uint32_t mjd)
+{
+    char first[DATE_ROOM], last[DATE_ROOM];
+    int64_t day;
+    if (read_calendar(word, &day)) {
+        explain("MJD is %" PRIu32 ", not %d to %d, which are %s to %s", mjd, FIRST_MJD, LAST_MJD, date_text(FIRST_MJD, first),
+                date_text(LAST_MJD, last));
+    } else {
+        explain("MJD is %s, not %d to %d", word, FIRST_MJD, LAST_MJD);
+    }
+}
+
 /* As columns 14 to 19 of a line have it, so that a line file can be compared. */
 static void print_start(int second)
 {
@@ -68,13 +92,13 @@ int starts_command(int argc, char **argv)
 {
     uint32_t mjd;
     if (argc < 2) {
-        return wrong_use("starts: no MJD");
+        return wrong_use("starts: no MJD or date");
     }
     if (argc > 2) {
         return wrong_use("starts: '%s' is one word too many", argv[2]);
     }
-    if (!read_date(argv[1], &mjd)) {
-        return wrong_use("starts: '%s' is no MJD", argv[1]);
+    if (!read_date(argv[1], &mjd) && !read_day(argv[1], &mjd)) {
+        return wrong_use("starts: '%s' is neither an MJD nor a date yyyy-mm-dd", argv[1]);
     }
     for (int second = 0; second < DAY; second += MINUTE) {
         uint32_t answer = trackline_start(mjd, (uint32_t)second);
@@ -82,7 +106,7 @@ int starts_command(int argc, char **argv)
             print_start(second);
         } else if (answer != TRACKLINE_START) {
             report_refusal(argv[1], answer);
-            explain("MJD is %s, not %d to %d", argv[1], FIRST_MJD, LAST_MJD);
+            explain_date(argv[1], mjd);
             return REFUSED;
         }
     }

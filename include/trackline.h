@@ -8,6 +8,13 @@
  * lent line, with no byte of zero after them, the first 23 of the lent values, the first *written bytes of the lent file,
  * or the first 4 numbers of the lent report; one that refuses writes nothing. What is written to must not overlap
  * anything else of the call. Nothing is kept between calls, so that threads may call at once on lines of their own.
+ *
+ * With a length above 0 a pointer has to point to so many elements: NULL or a wild pointer is not noticed, and is read or
+ * written. Bytes may stand anywhere; int64_t and size_t have to be aligned as C aligns them, to 8 bytes.
+ *
+ * All dates are UTC: an MJD and a second of it. The first measurement of a track is that of its start, and measurement i
+ * that of the UTC second start + i, be it past midnight; the MJD stays that of the start. GPS, Galileo and BeiDou time have
+ * no leap seconds, so that a receiver brings their dates to UTC first.
  */
 #ifndef TRACKLINE_H
 #define TRACKLINE_H
@@ -18,6 +25,12 @@
 #ifdef __cplusplus
 extern "C" {
 #endif
+
+/* The version of the library that this header is of. */
+#define TRACKLINE_VERSION "1.5.0"
+#define TRACKLINE_VERSION_MAJOR 1
+#define TRACKLINE_VERSION_MINOR 5
+#define TRACKLINE_VERSION_PATCH 0
 
 /* Columns of a line, and bytes of a line with the longest comment behind them. */
 #define TRACKLINE_LINE_BYTES 113
@@ -82,6 +95,50 @@ extern "C" {
 #define TRACKLINE_IN_GROUP_CLOCK 32
 
 /*
+ * A measurement is a pseudorange divided by the speed of light, in ps. Each block of 15 makes one smoothed value, and it
+ * and the delays and corrections of its group make
+ *
+ *     A = smoothed - (INT + CAB - REF) - geometry + relativity - ionosphere - troposphere - GD
+ *     B = A + clock
+ *
+ * A is the laboratory's clock less the satellite's and gives REFSV, SRSV; B is the laboratory's clock less the system's time
+ * and gives REFSYS, SRSYS, DSG. Troposphere gives MDTR, SMDT; ionosphere MDIO, SMDI. Geometry is the path plus the Sagnac
+ * correction, clock the satellite's clock less the system's time, without relativity, which A has already; all are ps.
+ *
+ * Relativity is that of the eccentric orbit; the papers set no formula, and its sign is that of A: 1000 ps more in all groups
+ * are 1 ns more of REFSV and REFSYS. GD is TGD for GPS and QZSS, BGD for Galileo, -TGD1 for BeiDou, 0 for GLONASS: 1000 ps more
+ * are 1 ns less of both. 1000 ps more of clock are 1 ns more of REFSYS alone.
+ */
+
+/*
+ * Limits. In ps, to both sides of 0, for 2. Of labels, for 7. Of the ten numbers in the units of a line, for 3 to 6: those of
+ * REFSV, REFSYS and of slopes to both sides of 0, MDTR, MDIO and DSG from 0 on.
+ */
+#define TRACKLINE_MOST_MEASUREMENT 1000000000000
+#define TRACKLINE_MOST_GEOMETRY 200000000000
+#define TRACKLINE_MOST_CORRECTION 10000000000 /* any other correction, and each delay */
+#define TRACKLINE_FIRST_MJD 50722
+#define TRACKLINE_LAST_MJD 99999
+#define TRACKLINE_LEAST_SATELLITE 1
+#define TRACKLINE_MOST_SATELLITE 99
+#define TRACKLINE_MOST_HC 99
+#define TRACKLINE_LEAST_FR_R 1 /* of GLONASS; of the others FR is 0 */
+#define TRACKLINE_MOST_FR_R 24
+#define TRACKLINE_MOST_ELV 900
+#define TRACKLINE_MOST_AZTH 3599
+#define TRACKLINE_MOST_IOE_G 255 /* from 0 on, but for R */
+#define TRACKLINE_MOST_IOE_J 255
+#define TRACKLINE_MOST_IOE_E 999
+#define TRACKLINE_MOST_IOE_C 23
+#define TRACKLINE_LEAST_IOE_R 1
+#define TRACKLINE_MOST_IOE_R 96
+#define TRACKLINE_MOST_MIDPOINT 9999999999 /* REFSV, REFSYS */
+#define TRACKLINE_MOST_SLOPE 99999         /* SRSV, SRSYS */
+#define TRACKLINE_MOST_DELAY_SLOPE 999     /* SMDT, SMDI */
+#define TRACKLINE_MOST_DELAY 9999          /* MDTR, MDIO */
+#define TRACKLINE_MOST_DSG 9999
+
+/*
  * Refusals: X(number, name, text) for each, so that a program's messages come from here. share/doc/trackline/REFUSALS.md
  * below the folder of the installation says what to do about each. 10 does not arise, as the other limits leave no room
  * for it.
@@ -107,9 +164,9 @@ extern "C" {
     X(18, TRACKLINE_NO_PAIR, "no two lines, one of each file, have the same MJD, start, letter, satellite and TRKL")   \
     X(19, TRACKLINE_FILE_LENGTH, "a file is longer than 1150000 bytes, which are 10000 lines")
 
-#define TRACKLINE_NUMBER(number, name, text) name = number,
+#define TRACKLINE_NUMBER(number, name, text) , name = number
 enum trackline_refusal {
-    TRACKLINE_ACCEPTED = 0, /* the line is written, or its values are, or the file or the report is */
+    TRACKLINE_ACCEPTED = 0 /* the line is written, or its values are, or the file or the report is */
     TRACKLINE_REFUSALS(TRACKLINE_NUMBER)
 };
 #undef TRACKLINE_NUMBER
@@ -143,7 +200,8 @@ uint32_t trackline_line(uint8_t constellation, uint8_t satellite, uint8_t cl, ui
                         uint8_t *line, size_t line_len);
 
 /*
- * Whether a track of that day starts at that second of the day: 0, or 7 for a day out of range, or 8.
+ * Whether a track of that day starts at that second of the day: 0, or 7 for a day out of range, or 8. Track i of 89 starts at
+ * minute 2 + 16 (i - 1) - 4 (mjd - 50722), brought into 0 to 1435 by adding or taking 1436 minutes, and at its second 0.
  */
 uint32_t trackline_start(uint32_t mjd, uint32_t second);
 

@@ -18,6 +18,10 @@ fail() {
     cat "$scratch/log" >&2
     fail 'make install'
 }
+# what is built is installed with one line
+env -u MAKEFLAGS -u MAKELEVEL "$make" --no-print-directory install PREFIX="$prefix" DESTDIR= >"$scratch/log" 2>&1
+printf 'installed below %s: %d files\n' "$prefix" "$(find "$prefix" -type f -o -type l | wc -l)" | cmp - "$scratch/log" ||
+    fail 'make install is not quiet'
 
 # the program and the tool
 "$prefix/bin/hireblock" pack examples/sample.txt | "$prefix/bin/trackline" | cmp - "$expected"
@@ -27,18 +31,12 @@ CGGTTS=$prefix/bin/cggtts python3 tests/cggtts/test_cggtts.py >"$scratch/log" 2>
     cat "$scratch/log" >&2
     fail 'the installed cggtts'
 }
-CGGTTS=$prefix/bin/cggtts python3 tests/cggtts/test_merge.py >"$scratch/log" 2>&1 || {
-    cat "$scratch/log" >&2
-    fail 'the installed cggtts merge'
-}
-CGGTTS=$prefix/bin/cggtts python3 tests/cggtts/test_view.py >"$scratch/log" 2>&1 || {
-    cat "$scratch/log" >&2
-    fail 'the installed cggtts view'
-}
-CGGTTS=$prefix/bin/cggtts python3 tests/cggtts/test_offset.py >"$scratch/log" 2>&1 || {
-    cat "$scratch/log" >&2
-    fail 'the installed cggtts on shared offsets'
-}
+for test in merge view words parted convert files offset; do
+    CGGTTS=$prefix/bin/cggtts python3 tests/cggtts/test_$test.py >"$scratch/log" 2>&1 || {
+        cat "$scratch/log" >&2
+        fail "the installed cggtts: test_$test.py"
+    }
+done
 
 # the README's merge, as it is written, among the installed examples
 sed -n 's/^    \$ \(cggtts merge\|cmp\) /\1 /p' README.md >"$scratch/commands"
@@ -71,7 +69,25 @@ cmp examples/week.cggtts "$prefix/share/trackline/examples/week.cggtts"
         "$prefix/bin/cggtts" line $track.blk | cmp - $track.cggtts
     done
 ) & wait $! || fail "the runs in SHARED-OFFSET.md"
+
+# the installed tool follows the installed worked track, and finds every figure of the installed paper right but those that the sources count
+follow=$prefix/share/trackline/tools/lastdigit
+"$follow" | cmp - <(tools/lastdigit) || fail 'the installed lastdigit'
+"$follow" --check "$prefix/share/doc/trackline/LAST-DIGIT.md" >"$scratch/log" || fail 'the installed LAST-DIGIT.md'
+grep -q '^lastdigit: 3 rows of the table of shares are left out' "$scratch/log" || fail 'the installed lastdigit says what it leaves out'
+"$follow" --program "$prefix/bin/trackline" >"$scratch/log" || fail 'the installed worked track'
+"$follow" --svg "$scratch/last-digit.svg" && cmp "$scratch/last-digit.svg" "$prefix/share/doc/trackline/last-digit.svg" ||
+    fail 'the installed picture of the last digit'
+"$prefix/bin/hireblock" pack "$prefix/share/trackline/examples/worked.txt" | cmp - "$prefix/share/trackline/examples/worked.blk"
+[ -z "$(find "$prefix" -name __pycache__)" ] || fail 'the installed lastdigit leaves something behind'
+
+# the version is one everywhere
+version=$(sed -n 's/^VERSION := //p' Makefile)
+[ "$("$prefix/bin/cggtts" -V)" = "cggtts $version" ] && [ "$("$prefix/bin/hireblock" -V)" = "hireblock $version" ] || fail 'the version'
+printf '#include <trackline.h>\nversion TRACKLINE_VERSION TRACKLINE_VERSION_MAJOR TRACKLINE_VERSION_MINOR TRACKLINE_VERSION_PATCH\n' |
+    "$cc" -E -P -I"$prefix/include" - | grep -qx "version \"$version\" $(echo "$version" | tr . ' ')" || fail 'the version in the header'
 cmp docs/REFUSALS.md "$prefix/share/doc/trackline/REFUSALS.md"
+cmp docs/TRUST.md "$prefix/share/doc/trackline/TRUST.md"
 cmp docs/HIRE-BLOCK.md "$prefix/share/doc/trackline/HIRE-BLOCK.md"
 
 # each command of the README's "From C", as it is written, in a home of its own

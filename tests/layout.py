@@ -4,7 +4,9 @@
     python3 tests/layout.py
 
 tests/blocks.py has it from the paper; include/trackline.h, docs/HIRE-BLOCK.md and man/hireblock.5 must say the same. The
-header's places of a line's values are those of what trackline_line is given, and those of a report document 02's.
+header's places of a line's values are those of what trackline_line is given, and those of a report document 02's. Its limits are
+document 01's, and its version is the Makefile's. All three say what a measurement is and have the equations and the starts' formula;
+README.md and docs/TRUST.md have one table of the documents.
 """
 import pathlib
 import re
@@ -13,6 +15,13 @@ import sys
 from blocks import AT, COLUMNS, DELAYS, LENGTH, OF
 
 ROOT = pathlib.Path(__file__).resolve().parent.parent
+# the limits, as document 01 has them
+LIMITS = {'MOST_MEASUREMENT': 10 ** 12, 'MOST_GEOMETRY': 2 * 10 ** 11, 'MOST_CORRECTION': 10 ** 10, 'FIRST_MJD': 50722, 'LAST_MJD': 99999,
+          'LEAST_SATELLITE': 1, 'MOST_SATELLITE': 99, 'MOST_HC': 99, 'LEAST_FR_R': 1, 'MOST_FR_R': 24, 'MOST_ELV': 900, 'MOST_AZTH': 3599,
+          'MOST_IOE_G': 255, 'MOST_IOE_J': 255, 'MOST_IOE_E': 999, 'MOST_IOE_C': 23, 'LEAST_IOE_R': 1, 'MOST_IOE_R': 96,
+          'MOST_MIDPOINT': 10 ** 10 - 1, 'MOST_SLOPE': 99999, 'MOST_DELAY_SLOPE': 999, 'MOST_DELAY': 9999, 'MOST_DSG': 9999}
+# the equation A, term by term, as document 000 has it
+SIGNS = {'INT': -1, 'CAB': -1, 'REF': 1, 'geometry': -1, 'relativity': 1, 'ionosphere': -1, 'troposphere': -1, 'GD': -1}
 # the numbers of a common view's report, as document 02 names them in order
 REPORT = ['PAIRS', 'SUM', 'SMALLEST', 'LARGEST']
 
@@ -38,7 +47,11 @@ def wrong_in_header(text):
     wanted.update({'WIDTH_' + name: width for name, (at, width) in paper().items() if at < 26})
     wanted.update({'WIDTH_PS': 8, 'WIDTH_GROUP': 40, 'MEASUREMENTS': 780, 'LEAST_GROUPS': 4, 'GROUPS': 52,
                    'BLOCK_BYTES': LENGTH, 'LINE_BYTES': 113, 'LONGEST_LINE': 140, 'FILE_LINE_BYTES': 115,
-                   'FILE_MOST_LINES': 10000})
+                   'FILE_MOST_LINES': 10000, **LIMITS})
+    version = re.search(r'(?m)^VERSION := (.*)$', (ROOT / 'Makefile').read_text()).group(1)
+    wanted.update(zip(('VERSION_MAJOR', 'VERSION_MINOR', 'VERSION_PATCH'), map(int, version.split('.'))))
+    if re.findall(r'(?m)^#define TRACKLINE_VERSION "(.*)"$', text) != [version]:
+        return [('VERSION', version)]
     return sorted(set(wanted.items()) ^ set(found.items())) + wrong_by_blocks(text, found)
 
 
@@ -95,6 +108,43 @@ def wrong_in_lengths(text):
     return [] if [tuple(map(int, row)) for row in rows] == wanted else [('lengths', rows)]
 
 
+def plain(text):
+    """In one line, a manual page's signs and a header's stars as they are read."""
+    for escaped, sign in (('\\-', '-'), ('\\(aq', "'"), ('\n * ', '\n')):
+        text = text.replace(escaped, sign)
+    return ' '.join(text.split())
+
+
+def wrong_in_words(text):
+    """What stands in the header, in hireblock(5) and in HIRE-BLOCK.md: the measurement, UTC, the equations and the starts."""
+    words, wrong = plain(text), []
+    for needed in ('A measurement is a pseudorange divided by the speed of light, in ps.', 'UTC second start + i', 'B = A + clock',
+                   '1436 minutes'):
+        if needed not in words:
+            wrong.append(('not there', needed))
+    equation = re.search(r'A = smoothed ([^=]*?) B = ', words)
+    if not equation or signs_of(equation.group(1)) != SIGNS:
+        wrong.append(('equation', equation and equation.group(1)))
+    starts = re.search(r'minute (2 \+ 16 ?\(i - 1\) - 4 ?\((?:MJD|mjd) - 50722\)), brought into 0 to 1435', words)
+    return wrong if starts else wrong + [('starts', 'no formula')]
+
+
+def signs_of(terms):
+    """The sign of each term, with brackets taken apart."""
+    found, outer = {}, 1
+    for sign, bracket, name, close in re.findall(r'([+-]?) ?(\(?)([A-Za-z]+)(\)?)', terms):
+        if bracket:
+            outer = -1 if sign == '-' else 1
+        found[name] = (outer if not bracket else 1) * (-1 if sign == '-' else 1)
+        outer = 1 if close else outer
+    return found
+
+
+def documents_of(text):
+    """The rows of the table that tells which document is which."""
+    return re.findall(r'(?m)^\| (000|003|004|01|02) \| (.*) \|$', text)
+
+
 def main():
     read = lambda name: (ROOT / name).read_text()  # noqa: E731
     faults = {
@@ -107,6 +157,11 @@ def main():
                                                     read('man/hireblock.5')))
         + wrong_in_lengths(read('man/hireblock.5')),
     }
+    for name in faults:
+        faults[name] += wrong_in_words(read(name))
+    papers = [documents_of(read(name)) for name in ('README.md', 'docs/TRUST.md')]
+    if papers[0] != papers[1] or [row[0] for row in papers[0]] != ['000', '003', '004', '01', '02']:
+        faults['README.md'] = [('documents', papers)]
     for name, wrong in faults.items():
         for part in wrong:
             print('layout: %s: %s' % (name, part), file=sys.stderr)

@@ -49,9 +49,51 @@ sed -n 's/^    stage("\([^"]*\)".*/\1/p' tests/speed/src/stages.rs tests/speed/s
 sed -n '/^| Part |/,/^| all |/s/^| \([a-z][^|]*\) |.*/\1/p' docs/SPEED.md | grep -vx all | cmp - "$scratch/parts" ||
     fail 'the parts of docs/SPEED.md are not those of tests/speed'
 
+# what is proved: a line for each crate, which of how many, with an rt that only says so; what is unchanged is counted and not said
+mkdir "$scratch/rt"
+cat >"$scratch/rt/rt" <<'END'
+#!/bin/sh
+echo "fn whole::magnitude: proved"
+echo "rt: whole proved (unchanged since it was last proved)"
+echo "rt: limits proved (4 s)"
+echo "rt: schedule proved (3 s)"
+case "$*" in *bad*) exit 1 ;; esac
+END
+chmod +x "$scratch/rt/rt"
+PATH=$scratch/rt:$PATH tools/prove "$scratch/log" check labels >"$scratch/said"
+printf '  limits is proved, 2 of 4\n  schedule is proved, 3 of 4\n' | cmp - "$scratch/said" || fail 'the crates that are proved'
+grep -qx 'fn whole::magnitude: proved' "$scratch/log" || fail "what rt prints is not in the log"
+! PATH=$scratch/rt:$PATH tools/prove "$scratch/log" check bad >/dev/null 2>"$scratch/said" || fail 'a proof that fails goes unnoticed'
+grep -qx 'fn whole::magnitude: proved' "$scratch/said" || fail 'a proof that fails is not shown'
+[ "$(sed -n '/^[a-z]*:/p' crates.txt | wc -l)" -gt 20 ] || fail 'crates.txt'
+
+# no rt on the path: a plain message, and status 2, from make too
+mkdir "$scratch/bare"
+for tool in awk cat cut echo find grep ls make mkdir realpath rm sed sh sort test touch tr uname wc df mktemp cp chmod env; do
+    at=$(command -v "$tool") && case $at in /*) ln -s "$at" "$scratch/bare/$tool" ;; esac
+done
+for target in proofs bench; do
+    ! PATH=$scratch/bare "$make" --no-print-directory "$target" >"$scratch/said" 2>&1 || fail "make $target without rt"
+    grep -q "there is no 'rt' on the path. It is the command of the Rattle kit" "$scratch/said" || fail "what make $target says without rt"
+done
+
+# run: of a refused block it says what the number means and who says more; the answer alone goes to standard output
+tools/run target/bin/trackline examples/sample.blk 2>"$scratch/said" | cmp - crates/trackline/stdout || fail 'run'
+[ ! -s "$scratch/said" ] || fail 'run says something of an accepted block'
+head -c 100 examples/sample.blk >"$scratch/cut.blk"
+tools/run target/bin/trackline "$scratch/cut.blk" >"$scratch/answer" 2>"$scratch/said"
+printf 'refused 11\r\n' | cmp - "$scratch/answer" || fail 'what run prints of a refused block'
+grep -qx 'refused 11: the block is under 4 bytes or not as long as its sizes make it.' "$scratch/said" || fail 'what the number means'
+grep -q "'cggtts check $scratch/cut.blk' says what is to blame" "$scratch/said" || fail 'run does not name cggtts check'
+for number in 1 2 3 4 5 6 7 8 9 10 11; do
+    printf '#!/bin/sh\ncat >/dev/null; printf "refused %d\\r\\n"\n' $number >"$scratch/refuses"
+    chmod +x "$scratch/refuses"
+    tools/run "$scratch/refuses" examples/sample.blk 2>&1 >/dev/null | grep -q "^refused $number: [a-zA-Z]" || fail "refusal $number has no meaning"
+done
+
 # clean, in a folder of its own
 mkdir -p "$scratch/clean/target/bin" "$scratch/clean/crates"
 cp Makefile "$scratch/clean"
 "$make" --no-print-directory -C "$scratch/clean" clean >/dev/null
 [ "$(ls "$scratch/clean" | xargs)" = 'Makefile crates' ] || fail 'make clean'
-echo "make: help names every target, bench fails where it should, clean removes target/"
+echo "make: help names every target, bench fails where it should, proving and refusals are told, clean removes target/"

@@ -17,6 +17,8 @@ HALF = Fraction(1, 2)
 DOCUMENT_01, SLOPES_01 = Fraction(51, 100), Fraction(52, 100)
 # the block and the residual that the document follows
 FOLLOWED = 20
+# what counts the tracks whose lines moved, in the sources alone, and the heading of the document's table of them
+COUNTED, COUNTED_HEADING = 'tests/reference/src/tests/steps.rs', '| blocks | tracks | lines |'
 # digits that are no figures
 NAMES = ("document 000's two equations", "document 01's terms", 'document 000, equations 1 and 2',
          'Document 000, in its conclusion,', 'FILE.blk --steps 1', 'by the rules before version 1.4.0', 'Before version 1.4.0')
@@ -406,6 +408,10 @@ def how_far(tool):
     yield 'at most %s apart for a midpoint, %s for a DSG and, with %d blocks, %s for a slope' % (
         decimals(most['midpoint']), decimals(most['DSG']), tool.LEAST, tool.rounded_up(most['slope'], 5))
     yield 'whose noise is at most 1 to 10 ns either way'
+    yield from table_of_shares(tool) if counted_here(tool) else ()
+
+
+def table_of_shares(tool):
     rows = (str(tool.FULL), '%d to %d, as many of each' % (tool.LEAST, tool.FULL), str(tool.LEAST))
     for blocks, counts in zip(rows, shares(tool), strict=True):
         yield '| %s | %s |' % (blocks, ' | '.join(tool.spaced(count) for count in counts))
@@ -431,6 +437,18 @@ def in_small(tool):
 
 def shares(tool):
     """Of how many seeded tracks how many lines and figures differ, as tests/reference counts them: full ones, all lengths, the shortest."""
-    text = (tool.ROOT / 'tests/reference/src/tests/steps.rs').read_text()
+    text = (tool.ROOT / COUNTED).read_text()
     found = re.findall(r'Seen \{ tracks: ([\d_]+), changed: ([\d_]+), figures: \[([\d, _]+)\]', text)
     return [[int(number) for number in (tracks, changed, *figures.split(','))] for tracks, changed, figures in found]
+
+
+def counted_here(tool):
+    """Whether the count of the shares is there: it is no part of an installation."""
+    return (tool.ROOT / COUNTED).is_file()
+
+
+def without_shares(prose):
+    """The prose without the rows of the table of shares, and how many there are."""
+    first = next((k + 2 for k, row in enumerate(prose) if row.startswith(COUNTED_HEADING)), len(prose))
+    last = next((k for k in range(first, len(prose)) if not prose[k].startswith('|')), len(prose))
+    return prose[:first] + prose[last:], last - first

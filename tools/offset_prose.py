@@ -186,7 +186,7 @@ def roof(tool):
         moves = [after.pairs[key] - value for key, value in before.pairs.items()]
         assert set(moves) <= {-1, 0, 1} and sum(moves) == moved_sum(shift)
         yield '| %d ps | %d | %d | %d | %d | %d | %s |' % (
-            shift, moves.count(1), moves.count(-1), after.sum, after.smallest, after.largest, decimals(after.mean, 3))
+            shift, moves.count(1), moves.count(-1), after.sum, after.smallest, after.largest, '%d/%d' % (after.sum, after.number))
     sums = [moved_sum(shift) for shift in range(1, UNIT)]
     yield 'Over all offsets from 1 to %d ps this sum moves by %+d to %+d, the mean by %s ns at most' % (
         UNIT - 1, min(sums), max(sums), decimals(Fraction(max(map(abs, sums)), 10 * before.number), 3))

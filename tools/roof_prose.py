@@ -86,7 +86,7 @@ def sky(tool, lines):
 def shown(tool, report, lines):
     values = sorted(tool.refsys_of(lines['a']).values())
     extra = Fraction(tool.EXTRA, 1000)
-    yield 'larger than that of A by %s ns' % decimals(-report.mean, 3)
+    yield 'larger than that of A by %d/%d x 0.1 ns, about %s ns' % (-report.sum, report.number, decimals(-report.mean, 3))
     yield 'The piece of cable is %s ns. The mean is off by %s ns' % (decimals(extra), decimals(abs(report.mean + extra), 3))
     yield 'the %d differences have a standard deviation of %s ns, so that their mean has a standard uncertainty of %s ns' % (
         report.number, '%.2f' % report.deviation, '%.2f' % (report.deviation / decimal.Decimal(report.number).sqrt()))
@@ -118,7 +118,7 @@ def exactness(tool, report, files):
     one, other = (exact_refsys(tool, files[receiver]) for receiver in 'ab')
     mean = sum(one[key] - other[key] for key in report.pairs) / (10 * report.number)
     assert abs(mean - report.mean) <= 2 * PROMISE / 10
-    yield 'to 0.001 ns, the nearest, a tie going up: off by at most 0.0005 ns'
+    yield 'to 0.001 ns, the nearest, and so marked: off by at most 0.0005 ns'
     yield 'or the program ends with 2'
     yield 'to 0.000001 of a day, %s s' % decimals(Fraction(86400, 10 ** 6))
     yield 'to 0.1 of a pixel'
@@ -131,6 +131,5 @@ def exactness(tool, report, files):
 
 def limits():
     yield 'below refusal 18'
-    yield 'is answered 18'
     yield 'two tracks on which 50 ps change a last digit'
     yield 'A file may have up to %d lines. A longer one is refused with 19' % 10000

@@ -554,6 +554,48 @@ class CommandLine(unittest.TestCase):
         self.ends(self.run_tool('show', SAMPLE), 1, "%s: %d bytes; %s: this may be a text, which "
                   "'hireblock pack' packs" % (SAMPLE, SAMPLE.stat().st_size, general))
 
+    def test_many_faults_of_one_kind(self):
+        """Of each kind in each list the first five, then how many more; what is no list is named whole."""
+        text, block = self.folder / 'bad.txt', self.folder / 'bad.blk'
+        content = sample_text(4).replace('1000 x 60', ' '.join(['1.5'] * 54 + ['0x1A'] * 6))
+        content = content.replace('geometry    = 0 x 4', 'geometry    = a b c d')
+        text.write_text(content)
+        lines = content.splitlines()
+        measured, geometry = (1 + next(k for k, row in enumerate(lines) if row.startswith(name)) for name in ('measurements', 'geometry'))
+        first = lines[measured - 1].index('1.5') + 1
+        hexadecimal = "%s:%d:%d: '0x1A' is hexadecimal, and numbers are decimal here: write 26"
+        self.ends(self.run_tool('pack', text, '-o', block), 1,
+                  *("%s:%d:%d: '1.5' is no whole number: measurements is in ps" % (text, measured, first + 4 * k) for k in range(5)),
+                  '%s: and 49 more of this kind in measurements' % text,
+                  *(hexadecimal % (text, measured, first + 4 * 54 + 5 * k) for k in range(5)),
+                  '%s: and 1 more of this kind in measurements' % text,
+                  *("%s:%d:%d: '%s' is no whole number" % (text, geometry, 15 + 2 * k, 'abcd'[k]) for k in range(4)),
+                  '%s: 64 faults; no block is made' % text)
+        text.write_text(content.replace('satellite     = 5', '\n'.join(['satellite = x'] * 8)))
+        status = self.run_tool('pack', text, '-o', block)
+        self.assertEqual(status.stderr.count(b"'x' is no whole number"), 8)
+        self.assertFalse(block.exists())
+
+    def test_names_without_control_characters(self):
+        for name, told in (('a\x1b[31m', r'a\x1B[31m'), ('a\nb', r'a\x0Ab'), (b'\xff\x9b', r'\xFF\x9B'), ('r\u00f6of', 'r\u00f6of')):
+            path = os.path.join(os.fsencode(self.folder), os.fsencode(name))
+            result = subprocess.run([sys.executable, str(TOOL), 'pack', path], capture_output=True, check=False,
+                                    env=dict(os.environ, PYTHONIOENCODING='utf-8'))
+            self.ends(result, 2, "can't read %s: No such file or directory" % (self.folder / told))
+            with open(path, 'wb') as file:
+                file.write(b'HC = x\n')
+            result = subprocess.run([sys.executable, str(TOOL), 'pack', path, path], capture_output=True, check=False)
+            self.assertFalse(re.search(rb'[\x00-\x09\x0b-\x1f]', result.stderr))
+            result = subprocess.run([sys.executable, str(TOOL), 'pack', path], capture_output=True, check=False)
+            self.assertEqual(result.returncode, 1)
+            self.assertFalse(re.search(rb'[\x00-\x09\x0b-\x1f]', result.stderr))
+
+    def test_version(self):
+        version = re.search(r'(?m)^VERSION := (.*)$', (ROOT / 'Makefile').read_text()).group(1)
+        for word in ('-V', '--version'):
+            result = self.run_tool(word)
+            self.assertEqual((result.returncode, result.stdout.decode(), result.stderr), (0, 'hireblock %s\n' % version, b''))
+
     def test_sizes_that_the_lists_have_not(self):
         """The block is made, to try a refusal, and it is said that it will be refused."""
         block = self.folder / 'a.blk'
@@ -624,6 +666,9 @@ class CommandLine(unittest.TestCase):
         result = self.run_tool('--help')
         self.assertEqual(result.returncode, 0)
         self.assertIn(b'measurements = 1000 x 780', result.stdout)
+        for words in (('-h',), ('help',)):
+            self.assertEqual(self.run_tool(*words).stdout, result.stdout)
+        self.assertEqual(self.run_tool('help', 'pack').stdout, self.run_tool('pack', '--help').stdout)
 
 
 if __name__ == '__main__':

@@ -9,6 +9,7 @@ import os
 import pathlib
 import random
 import re
+import shutil
 import struct
 import subprocess
 import sys
@@ -347,6 +348,21 @@ class Document(unittest.TestCase):
                           result.stdout)
         trust = (ROOT / 'docs' / 'TRUST.md').read_text()
         self.assertIn('| %s lines and %s other figures of docs/LAST-DIGIT.md |' % counts.groups(), trust)
+
+    def test_check_where_the_sources_are_not(self):
+        """As it is installed, the rows that tests/reference counts are left out and named; all else is looked at."""
+        text = DOCUMENT.read_text()
+        left_out = 'lastdigit: 3 rows of the table of shares are left out: tests/reference counts them, in the sources'
+        with tempfile.TemporaryDirectory() as folder:
+            for part in 'examples', 'tools':
+                shutil.copytree(ROOT / part, pathlib.Path(folder, part))
+            paper = pathlib.Path(folder, 'a.md')
+            for here, other, status in (('| 100 000 | 337 |', '| 100 000 | 338 |', 0), ('REFSYS was -315', 'REFSYS was -316', 1)):
+                self.assertIn(here, text)
+                paper.write_text(text.replace(here, other))
+                result = subprocess.run([sys.executable, pathlib.Path(folder, 'tools', 'lastdigit'), '--check', paper],
+                                        capture_output=True, text=True)
+                self.assertEqual((result.returncode, result.stdout.splitlines()[0]), (status, left_out))
 
     def test_every_figure_of_the_prose_is_checked(self):
         """Each digit is changed, but for those in names that stand as code."""

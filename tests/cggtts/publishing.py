@@ -1,0 +1,118 @@
+"""Files as laboratories publish them, made and read here without the library, for the tests of cggtts convert."""
+import re
+
+# name, first and last column, as document 000 numbers them
+FIELDS = (('SAT', 2, 3), ('CL', 5, 6), ('MJD', 8, 12), ('STTIME', 14, 19), ('TRKL', 21, 24), ('ELV', 26, 28), ('AZTH', 30, 33),
+          ('REFSV', 35, 45), ('SRSV', 47, 52), ('REFSYS', 54, 64), ('SRSYS', 66, 71), ('DSG', 73, 76), ('IOE', 78, 80),
+          ('MDTR', 82, 85), ('SMDT', 87, 90), ('MDIO', 92, 95), ('SMDI', 97, 100), ('FR', 102, 103), ('HC', 105, 106), ('FRC', 108, 110))
+SIGNED = ('REFSV', 'SRSV', 'REFSYS', 'SRSYS', 'SMDT', 'SMDI')
+UNSIGNED = ('SAT', 'MJD', 'STTIME')
+LIMITS = {'SAT': (1, 99), 'MJD': (50722, 99999), 'ELV': (0, 900), 'AZTH': (0, 3599), 'REFSV': (-9999999999, 9999999999),
+          'SRSV': (-99999, 99999), 'REFSYS': (-9999999999, 9999999999), 'SRSYS': (-99999, 99999), 'DSG': (0, 9999), 'MDTR': (0, 9999),
+          'SMDT': (-999, 999), 'MDIO': (0, 9999), 'SMDI': (-999, 999), 'HC': (0, 99)}
+IOE = {'R': (1, 96), 'C': (0, 23), 'G': (0, 255), 'J': (0, 255), 'E': (0, 999)}
+HEADING = ('SAT CL  MJD  STTIME TRKL ELV AZTH   REFSV      SRSV     REFSYS    SRSYS  DSG IOE MDTR SMDT MDIO SMDI FR HC FRC CK',
+           '             hhmmss  s  .1dg .1dg    .1ns     .1ps/s     .1ns    .1ps/s .1ns     .1ns.1ps/s.1ns.1ps/s')
+HEADER = ('CGGTTS     GENERIC DATA FORMAT VERSION = 2E', 'REV DATE = 2014-02-20', 'RCVR = RRRRRRRR', 'CH = 12', 'IMS = 99999', 'LAB = ABC',
+          'X = +4027881.79 m (GPS)', 'Y = +306998.67 m (GPS)', 'Z = +4919499.36 m (GPS)', 'FRAME = ITRF', 'COMMENTS = NO COMMENTS',
+          'SYS DLY = 237.0 ns (GPS C1)     CAL_ID = 1nnn-yyyy', 'REF DLY = 149.6 ns', 'REF = UTC(ABC)')
+
+
+def with_check(columns):
+    """The columns with their CK behind them."""
+    return columns + '%02X' % (sum(columns.encode('latin-1')) % 256)
+
+
+def header(lines=HEADER, heading=HEADING):
+    """The lines of a header with its CKSUM, and the two that head the columns."""
+    text = ''.join(lines) + 'CKSUM = '
+    return [*lines, 'CKSUM = %02X' % (sum(text.encode('latin-1')) % 256), '', *heading]
+
+
+def columns_of(letter, texts):
+    """Columns 1 to 111 of these texts, each at the right end of its field, filled with blanks."""
+    columns = list(letter + ' ' * 110)
+    for (_, first, last), text in zip(FIELDS, texts):
+        columns[first - 1:last] = text.rjust(last - first + 1)
+    return ''.join(columns)
+
+
+def filled(letter, values, pick):
+    """Columns 1 to 111 of these numbers and texts, with the fills that pick chooses."""
+    texts = []
+    for (name, first, last), value in zip(FIELDS, values):
+        width = last - first + 1
+        if isinstance(value, str):
+            texts.append(value)
+        elif name in SIGNED:
+            texts.append(pick(('%+0*d' % (width, value), '%+d' % value, '%d' % value, '%0*d' % (width, value))))
+        else:
+            texts.append(pick(('%0*d' % (width, value), '%d' % value)))
+    return columns_of(letter, texts)
+
+
+def is_start(mjd, second):
+    return second % 60 == 0 and second // 60 in {(2 + 16 * i - 4 * (mjd - 50722)) % 1436 for i in range(89)}
+
+
+def number_in(name, letter, text):
+    """The number in a field's columns, or None where there is none or nines stand for it."""
+    known = name in ('SAT', 'MJD', 'HC') or (name, letter) == ('IOE', 'E')
+    digits = text[1:] if name in SIGNED and text[0] in '+- ' else text
+    if set(digits) == {'9'} and not known:
+        return None
+    return int(text) if re.fullmatch(r' *\d+' if name in UNSIGNED else r' *[+-]?\d+', text) else None
+
+
+def limits_of(name, letter):
+    return {'IOE': IOE[letter], 'FR': (1, 24) if letter == 'R' else (0, 0)}.get(name) or LIMITS.get(name, (-9999, 999999))
+
+
+def values_in(line, codes):
+    """The values of a line's fields by their names, or None where one can't be had."""
+    found = {}
+    for name, first, last in FIELDS:
+        text = line[first - 1:last]
+        if name == 'CL':
+            found[name] = int(text, 16) if re.fullmatch('[ 0-9A-Fa-f][0-9A-Fa-f]', text) else None
+        elif name == 'FRC':
+            text = codes.get(text, text)
+            found[name] = text if re.fullmatch('[A-Z0-9]{3}', text) else None
+        else:
+            found[name] = number_in(name, line[0], text)
+        if line[last] != ' ' or found[name] is None:
+            return None
+    return found
+
+
+def in_limits(letter, found):
+    """Whether every value is one that our line can hold, its start among them."""
+    clock = found['STTIME']
+    hour, minute, second = clock // 10000, clock // 100 % 100, clock % 100
+    return (all(low <= found[name] <= high for name, (low, high) in
+                ((name, limits_of(name, letter)) for name, _, _ in FIELDS if name not in ('CL', 'FRC')))
+            and found['TRKL'] in range(60, 781, 15) and hour < 24 and minute < 60 and second < 60
+            and is_start(found['MJD'], 3600 * hour + 60 * minute + second))
+
+
+def ours(letter, found):
+    """The line of the values in our form."""
+    text = '%s%02d %02X %05d %06d %04d %03d %04d %+011d %+06d %+011d %+06d %04d %03d %04d %+04d %04d %+04d %02d %02d %s ' % (
+        letter, *(found[name] for name, _, _ in FIELDS))
+    return with_check(text)
+
+
+# SAT, CL and MJD at the beginning of a data line of any version, anywhere in a text
+BEGINS = re.compile(r'[A-Za-z0-9 ][A-Za-z0-9 ][0-9] [A-Za-z0-9 ][0-9A-Fa-f] [0-9]{5}')
+
+
+def taken(line, codes=None):
+    """The line of ours that a published line, without its line end, is taken for, or None."""
+    line = line[:113] + line[113:].rstrip(' ')
+    check = line[111:113]
+    if not re.fullmatch('[0-9A-Fa-f]{2}', check) or int(check, 16) != sum(line[:111].encode('latin-1')) % 256:
+        return None
+    if line[0] not in 'GRECJ' or len(line) > 140 or BEGINS.search(line[113:]):
+        return None
+    found = values_in(line, codes or {})
+    return ours(line[0], found) if found and in_limits(line[0], found) else None
