@@ -4,8 +4,9 @@ use limits::blocks_fit;
 use limits::outside;
 ghost use mathlib.Core.Path.{_≡_};
 ghost use mathlib.Core.Bool.{not, _||_};
-ghost use Prim.Native.Nat.{_*_, _^_};
+ghost use Prim.Native.Nat.{_*_, _^_, _<_};
 ghost use lib.ListN.{length};
+ghost use Rattle.exact.specs.Corrected.{at};
 ghost use Rattle.limits.specs.Blocks.{blocksFit};
 ghost use Rattle.limits.specs.Limits.{beyond};
 ghost use Rattle.limits.specs.Lists.{miscounted, anyBeyond};
@@ -37,24 +38,34 @@ pub fn sizes_wrong(
         | (clock.len() != n)
 }
 
-// Whether the geometry of one block is outside ±2 × 10^11 or another of its corrections outside ±10^10.
-fn row_beyond(geometry: i64, relativity: i64, ionosphere: i64, troposphere: i64, clock: i64) -> bool
-    ensures { λ r. ⌜ r ≡ beyond (2 * 10 ^ 11) geometry || beyond (10 ^ 10) relativity || beyond (10 ^ 10) ionosphere
-        || beyond (10 ^ 10) troposphere || beyond (10 ^ 10) clock ⌝ }
+// Whether the geometry of block j is outside ±2 × 10^11 or another of its corrections outside ±10^10. Each is read where it is tested.
+fn row_beyond(
+    j: usize,
+    geometry: &[i64],
+    relativity: &[i64],
+    ionosphere: &[i64],
+    troposphere: &[i64],
+    clock: &[i64],
+) -> bool
+    requires { ⌜ (j < length (now geometry)) × (j < length (now relativity)) × (j < length (now ionosphere))
+        × (j < length (now troposphere)) × (j < length (now clock)) ⌝ }
+    ensures { λ r. ⌜ r ≡ beyond (2 * 10 ^ 11) (at (now (geometry .entry)) j) || beyond (10 ^ 10) (at (now (relativity .entry)) j)
+        || beyond (10 ^ 10) (at (now (ionosphere .entry)) j) || beyond (10 ^ 10) (at (now (troposphere .entry)) j)
+        || beyond (10 ^ 10) (at (now (clock .entry)) j) ⌝ }
 {
-    if outside(-200_000_000_000, 200_000_000_000, geometry) {
+    if outside(-200_000_000_000, 200_000_000_000, geometry[j]) {
         return true;
     }
-    if outside(-10_000_000_000, 10_000_000_000, relativity) {
+    if outside(-10_000_000_000, 10_000_000_000, relativity[j]) {
         return true;
     }
-    if outside(-10_000_000_000, 10_000_000_000, ionosphere) {
+    if outside(-10_000_000_000, 10_000_000_000, ionosphere[j]) {
         return true;
     }
-    if outside(-10_000_000_000, 10_000_000_000, troposphere) {
+    if outside(-10_000_000_000, 10_000_000_000, troposphere[j]) {
         return true;
     }
-    outside(-10_000_000_000, 10_000_000_000, clock)
+    outside(-10_000_000_000, 10_000_000_000, clock[j])
 }
 
 // Whether a geometry is outside ±2 × 10^11 or any other correction outside ±10^10: one loop over the blocks, to the first such correction.
@@ -74,13 +85,7 @@ pub fn columns_beyond(
     let n = geometry.len();
     let mut j = 0;
     while j < n {
-        if row_beyond(
-            geometry[j],
-            relativity[j],
-            ionosphere[j],
-            troposphere[j],
-            clock[j],
-        ) {
+        if row_beyond(j, geometry, relativity, ionosphere, troposphere, clock) {
             return true;
         }
         j += 1;

@@ -5,7 +5,7 @@ use Rattle.limits.specs.declared.Numbers.{Numbers}
 use Rattle.fit.specs.declared.TrackRecord.{TrackRecord}
 use Rattle.fit.specs.declared.Found.{Found}
 use Rattle.exact.specs.Corrected.{Given}
-use Rattle.fit.specs.Track.{numbersRule, recordNumber, zeros, results, trackNumber}
+use Rattle.fit.specs.Track.{recordNumber, zeros, results, trackNumber}
 
 -- The number of each case, 0 where there is none.
 abbrev pub foundNumber : Found → ℕ
@@ -22,10 +22,7 @@ unfoldable pub found : ℕ → Numbers → Found
 found zero numbers = Found.Ten numbers
 found (suc number) numbers = Found.Refused (suc number)
 
--- The case for a record whose values are inside their limit, and for any.
-unfoldable pub foundOf : TrackRecord → Found
-foundOf t = found (numbersRule t) (t .numbers)
-
+-- The case for a record.
 unfoldable pub judgedOf : TrackRecord → Found
 judgedOf t = found (recordNumber t) (t .numbers)
 

@@ -11,8 +11,8 @@ use correcting::Corrected;
 use correcting::correct;
 use correcting::corrected_number;
 pub use limits::Numbers;
-use results::judged;
 use results::refused;
+use results::ten_numbers;
 pub use series::Fitted;
 pub use series::Scattered;
 pub use series::Smoothed;
@@ -106,7 +106,7 @@ pub fn track(
         return refused(corrected_number(corrected));
     };
     let n = geometry.len();
-    let found = judged(n, &a, &b, &c, &d);
+    let found = ten_numbers(n, &a, &b, &c, &d);
     let Found::Ten(numbers) = found else {
         return refused(found_number(found));
     };

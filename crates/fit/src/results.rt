@@ -11,21 +11,23 @@ use super::fit;
 use super::scatter;
 use limits::any_outside;
 use limits::limits;
+use limits::then;
+use limits::when;
 ghost use mathlib.Core.Path.{_≡_};
 ghost use mathlib.Core.Bool.{false, _||_};
 ghost use Prim.Native.Nat.{_*_, _^_, _≤_};
 ghost use lib.IntN.{pos};
-ghost use lib.ListN.{length};
+ghost use lib.ListN.{length, take, drop};
 ghost use Rattle.exact.specs.Corrected.{at, steps};
 ghost use Rattle.limits.specs.Limits.{dsgRule};
 ghost use Rattle.limits.specs.Lists.{anyBeyond};
+ghost use Rattle.limits.specs.Refusal.{_when_, _then_};
 ghost use Rattle.limits.specs.Reply.{reply};
-ghost use Rattle.series.specs.declared.Fitted.{Fitted};
-ghost use Rattle.series.specs.Answers.{scatterReply, scatterNumbered};
-ghost use Rattle.series.specs.Fit.{midpoint, slope, valuesLimit};
+ghost use Rattle.series.specs.Answers.{fitReply, fitNumbered, scatterReply, scatterNumbered};
+ghost use Rattle.series.specs.Fit.{fitRule, valuesLimit};
 ghost use Rattle.series.specs.Scatter.{squares, dsg};
-ghost use Rattle.fit.specs.Track.{recordOf, correctedBeyond, zeros};
-ghost use Rattle.fit.specs.Found.{foundOf, judgedOf};
+ghost use Rattle.fit.specs.Track.{recordOf, zeros};
+ghost use Rattle.fit.specs.Found.{judgedOf};
 
 // A refusal: its number, and 0 throughout.
 pub fn refused(number: u32) -> Tracked
@@ -56,11 +58,11 @@ pub fn refused(number: u32) -> Tracked
     }
 }
 
-// The line through the first n of 52 places, which are inside their limit.
+// Fit's answer to the first n of 52 places.
 fn fit_blocks(n: usize, values: &[i64]) -> Fitted
-    requires { ⌜ (4 ≤ n) × (n ≤ 52) × (length (now values) ≡ 52) × (anyBeyond valuesLimit (now values) ≡ false) ⌝ }
-    ensures { λ r. ⌜ r ≡ Fitted.Line (midpoint steps n (at (now (values .entry))))
-        (slope steps n (at (now (values .entry)))) ⌝ }
+    requires { ⌜ (n ≤ 52) × (length (now values) ≡ 52) ⌝ }
+    ensures { λ r. ⌜ fitReply r ≡ fitRule (take n (now (values .entry))) ⌝ }
+    ensures { λ r. ⌜ fitNumbered r ⌝ }
 {
     fit(&values[0..n])
 }
@@ -74,13 +76,34 @@ fn scatter_blocks(n: usize, values: &[i64]) -> Scattered
     scatter(&values[0..n])
 }
 
-// The ten numbers of corrected values that are inside their limit, or what they are refused for: 3 to 5 by the fitted numbers, then
-// Scatter's 6.
-fn ten_numbers(n: usize, a: &[i64], b: &[i64], c: &[i64], d: &[i64]) -> Found
+// Whether a corrected value is outside ±2 × 10^13 tenths.
+fn corrected_beyond(a: &[i64], b: &[i64], c: &[i64], d: &[i64]) -> bool
+    ensures { λ r. ⌜ r ≡ anyBeyond valuesLimit (now (a .entry)) || anyBeyond valuesLimit (now (b .entry))
+        || anyBeyond valuesLimit (now (c .entry)) || anyBeyond valuesLimit (now (d .entry)) ⌝ }
+{
+    any_outside(a, -20_000_000_000_000, 20_000_000_000_000)
+        | any_outside(b, -20_000_000_000_000, 20_000_000_000_000)
+        | any_outside(c, -20_000_000_000_000, 20_000_000_000_000)
+        | any_outside(d, -20_000_000_000_000, 20_000_000_000_000)
+}
+
+// What corrected values are refused for where Fit has refused the line through a row of them: 10 where one is outside its limit, else Fit's own number.
+fn values_refusal(line: Fitted, a: &[i64], b: &[i64], c: &[i64], d: &[i64]) -> u32
+    ensures { λ r. ⌜ r ≡ 10 when (anyBeyond valuesLimit (now (a .entry)) || anyBeyond valuesLimit (now (b .entry))
+        || anyBeyond valuesLimit (now (c .entry)) || anyBeyond valuesLimit (now (d .entry))) then fitReply line .number ⌝ }
+{
+    then(when(10, corrected_beyond(a, b, c, d)), fitted_number(line))
+}
+
+// The ten numbers of corrected values, or what they are refused for: 10 where one is outside its limit, 3 to 5 by the fitted numbers, then
+// Scatter's 6. The four fits test every value of the n blocks, so that 10 is tried only where one of them refuses. The other places are inside
+// their limit.
+pub fn ten_numbers(n: usize, a: &[i64], b: &[i64], c: &[i64], d: &[i64]) -> Found
     requires { ⌜ (4 ≤ n) × (n ≤ 52) ⌝ }
     requires { ⌜ (length (now a) ≡ 52) × (length (now b) ≡ 52) × (length (now c) ≡ 52) × (length (now d) ≡ 52) ⌝ }
-    requires { ⌜ correctedBeyond (recordOf n (now a) (now b) (now c) (now d)) ≡ false ⌝ }
-    ensures { λ r. ⌜ r ≡ foundOf (recordOf n (now (a .entry)) (now (b .entry)) (now (c .entry)) (now (d .entry))) ⌝ }
+    requires { ⌜ (anyBeyond valuesLimit (drop n (now a)) ≡ false) × (anyBeyond valuesLimit (drop n (now b)) ≡ false)
+        × (anyBeyond valuesLimit (drop n (now c)) ≡ false) × (anyBeyond valuesLimit (drop n (now d)) ≡ false) ⌝ }
+    ensures { λ r. ⌜ r ≡ judgedOf (recordOf n (now (a .entry)) (now (b .entry)) (now (c .entry)) (now (d .entry))) ⌝ }
 {
     let line_a = fit_blocks(n, a);
     let Fitted::Line {
@@ -88,8 +111,8 @@ fn ten_numbers(n: usize, a: &[i64], b: &[i64], c: &[i64], d: &[i64]) -> Found
         slope: srsv,
     } = line_a
     else {
-        // Never taken, here and in the next three: the values are inside their limit.
-        return Found::Refused(fitted_number(line_a));
+        // Never taken from Track, here and in the next three (law corrected-within); kept until 10 is retired.
+        return Found::Refused(values_refusal(line_a, a, b, c, d));
     };
     let line_b = fit_blocks(n, b);
     let Fitted::Line {
@@ -97,7 +120,7 @@ fn ten_numbers(n: usize, a: &[i64], b: &[i64], c: &[i64], d: &[i64]) -> Found
         slope: srsys,
     } = line_b
     else {
-        return Found::Refused(fitted_number(line_b));
+        return Found::Refused(values_refusal(line_b, a, b, c, d));
     };
     let line_c = fit_blocks(n, c);
     let Fitted::Line {
@@ -105,7 +128,7 @@ fn ten_numbers(n: usize, a: &[i64], b: &[i64], c: &[i64], d: &[i64]) -> Found
         slope: smdt,
     } = line_c
     else {
-        return Found::Refused(fitted_number(line_c));
+        return Found::Refused(values_refusal(line_c, a, b, c, d));
     };
     let line_d = fit_blocks(n, d);
     let Fitted::Line {
@@ -113,7 +136,7 @@ fn ten_numbers(n: usize, a: &[i64], b: &[i64], c: &[i64], d: &[i64]) -> Found
         slope: smdi,
     } = line_d
     else {
-        return Found::Refused(fitted_number(line_d));
+        return Found::Refused(values_refusal(line_d, a, b, c, d));
     };
     let mut numbers = Numbers {
         refsv,
@@ -137,28 +160,4 @@ fn ten_numbers(n: usize, a: &[i64], b: &[i64], c: &[i64], d: &[i64]) -> Found
     };
     numbers.dsg = dsg;
     Found::Ten(numbers)
-}
-
-// Whether a corrected value is outside ±2 × 10^13 tenths.
-fn corrected_beyond(a: &[i64], b: &[i64], c: &[i64], d: &[i64]) -> bool
-    ensures { λ r. ⌜ r ≡ anyBeyond valuesLimit (now (a .entry)) || anyBeyond valuesLimit (now (b .entry))
-        || anyBeyond valuesLimit (now (c .entry)) || anyBeyond valuesLimit (now (d .entry)) ⌝ }
-{
-    any_outside(a, -20_000_000_000_000, 20_000_000_000_000)
-        | any_outside(b, -20_000_000_000_000, 20_000_000_000_000)
-        | any_outside(c, -20_000_000_000_000, 20_000_000_000_000)
-        | any_outside(d, -20_000_000_000_000, 20_000_000_000_000)
-}
-
-// The ten numbers of corrected values, or what they are refused for: 10 where one is outside its limit, then as above.
-pub fn judged(n: usize, a: &[i64], b: &[i64], c: &[i64], d: &[i64]) -> Found
-    requires { ⌜ (4 ≤ n) × (n ≤ 52) ⌝ }
-    requires { ⌜ (length (now a) ≡ 52) × (length (now b) ≡ 52) × (length (now c) ≡ 52) × (length (now d) ≡ 52) ⌝ }
-    ensures { λ r. ⌜ r ≡ judgedOf (recordOf n (now (a .entry)) (now (b .entry)) (now (c .entry)) (now (d .entry))) ⌝ }
-{
-    // Never taken from Track (law corrected-within); kept until 10 is retired.
-    if corrected_beyond(a, b, c, d) {
-        return Found::Refused(10);
-    }
-    ten_numbers(n, a, b, c, d)
 }

@@ -54,7 +54,8 @@ pub fn smooth(measurements: &[i64]) -> Smoothed
     if refusal != 0 {
         return Smoothed::Refused(refusal);
     }
-    Smoothed::Value(nearest(10 * weighted(measurements), 1105))
+    // Ten times the sum over 1105, each divided by 5.
+    Smoothed::Value(nearest(2 * weighted(measurements), 221))
 }
 
 // The line through 4 to 52 values in tenths with the least sum of squared residuals: its value at the midpoint, and its slope.

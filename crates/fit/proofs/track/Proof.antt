@@ -18,7 +18,7 @@ use Rattle.fit.specs.declared.Tracked.{Tracked}
 use Rattle.fit.specs.Track.{trackRule, zeros, recordOf, results}
 use Rattle.fit.specs.Found.{foundNumber, judgedOf}
 use Rattle.fit.proofs.Accuracy.{tracked-accurate}
-use Rattle.fit.proofs.Tracks.{track-refused, track-judged, found-refused, found-ten}
+use Rattle.fit.proofs.Tracks.{past-inside, track-refused, track-judged, found-refused, found-ten}
 use Rattle.fit.proofs.track.Statement.{statement}
 use Rattle.fit.proofs.track.Tie as tie
 
@@ -90,8 +90,8 @@ unfolding results
 record-is c = λ z. recordOf (blocks (g (start (made c)))) (a-is c z) (b-is c z) (c-is c z) (d-is c z)
 
 -- what is found of it
-found-is : (c : tie.After-judged) → c .judged .result ≡ judgedOf (results (g (start (made (c .before .before .before .before .before)))))
-found-is c = c .judged .ensures ∙ ap judgedOf (record-is (c .before .before .before .before .before))
+found-is : (c : tie.After-ten-numbers) → c .ten-numbers .result ≡ judgedOf (results (g (start (made (c .before .before .before .before .before)))))
+found-is c = c .ten-numbers .ensures ∙ ap judgedOf (record-is (c .before .before .before .before .before))
 
 -- an accepted record is put together with its numbers
 whole : (t : Given) (a b c d : List ℤ) (n : Numbers) → a ≡ places (blocks t) (valueA t) → b ≡ places (blocks t) (valueB t)
@@ -128,24 +128,30 @@ returns c =
     both s (c .refused .result)
     (c .refused .ensures ∙ ap (λ (k : ℕ). record { refusal = k; «record» = zeros }) k ∙ track-refused (g s) _ (r .0) (r .1))
 
-slice-aggregate-judged : tie.Need-slice-aggregate-judged
-slice-aggregate-judged c = let e = c .before in sym (long _ _ (number e) (a-is e))
+slice-aggregate-ten-numbers : tie.Need-slice-aggregate-ten-numbers
+slice-aggregate-ten-numbers c = let e = c .before in sym (long _ _ (number e) (a-is e))
 
-slice-aggregate-judged-2 : tie.Need-slice-aggregate-judged-2
-slice-aggregate-judged-2 c = let e = c .before .before in sym (long _ _ (number e) (b-is e))
+slice-aggregate-ten-numbers-2 : tie.Need-slice-aggregate-ten-numbers-2
+slice-aggregate-ten-numbers-2 c = let e = c .before .before in sym (long _ _ (number e) (b-is e))
 
-slice-aggregate-judged-3 : tie.Need-slice-aggregate-judged-3
-slice-aggregate-judged-3 c = let e = c .before .before .before in sym (long _ _ (number e) (c-is e))
+slice-aggregate-ten-numbers-3 : tie.Need-slice-aggregate-ten-numbers-3
+slice-aggregate-ten-numbers-3 c = let e = c .before .before .before in sym (long _ _ (number e) (c-is e))
 
-slice-aggregate-judged-4 : tie.Need-slice-aggregate-judged-4
-slice-aggregate-judged-4 c = let e = c .before .before .before .before in sym (long _ _ (number e) (d-is e))
+slice-aggregate-ten-numbers-4 : tie.Need-slice-aggregate-ten-numbers-4
+slice-aggregate-ten-numbers-4 c = let e = c .before .before .before .before in sym (long _ _ (number e) (d-is e))
 
-judged-requires : tie.Need-judged-requires
-judged-requires c κs =
+ten-numbers-requires : tie.Need-ten-numbers-requires
+ten-numbers-requires c κs =
     let e = c .before .before .before .before in
     let t = g (start (made e)) in
     let z = number e in
-    (few t z, (long t _ z (a-is e), long t _ z (b-is e), long t _ z (c-is e), long t _ z (d-is e)))
+    let n = blocks t in (
+      few t z,
+      (
+        (long t _ z (a-is e), long t _ z (b-is e), long t _ z (c-is e), long t _ z (d-is e)),
+        (past-inside n _ (a-is e), past-inside n _ (b-is e), past-inside n _ (c-is e), past-inside n _ (d-is e)),
+      ),
+    )
 
 enum-known-found : tie.Need-enum-known-found
 enum-known-found c = search needs
@@ -190,11 +196,11 @@ track-spec =
     corrected-number-requires
     refused-requires
     returns
-    slice-aggregate-judged
-    slice-aggregate-judged-2
-    slice-aggregate-judged-3
-    slice-aggregate-judged-4
-    judged-requires
+    slice-aggregate-ten-numbers
+    slice-aggregate-ten-numbers-2
+    slice-aggregate-ten-numbers-3
+    slice-aggregate-ten-numbers-4
+    ten-numbers-requires
     enum-known-found
     enum-told-3
     found-number-requires

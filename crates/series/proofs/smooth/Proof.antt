@@ -6,10 +6,14 @@ use Prim.Native.Nat.{_^_, _<_}
 use native.Mathlib.Omega.{arith}
 use native.Mathlib.Nat.{le-refl}
 use lib.Dec.{lit<}
-use lib.IntN.{ℤ}
+use lib.IntN.{ℤ, pos, _*ℤ_}
 use Rattle.whole.specs.Nearest.{nearest}
+use Rattle.whole.specs.Ring.{*ℤ-assoc}
+use Rattle.whole.specs.Rounding.{nearest-scale}
+use Rattle.whole.specs.Sum.{sum}
 use Rattle.whole.specs.Words.{Word, known, equal, back-of, fits, bound, plain-is, bounds}
-use Rattle.exact.specs.Corrected.{at}
+use Rattle.exact.specs.Corrected.{at, steps}
+use Rattle.exact.specs.Weights.{weights}
 use Rattle.limits.specs.Lists.{miscounted, listRule}
 use Rattle.series.specs.Smooth.{smoothed, smoothRule}
 use Rattle.limits.proofs.Lists.{list-accepted, counted, within-limit}
@@ -27,6 +31,11 @@ returns c =
     let r = c .before .list-refusal in
     let h : 0 < r .result = omega arith in
     (rw (r .ensures) (sym (reply-refused _ _ (rw (r .ensures) at h))), h)
+
+-- the sum and its divisor are those of the rule, both divided by 5
+by-5 : (z : ℤ) → nearest (pos 2 *ℤ z) 221 ≡ nearest (pos steps *ℤ z) 1105
+by-5 z =
+    sym (nearest-scale (pos 2 *ℤ z) 221 5 (lit< tt) (lit< tt)) ∙ ap (λ (x : ℤ). nearest x 1105) (sym (*ℤ-assoc (pos 5) (pos 2) z))
 
 -- the list is not refused
 accepted : (c : tie.Else1)
@@ -52,8 +61,9 @@ nearest-requires c κs = let w = sum-word c in (bound (search bounds depth 9) tt
 returns-2 : tie.Need-returns-2
 unfolding smoothRule smoothed
 returns-2 c =
-    let w = sum-word (c .before) in (
-      rw (back-of (c .nearest .ok) ∙ c .nearest .ensures ∙ ap (λ (z : ℤ). nearest z 1105) (plain-is (search bounds depth 9) tt))
+    let w = sum-word (c .before) in
+    let m = c .before .before .before .before .args .measurements .now in (
+      rw (back-of (c .nearest .ok) ∙ c .nearest .ensures ∙ ap (λ (z : ℤ). nearest z 221) (plain-is (search bounds depth 9) tt) ∙ by-5 (sum 15 (λ i. at weights i *ℤ at m i)))
           (sym (reply-accepted _ _ (accepted (c .before .before)))),
       tt,
     )

@@ -1,5 +1,5 @@
--- `fit::results::ten_numbers` meets its contract: Fit refuses none of the values, which are inside their limit, and the numbers are those of the
--- record.
+-- `fit::results::ten_numbers` meets its contract: where Fit refuses a row, one of the values is outside its limit; where it accepts all four, none is, and
+-- the numbers are those of the record.
 -- Assumes nothing.
 use borrow.Author.Needs.{needs}
 use mathlib.Core.Path.{_≡_, sym, ap, _∙_, subst}
@@ -19,27 +19,58 @@ use Rattle.series.specs.declared.Scattered.{Scattered}
 use Rattle.series.specs.Answers.{scatterReply, scatterNumbered}
 use Rattle.fit.specs.declared.Found.{Found}
 use Rattle.fit.specs.declared.TrackRecord.{TrackRecord}
-use Rattle.fit.specs.Track.{recordOf, numbersWith, numbersRule}
-use Rattle.fit.specs.Found.{found, foundOf}
-use Rattle.fit.proofs.Tracks.{Inside, inside, fit-never, fit-numbers}
+use Rattle.fit.specs.Track.{recordOf, numbersWith, numbersRule, recordNumber}
+use Rattle.fit.specs.Found.{found, judgedOf}
+use Rattle.fit.proofs.Tracks.{Inside, fit-inside, fit-numbers, fit-refused, ten-passed}
 use Rattle.fit.proofs.results.ten_numbers.Statement.{statement}
 use Rattle.fit.proofs.results.ten_numbers.Tie as tie
 
--- the record of the values, and that they are inside their limit
+-- the record of the values
 abbrev t : tie.Start → TrackRecord
 t c = let a = c .args in recordOf (a .n) (a .a .now) (a .b .now) (a .c .now) (a .d .now)
 
-fine : (c : tie.Start) → let a = c .args in Inside (a .a .now) (a .b .now) (a .c .now) (a .d .now)
-fine c = let a = c .args in inside (a .n) (a .a .now) (a .b .now) (a .c .now) (a .d .now) (c .pre .1 .1)
+-- where the code began, from behind each fit and behind the four lines
+abbrev start-a : tie.After-fit-blocks → tie.Start
+start-a c = c .before
 
--- the first refusal of the numbers, and their case
-refuse : (r : TrackRecord) (number : ℕ) → 0 < number → numbersRule r ≡ number → Found.Refused number ≡ foundOf r
-unfolding foundOf found
+abbrev start-b : tie.After-fit-blocks2 → tie.Start
+start-b c = start-a (c .before .before .before .before)
+
+abbrev start-c : tie.After-fit-blocks3 → tie.Start
+start-c c = start-b (c .before .before .before .before)
+
+abbrev start-d : tie.After-fit-blocks4 → tie.Start
+start-d c = start-c (c .before .before .before .before)
+
+abbrev start : tie.After-known-told4 → tie.Start
+start c = start-d (c .before .before .before)
+
+-- the four rows are inside, as Fit has accepted each
+fine : (c : tie.After-known-told4) → let a = start c .args in Inside (a .a .now) (a .b .now) (a .c .now) (a .d .now)
+fine c =
+    let three = c .before .before .before .before in
+    let two = three .before .before .before .before in
+    let one = two .before .before .before .before in
+    let a = start c .args in
+    let past = start c .pre .1 .1 in
+    record {
+      in-a = fit-inside (a .n) (a .a .now) (one .before .before .before .fit-blocks .ensures .0) (one .before .line-a .given .1) (past .0);
+      in-b = fit-inside (a .n) (a .b .now) (two .before .before .before .fit-blocks2 .ensures .0) (two .before .line-b .given .1) (past .1);
+      in-c = fit-inside (a .n) (a .c .now) (three .before .before .before .fit-blocks3 .ensures .0) (three .before .line-c .given .1) (past .2);
+      in-d = fit-inside (a .n) (a .d .now) (c .before .before .before .fit-blocks4 .ensures .0) (c .before .line-d .given .1) (past .3);
+    }
+
+-- so that the first refusal of the numbers is that of the record
+passed : (c : tie.After-known-told4) → recordNumber (t (start c)) ≡ numbersRule (t (start c))
+passed c = let a = start c .args in ten-passed (a .n) (a .a .now) (a .b .now) (a .c .now) (a .d .now) (fine c)
+
+refuse : (r : TrackRecord) (number : ℕ) → 0 < number → recordNumber r ≡ number → Found.Refused number ≡ judgedOf r
+unfolding judgedOf found
 refuse r zero h e = absurd (omega (arith, h))
 refuse r (suc number) h e = sym (ap (λ (k : ℕ). found k (r .numbers)) e)
 
-accept : (r : TrackRecord) → numbersRule r ≡ 0 → Found.Ten (r .numbers) ≡ foundOf r
-unfolding foundOf found
+accept : (r : TrackRecord) → recordNumber r ≡ 0 → Found.Ten (r .numbers) ≡ judgedOf r
+unfolding judgedOf found
 accept r e = sym (ap (λ (k : ℕ). found k (r .numbers)) e)
 
 -- the track length
@@ -62,21 +93,27 @@ put c dsg =
       mdio = toZ w64 (ofZ w64 (c .before .line-d .given .0 .0));
       smdi = toZ w64 (ofZ w64 (c .before .line-d .given .0 .1 .0));
       dsg = dsg;
-      trkl = toZ w64 (15 * one .before .before .before .before .args .n);
+      trkl = toZ w64 (15 * start c .args .n);
     }
 
-numbers-are : (c : tie.After-known-told4) (dsg : ℤ)
-    → let a = c .before .before .before .before .before .before .before .before .before .before .before .before .before .before .before .before .args in put c dsg ≡ numbersWith dsg (a .n) (a .a .now) (a .b .now) (a .c .now) (a .d .now)
+numbers-are : (c : tie.After-known-told4) (dsg : ℤ) → let a = start c .args in put c dsg ≡ numbersWith dsg (a .n) (a .a .now) (a .b .now) (a .c .now) (a .d .now)
 unfolding numbersWith
 numbers-are c dsg =
     let three = c .before .before .before .before in
     let two = three .before .before .before .before in
     let one = two .before .before .before .before in
-    let A = fit-numbers (one .before .before .before .fit-blocks .ensures) (one .before .line-a .given .1) (one .known-told .given .0 .1) (one .known-told .given .1 .0 .1) in
-    let B = fit-numbers (two .before .before .before .fit-blocks2 .ensures) (two .before .line-b .given .1) (two .known-told2 .given .0 .1) (two .known-told2 .given .1 .0 .1) in
-    let C = fit-numbers (three .before .before .before .fit-blocks3 .ensures) (three .before .line-c .given .1) (three .known-told3 .given .0 .1) (three .known-told3 .given .1 .0 .1) in
-    let D = fit-numbers (c .before .before .before .fit-blocks4 .ensures) (c .before .line-d .given .1) (c .known-told4 .given .0 .1) (c .known-told4 .given .1 .0 .1) in
-    let n : toZ w64 (15 * one .before .before .before .before .args .n) ≡ pos (15 * one .before .before .before .before .args .n) = plain-is (count-read (seconds (one .before .before .before .before))) tt in
+    let s = start c in
+    let few = s .pre .0 in
+    let long = s .pre .1 .0 in
+    let fa = one .before .before .before .fit-blocks .ensures in
+    let fb = two .before .before .before .fit-blocks2 .ensures in
+    let fc = three .before .before .before .fit-blocks3 .ensures in
+    let fd = c .before .before .before .fit-blocks4 .ensures in
+    let A = fit-numbers (s .args .n) (s .args .a .now) (fa .0) (few .0) (few .1) (long .0) (fa .1) (fine c .in-a) (one .before .line-a .given .1) (one .known-told .given .0 .1) (one .known-told .given .1 .0 .1) in
+    let B = fit-numbers (s .args .n) (s .args .b .now) (fb .0) (few .0) (few .1) (long .1) (fb .1) (fine c .in-b) (two .before .line-b .given .1) (two .known-told2 .given .0 .1) (two .known-told2 .given .1 .0 .1) in
+    let C = fit-numbers (s .args .n) (s .args .c .now) (fc .0) (few .0) (few .1) (long .2) (fc .1) (fine c .in-c) (three .before .line-c .given .1) (three .known-told3 .given .0 .1) (three .known-told3 .given .1 .0 .1) in
+    let D = fit-numbers (s .args .n) (s .args .d .now) (fd .0) (few .0) (few .1) (long .3) (fd .1) (fine c .in-d) (c .before .line-d .given .1) (c .known-told4 .given .0 .1) (c .known-told4 .given .1 .0 .1) in
+    let n : toZ w64 (15 * s .args .n) ≡ pos (15 * s .args .n) = plain-is (count-read (seconds s)) tt in
     λ z. record {
       refsv = A .0 z;
       srsv = A .1 z;
@@ -91,42 +128,42 @@ numbers-are c dsg =
     }
 
 -- the limits do not ask for DSG
-limit-is : (c : tie.After-limits) → c .limits .result ≡ limitsRule (t (c .before .before .before .before .before .before .before .before .before .before .before .before .before .before .before .before .before) .numbers)
+limit-is : (c : tie.After-limits) → c .limits .result ≡ limitsRule (t (start (c .before)) .numbers)
 unfolding limitsRule recordOf numbersWith
 limit-is c = c .limits .ensures ∙ ap limitsRule (numbers-are (c .before) (pos 0))
 
 -- the first refusal of the numbers: from 3 to 5, or else 6
-from-limits : (c : tie.After-limits) → 0 < c .limits .result → numbersRule (t (c .before .before .before .before .before .before .before .before .before .before .before .before .before .before .before .before .before)) ≡ c .limits .result
+from-limits : (c : tie.After-limits) → 0 < c .limits .result → numbersRule (t (start (c .before))) ≡ c .limits .result
 unfolding numbersRule
-from-limits c h = ap (λ (k : ℕ). k then dsgRule (t (c .before .before .before .before .before .before .before .before .before .before .before .before .before .before .before .before .before) .numbers .dsg)) (sym (limit-is c)) ∙ then-refused _ _ h
+from-limits c h = ap (λ (k : ℕ). k then dsgRule (t (start (c .before)) .numbers .dsg)) (sym (limit-is c)) ∙ then-refused _ _ h
 
-from-scatter : (c : tie.Else1) → numbersRule (t (c .before .before .before .before .before .before .before .before .before .before .before .before .before .before .before .before .before .before)) ≡ dsgRule (t (c .before .before .before .before .before .before .before .before .before .before .before .before .before .before .before .before .before .before) .numbers .dsg)
+from-scatter : (c : tie.Else1) → numbersRule (t (start (c .before .before))) ≡ dsgRule (t (start (c .before .before)) .numbers .dsg)
 unfolding numbersRule
 from-scatter c = then-passed _ _ (sym (limit-is (c .before)) ∙ c .if1 .left)
 
 -- what Scatter replies
 sigma : (c : tie.After-scatter-blocks)
-    → let d = t (c .before .before .before .before .before .before .before .before .before .before .before .before .before .before .before .before .before .before .before) .numbers .dsg in scatterReply (c .scatter-blocks .result) ≡ reply (pos 0) (dsgRule d) d
+    → let d = t (start (c .before .before .before)) .numbers .dsg in scatterReply (c .scatter-blocks .result) ≡ reply (pos 0) (dsgRule d) d
 unfolding recordOf numbersWith
 sigma c = c .scatter-blocks .ensures .0
 
 -- where Scatter accepts, its value is the record's DSG
 sigma-is : (c : tie.After-known-told5)
-    → let d = t (c .before .before .before .before .before .before .before .before .before .before .before .before .before .before .before .before .before .before .before .before .before .before) .numbers .dsg in (dsgRule d ≡ 0) × (c .before .answer .given .0 .0 ≡ d)
+    → let d = t (start (c .before .before .before .before .before .before)) .numbers .dsg in (dsgRule d ≡ 0) × (c .before .answer .given .0 .0 ≡ d)
 sigma-is c =
     let w = c .before .before .before in
-    let d = t (w .before .before .before .before .before .before .before .before .before .before .before .before .before .before .before .before .before .before .before) .numbers .dsg in
+    let d = t (start (w .before .before .before)) .numbers .dsg in
     reply-values (pos 0) d (dsgRule d) (sym (ap scatterReply (c .before .answer .given .1)) ∙ sigma w)
 
-ten-are : (c : tie.After-known-told5) → put (c .before .before .before .before .before .before) (toZ w64 (ofZ w64 (c .before .answer .given .0 .0))) ≡ t (c .before .before .before .before .before .before .before .before .before .before .before .before .before .before .before .before .before .before .before .before .before .before) .numbers
+ten-are : (c : tie.After-known-told5) → put (c .before .before .before .before .before .before) (toZ w64 (ofZ w64 (c .before .answer .given .0 .0))) ≡ t (start (c .before .before .before .before .before .before)) .numbers
 unfolding recordOf numbersWith
 ten-are c =
-    let a = c .before .before .before .before .before .before .before .before .before .before .before .before .before .before .before .before .before .before .before .before .before .before .args in
+    let a = start (c .before .before .before .before .before .before) .args in
     numbers-are (c .before .before .before .before .before .before) (toZ w64 (ofZ w64 (c .before .answer .given .0 .0)))
     ∙ ap (λ (d : ℤ). numbersWith d (a .n) (a .a .now) (a .b .now) (a .c .now) (a .d .now)) (back-of (c .known-told5 .given .0 .1) ∙ sigma-is c .1)
 
 fit-blocks-requires : tie.Need-fit-blocks-requires
-fit-blocks-requires c κs = (c .pre .0 .0, c .pre .0 .1, c .pre .1 .0 .0, fine c .in-a)
+fit-blocks-requires c κs = (c .pre .0 .1, c .pre .1 .0 .0)
 
 enum-known-line-a : tie.Need-enum-known-line-a
 enum-known-line-a c = search needs
@@ -134,14 +171,19 @@ enum-known-line-a c = search needs
 enum-told : tie.Need-enum-told
 enum-told c = search needs
 
-fitted-number-requires : tie.Need-fitted-number-requires
-fitted-number-requires c κs = search needs
+values-refusal-requires : tie.Need-values-refusal-requires
+values-refusal-requires c κs = search needs
 
 returns : tie.Need-returns
-returns c = absurd (fit-never (c .before .before .before .fit-blocks .ensures) (c .before .enum-told .given .1))
+returns c =
+    let w = c .before .before .before in
+    let s = start-a w in
+    let a = s .args in
+    fit-refused (a .n) (a .a .now) (a .b .now) (a .c .now) (a .d .now) (a .a .now) _ (s .pre .0 .0) (s .pre .0 .1) (s .pre .1 .0 .0)
+    (λ i. i .in-a) (w .fit-blocks .ensures) (c .before .enum-told .given .1) (c .values-refusal .ensures)
 
 fit-blocks-requires-2 : tie.Need-fit-blocks-requires-2
-fit-blocks-requires-2 c κs = let s = c .before .before .before .before in (s .pre .0 .0, s .pre .0 .1, s .pre .1 .0 .1, fine s .in-b)
+fit-blocks-requires-2 c κs = let s = start-a (c .before .before .before) in (s .pre .0 .1, s .pre .1 .0 .1)
 
 enum-known-line-b : tie.Need-enum-known-line-b
 enum-known-line-b c = search needs
@@ -149,14 +191,19 @@ enum-known-line-b c = search needs
 enum-told-2 : tie.Need-enum-told-2
 enum-told-2 c = search needs
 
-fitted-number-requires-2 : tie.Need-fitted-number-requires-2
-fitted-number-requires-2 c κs = search needs
+values-refusal-requires-2 : tie.Need-values-refusal-requires-2
+values-refusal-requires-2 c κs = search needs
 
 returns-2 : tie.Need-returns-2
-returns-2 c = absurd (fit-never (c .before .before .before .fit-blocks2 .ensures) (c .before .enum-told2 .given .1))
+returns-2 c =
+    let w = c .before .before .before in
+    let s = start-b w in
+    let a = s .args in
+    fit-refused (a .n) (a .a .now) (a .b .now) (a .c .now) (a .d .now) (a .b .now) _ (s .pre .0 .0) (s .pre .0 .1) (s .pre .1 .0 .1)
+    (λ i. i .in-b) (w .fit-blocks2 .ensures) (c .before .enum-told2 .given .1) (c .values-refusal2 .ensures)
 
 fit-blocks-requires-3 : tie.Need-fit-blocks-requires-3
-fit-blocks-requires-3 c κs = let s = c .before .before .before .before .before .before .before .before in (s .pre .0 .0, s .pre .0 .1, s .pre .1 .0 .2, fine s .in-c)
+fit-blocks-requires-3 c κs = let s = start-b (c .before .before .before) in (s .pre .0 .1, s .pre .1 .0 .2)
 
 enum-known-line-c : tie.Need-enum-known-line-c
 enum-known-line-c c = search needs
@@ -164,14 +211,19 @@ enum-known-line-c c = search needs
 enum-told-3 : tie.Need-enum-told-3
 enum-told-3 c = search needs
 
-fitted-number-requires-3 : tie.Need-fitted-number-requires-3
-fitted-number-requires-3 c κs = search needs
+values-refusal-requires-3 : tie.Need-values-refusal-requires-3
+values-refusal-requires-3 c κs = search needs
 
 returns-3 : tie.Need-returns-3
-returns-3 c = absurd (fit-never (c .before .before .before .fit-blocks3 .ensures) (c .before .enum-told3 .given .1))
+returns-3 c =
+    let w = c .before .before .before in
+    let s = start-c w in
+    let a = s .args in
+    fit-refused (a .n) (a .a .now) (a .b .now) (a .c .now) (a .d .now) (a .c .now) _ (s .pre .0 .0) (s .pre .0 .1) (s .pre .1 .0 .2)
+    (λ i. i .in-c) (w .fit-blocks3 .ensures) (c .before .enum-told3 .given .1) (c .values-refusal3 .ensures)
 
 fit-blocks-requires-4 : tie.Need-fit-blocks-requires-4
-fit-blocks-requires-4 c κs = let s = c .before .before .before .before .before .before .before .before .before .before .before .before in (s .pre .0 .0, s .pre .0 .1, s .pre .1 .0 .3, fine s .in-d)
+fit-blocks-requires-4 c κs = let s = start-c (c .before .before .before) in (s .pre .0 .1, s .pre .1 .0 .3)
 
 enum-known-line-d : tie.Need-enum-known-line-d
 enum-known-line-d c = search needs
@@ -179,17 +231,22 @@ enum-known-line-d c = search needs
 enum-told-4 : tie.Need-enum-told-4
 enum-told-4 c = search needs
 
-fitted-number-requires-4 : tie.Need-fitted-number-requires-4
-fitted-number-requires-4 c κs = search needs
+values-refusal-requires-4 : tie.Need-values-refusal-requires-4
+values-refusal-requires-4 c κs = search needs
 
 returns-4 : tie.Need-returns-4
-returns-4 c = absurd (fit-never (c .before .before .before .fit-blocks4 .ensures) (c .before .enum-told4 .given .1))
+returns-4 c =
+    let w = c .before .before .before in
+    let s = start-d w in
+    let a = s .args in
+    fit-refused (a .n) (a .a .now) (a .b .now) (a .c .now) (a .d .now) (a .d .now) _ (s .pre .0 .0) (s .pre .0 .1) (s .pre .1 .0 .3)
+    (λ i. i .in-d) (w .fit-blocks4 .ensures) (c .before .enum-told4 .given .1) (c .values-refusal4 .ensures)
 
 mul-t26 : tie.Need-mul-t26
-mul-t26 c = record { fits = omega (arith, seconds (c .before .before .before .before .before .before .before .before .before .before .before .before .before .before .before .before)) }
+mul-t26 c = record { fits = omega (arith, seconds (start c)) }
 
 cast-t27 : tie.Need-cast-t27
-cast-t27 c = fits (count (seconds (c .before .before .before .before .before .before .before .before .before .before .before .before .before .before .before .before))) tt
+cast-t27 c = fits (count (seconds (start c))) tt
 
 limits-requires : tie.Need-limits-requires
 limits-requires c κs = search needs
@@ -198,10 +255,13 @@ returns-5 : tie.Need-returns-5
 returns-5 c =
     let l = c .before in
     let h : 0 < l .limits .result = omega (arith, c .if1 .taken) in
-    refuse (t (l .before .before .before .before .before .before .before .before .before .before .before .before .before .before .before .before .before)) (l .limits .result) h (from-limits l h)
+    refuse (t (start (l .before))) (l .limits .result) h (passed (l .before) ∙ from-limits l h)
 
 scatter-blocks-requires : tie.Need-scatter-blocks-requires
-scatter-blocks-requires c κs = let s = c .before .before .before .before .before .before .before .before .before .before .before .before .before .before .before .before .before .before in (s .pre .0 .0, s .pre .0 .1, s .pre .1 .0 .1, fine s .in-b)
+scatter-blocks-requires c κs =
+    let four = c .before .before in
+    let s = start four in
+    (s .pre .0 .0, s .pre .0 .1, s .pre .1 .0 .1, fine four .in-b)
 
 enum-known-answer : tie.Need-enum-known-answer
 enum-known-answer c = search needs
@@ -218,11 +278,11 @@ returns-6 c =
     let told = c .before .enum-told5 .given .1 in
     let number = c .scattered-number .ensures in
     let some : 0 < c .scattered-number .result = rw (number ∙ ap (λ (r : Scattered). scatterReply r .number) told) (subst scatterNumbered told (w .scatter-blocks .ensures .1)) in
-    refuse (t (w .before .before .before .before .before .before .before .before .before .before .before .before .before .before .before .before .before .before .before)) (c .scattered-number .result) some
-    (from-scatter (w .before) ∙ sym (number ∙ ap (λ (r : Reply ℤ). r .number) (sigma w) ∙ reply-number _ _ _))
+    refuse (t (start (w .before .before .before))) (c .scattered-number .result) some
+    (passed (w .before .before .before) ∙ from-scatter (w .before) ∙ sym (number ∙ ap (λ (r : Reply ℤ). r .number) (sigma w) ∙ reply-number _ _ _))
 
 returns-7 : tie.Need-returns-7
-returns-7 c = ap Found.Ten (ten-are c) ∙ accept (t (c .before .before .before .before .before .before .before .before .before .before .before .before .before .before .before .before .before .before .before .before .before .before)) (from-scatter (c .before .before .before .before) ∙ sigma-is c .0)
+returns-7 c = ap Found.Ten (ten-are c) ∙ accept (t (start (c .before .before .before .before .before .before))) (passed (c .before .before .before .before .before .before) ∙ from-scatter (c .before .before .before .before) ∙ sigma-is c .0)
 
 pub ten-numbers-spec : {M : Type 1} → statement M
 ten-numbers-spec =
@@ -231,22 +291,22 @@ ten-numbers-spec =
     fit-blocks-requires
     enum-known-line-a
     enum-told
-    fitted-number-requires
+    values-refusal-requires
     returns
     fit-blocks-requires-2
     enum-known-line-b
     enum-told-2
-    fitted-number-requires-2
+    values-refusal-requires-2
     returns-2
     fit-blocks-requires-3
     enum-known-line-c
     enum-told-3
-    fitted-number-requires-3
+    values-refusal-requires-3
     returns-3
     fit-blocks-requires-4
     enum-known-line-d
     enum-told-4
-    fitted-number-requires-4
+    values-refusal-requires-4
     returns-4
     mul-t26
     cast-t27
