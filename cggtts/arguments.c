@@ -70,6 +70,7 @@ static int *noted(const char *word, int allowed, struct arguments *found)
                          {"--about", WITH_VIEW, &found->about},
                          {"--parted", WITH_VIEW, &found->parted},
                          {"--skip", WITH_CONVERT, &found->skip},
+                         {"--show", WITH_STORE, &found->show},
                          {"--bad", WITH_READ, &found->bad},
                          {"--csv", WITH_READ, &found->csv}};
     for (size_t i = 0; i < sizeof options / sizeof options[0]; i++) {
@@ -133,7 +134,8 @@ static int keep_input(const char *command, int allowed, const struct arguments *
 static int keep_inputs(const char *command, int allowed, const struct arguments *found)
 {
     int status = found->count == 0 ? keep_input(command, allowed, found, "-") : ACCEPTED;
-    for (int i = 0; i < found->count && status == ACCEPTED; i++) {
+    int files = allowed & WITH_NUMBERS && found->count > 1 ? 1 : found->count;
+    for (int i = 0; i < files && status == ACCEPTED; i++) {
         status = keep_input(command, allowed, found, found->names[i]);
     }
     if (status == ACCEPTED && found->picture != NULL
@@ -143,7 +145,13 @@ static int keep_inputs(const char *command, int allowed, const struct arguments 
     return status;
 }
 
-/* The files are gathered at the front of argv, in their order. */
+/* Whether a word that begins with a minus is a number. */
+static int is_negative(const char *word, int allowed)
+{
+    return allowed & WITH_NUMBERS && word[1] >= '0' && word[1] <= '9';
+}
+
+/* The files, and the numbers behind them, are gathered at the front of argv, in their order. */
 int read_arguments(int argc, char **argv, int allowed, struct arguments *found)
 {
     int files_only = 0, status = ACCEPTED;
@@ -151,7 +159,7 @@ int read_arguments(int argc, char **argv, int allowed, struct arguments *found)
     found->names = argv + 1;
     for (int i = 1; i < argc && status == ACCEPTED; i++) {
         char *word = argv[i];
-        if (files_only || word[0] != '-' || word[1] == '\0') {
+        if (files_only || word[0] != '-' || word[1] == '\0' || is_negative(word, allowed)) {
             found->names[found->count++] = word;
         } else if (strcmp(word, "--") == 0) {
             files_only = 1;

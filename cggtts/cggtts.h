@@ -68,11 +68,22 @@ const char *date_text(int64_t mjd, char *room);
 int read_calendar(const char *word, int64_t *mjd);
 
 /*
- * arguments.c: what stands behind a subcommand. Answers ACCEPTED, or FAILED after a message. Allowed may be an option -o, that
- * no file is named, that -o replaces a file that is read, and the options of view, of convert and of read. Nothing else that is
- * read may be written to.
+ * words.c: a date and a number as they are typed. What a store can't hold is told apart from what is none; a number that is too
+ * large for 64 bits is then the largest, or the least.
  */
-enum { WITH_OUTPUT = 1, NO_FILE = 2, REPLACING = 4, WITH_VIEW = 8, WITH_CONVERT = 16, WITH_READ = 64 };
+enum word { NO_WORD, FITS, TOO_LARGE };
+enum word read_ps(const char *word, int64_t *value);
+enum word read_mjd(const char *word, uint32_t *mjd);
+int complain_of_date(const char *where, const char *word, enum word found);
+int no_line_has(uint32_t mjd);
+void remark_on_date(const char *where, uint32_t mjd);
+
+/*
+ * arguments.c: what stands behind a subcommand. Answers ACCEPTED, or FAILED after a message. Allowed may be an option -o, that
+ * no file is named, that -o replaces a file that is read, that only the first word is a file and numbers follow, and the options of
+ * view, of convert, of read and of store. Nothing else that is read may be written to.
+ */
+enum { WITH_OUTPUT = 1, NO_FILE = 2, REPLACING = 4, WITH_VIEW = 8, WITH_CONVERT = 16, WITH_READ = 64, WITH_NUMBERS = 128, WITH_STORE = 256 };
 enum { MOST_CODES = 32, FRC_WIDTH = TRACKLINE_WIDTH_FRC };
 struct arguments {
     const char *output;            /* what -o names, or NULL */
@@ -80,7 +91,7 @@ struct arguments {
     const char *range;             /* what stands behind --range, or NULL */
     int pairs, about, parted;      /* options of view that are given */
     int bad, csv;                  /* options of read that are given */
-    int skip;                      /* --skip is given */
+    int skip, show;                /* --skip of convert, --show of store is given */
     const char *codes[MOST_CODES]; /* what --frc names, OLD=NEW */
     int codes_count;
     int count;
@@ -236,6 +247,20 @@ void advise_line(const struct line_file *file, const uint8_t *line, size_t lengt
 /* about.c: rounded figures for people. */
 int print_about(const struct view *view);
 
+/* stores.c: a store of delays by date, for people. Entries are counted from 0 here, and from 1 in messages. */
+enum { ENTRY_ROOM = 160, DELAYS = TRACKLINE_DELAYS_NUMBERS };
+extern const char *const DELAY_NAME[DELAYS];
+size_t store_count(const uint8_t *store);
+size_t store_group(const uint8_t *store); /* how many delays an entry has */
+uint32_t store_start(const uint8_t *store, size_t entry);
+int64_t store_delay(const uint8_t *store, size_t entry, size_t place);
+const char *mjd_text(uint32_t mjd, char *room);                                /* with its calendar date */
+const char *entry_text(const uint8_t *store, size_t entry, char *room);        /* which one, and since when */
+uint32_t judge_store(const struct bytes *store);                               /* the library's answer: 0 or 20 */
+int read_store(const char *name, struct bytes *store);                         /* ACCEPTED, or another status after a message */
+void explain_store(const struct bytes *store);                                 /* what it is refused for */
+void explain_appended(const struct bytes *store, uint32_t mjd, char **words, const int64_t *delays, uint32_t number);
+
 /* The subcommands. Each takes what main was given from its own name on, and answers the exit status. */
 int line_command(int argc, char **argv);
 int check_command(int argc, char **argv);
@@ -244,5 +269,8 @@ int convert_command(int argc, char **argv);
 int merge_command(int argc, char **argv);
 int view_command(int argc, char **argv);
 int starts_command(int argc, char **argv);
+int delays_command(int argc, char **argv);
+int append_command(int argc, char **argv);
+int store_command(int argc, char **argv);
 
 #endif

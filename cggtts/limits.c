@@ -7,7 +7,6 @@
 static const int64_t MEASUREMENT_LIMIT = TRACKLINE_MOST_MEASUREMENT, GEOMETRY_LIMIT = TRACKLINE_MOST_GEOMETRY,
                      OTHER_LIMIT = TRACKLINE_MOST_CORRECTION;
 
-static const char *const DELAYS[] = {"INT", "CAB", "REF", "GD"};
 static const char *const COLUMNS[] = {"geometry", "relativity", "ionosphere", "troposphere", "clock"};
 
 /* Explains the first number beyond its limit and counts the others. `place` is counted from 0; a delay has none. */
@@ -29,8 +28,8 @@ static void judge(const char *list, size_t place, int64_t value, int64_t limit, 
 void explain_limits(const uint8_t *block)
 {
     size_t found = 0, measurements = measurements_of(block), groups = groups_of(block);
-    for (size_t k = 0; k < 4; k++) {
-        judge(DELAYS[k], SIZE_MAX, ps_at(block, TRACKLINE_AT_INT + TRACKLINE_WIDTH_PS * k), OTHER_LIMIT, &found);
+    for (size_t k = 0; k < DELAYS; k++) {
+        judge(DELAY_NAME[k], SIZE_MAX, ps_at(block, TRACKLINE_AT_INT + TRACKLINE_WIDTH_PS * k), OTHER_LIMIT, &found);
     }
     for (size_t i = 0; i < measurements; i++) {
         judge("measurement", i, measurement_at(block, i), MEASUREMENT_LIMIT, &found);

@@ -30,6 +30,12 @@ static const struct command {
      "        median, rounded; draw them, from LOW to HIGH ns; files of any length, date by date",
      view_command},
     {"starts", "MJD | yyyy-mm-dd", "print the starts of that date's 89 tracks as hhmmss, in order", starts_command},
+    {"delays", "STORE MJD | yyyy-mm-dd", "print the delays in force on that date, and since when and until when they are",
+     delays_command},
+    {"append", "STORE MJD INT CAB REF [GD] -o OUT",
+     "write the store with one entry more, in force from that date on; delays in ps; OUT may be STORE", append_command},
+    {"store", "TEXT -o STORE | --show STORE [-o TEXT]",
+     "make a store of a text with a row for each entry: date, INT, CAB, REF, GD; or show a store as such a text", store_command},
 };
 
 enum { COUNT = sizeof COMMANDS / sizeof COMMANDS[0] };

@@ -1,13 +1,14 @@
 /*
  * trackline: one CGGTTS data line of 113 columns from a satellite track of 1 to 13 minutes, what stands in such a line,
- * one file of lines from two, and the common view of two.
+ * one file of lines from two, the common view of two, and delays kept by date.
  *
  * Each function but trackline_comment answers 0 when it accepts and the number of its refusal otherwise. A slice is a
- * pointer and a length; NULL with length 0 is an empty slice. A length counts elements: bytes of a block, a line or a file, but
- * numbers of lent values or of a lent report, which sizeof does not count. A function that accepts writes the first 113 bytes of the
- * lent line, with no byte of zero after them, the first 23 of the lent values, the first *written bytes of the lent file,
- * or the first 4 numbers of the lent report; one that refuses writes nothing. What is written to must not overlap
- * anything else of the call. Nothing is kept between calls, so that threads may call at once on lines of their own.
+ * pointer and a length; NULL with length 0 is an empty slice. A length counts elements: bytes of a block, a line, a file
+ * or a store, but numbers of lent values, of a lent report or of lent delays, which sizeof does not count. A function
+ * that accepts writes the first 113 bytes of the lent line, with no byte of zero after them, the first 23 of the lent
+ * values, the first *written bytes of the lent file or store, or the first 4 numbers of the lent report or delays; one
+ * that refuses writes nothing. What is written to must not overlap anything else of the call. Nothing is kept between
+ * calls, so that threads may call at once on lines of their own.
  *
  * With a length above 0 a pointer has to point to so many elements: NULL or a wild pointer is not noticed, and is read or
  * written. Bytes may stand anywhere; int64_t and size_t have to be aligned as C aligns them, to 8 bytes.
@@ -27,9 +28,9 @@ extern "C" {
 #endif
 
 /* The version of the library that this header is of. */
-#define TRACKLINE_VERSION "1.5.0"
+#define TRACKLINE_VERSION "1.6.0"
 #define TRACKLINE_VERSION_MAJOR 1
-#define TRACKLINE_VERSION_MINOR 5
+#define TRACKLINE_VERSION_MINOR 6
 #define TRACKLINE_VERSION_PATCH 0
 
 /* Columns of a line, and bytes of a line with the longest comment behind them. */
@@ -152,7 +153,7 @@ extern "C" {
     X(6, TRACKLINE_SCATTER, "DSG is below 0 or has more than four digits")                                             \
     X(7, TRACKLINE_LABEL, "a label is out of its range, or the track length is not 15 n, n from 4 to 52")              \
     X(8, TRACKLINE_START, "no track of that day starts at that second")                                                \
-    X(9, TRACKLINE_LENT, "the lent line is under 113 bytes, the lent values are under 23, or the lent report under 4") \
+    X(9, TRACKLINE_LENT, "lent is a line under 113 bytes, values under 23, a report or delays under 4, or too short a store") \
     X(10, TRACKLINE_CORRECTED, "a corrected value is beyond its limit")                                                \
     X(11, TRACKLINE_LENGTH, "the block is under 4 bytes or not as long as its sizes make it")                          \
     X(12, TRACKLINE_LINE_LENGTH, "the line is not 113 to 140 bytes long, or a file's last line is under 115")          \
@@ -162,11 +163,14 @@ extern "C" {
     X(16, TRACKLINE_ORDER, "the lines do not ascend by MJD, start, letter and satellite")                              \
     X(17, TRACKLINE_ROOM, "the lent file is shorter than the result")                                                  \
     X(18, TRACKLINE_NO_PAIR, "no two lines, one of each file, have the same MJD, start, letter, satellite and TRKL")   \
-    X(19, TRACKLINE_FILE_LENGTH, "a file is longer than 1150000 bytes, which are 10000 lines")
+    X(19, TRACKLINE_FILE_LENGTH, "a file is longer than 1150000 bytes, which are 10000 lines")                         \
+    X(20, TRACKLINE_STORE, "the store of delays is none, or a delay is beyond its limit or has no place in it")        \
+    X(21, TRACKLINE_NOT_YET, "no entry of the store starts as early as that date")                                     \
+    X(22, TRACKLINE_NOT_LATER, "the date is not later than the store's last, or the store has 1000 entries")
 
 #define TRACKLINE_NUMBER(number, name, text) , name = number
 enum trackline_refusal {
-    TRACKLINE_ACCEPTED = 0 /* the line is written, or its values are, or the file or the report is */
+    TRACKLINE_ACCEPTED = 0 /* what is lent has the line, the values, the file, the report, the delays or the store */
     TRACKLINE_REFUSALS(TRACKLINE_NUMBER)
 };
 #undef TRACKLINE_NUMBER
@@ -300,6 +304,54 @@ enum trackline_report {
  */
 uint32_t trackline_view(const uint8_t *first, size_t first_len, const uint8_t *second, size_t second_len,
                         int64_t *report, size_t report_len);
+
+/*
+ * A store keeps the delays of a receiver by date: share/doc/trackline/DELAYS.md tells it whole. It is little-endian:
+ * version and count, then the MJD that each entry starts on, then a group of delays for each entry, in ps, signed, two's
+ * complement. A group of version 1 has INT, CAB and REF; one of version 2 also GD, which reads as 0 from version 1. The
+ * starts are strictly rising, any number of 32 bits; a delay has the limit TRACKLINE_MOST_CORRECTION. A store of no entry
+ * is one too: its version and a count of 0.
+ */
+#define TRACKLINE_STORE_MOST_ENTRIES 1000
+#define TRACKLINE_STORE_AT_VERSION 0
+#define TRACKLINE_STORE_WIDTH_VERSION 2
+#define TRACKLINE_STORE_AT_COUNT 2
+#define TRACKLINE_STORE_WIDTH_COUNT 2
+#define TRACKLINE_STORE_AT_STARTS 4 /* start k, from 0, at 4 + 4 k; n starts are followed by the groups */
+#define TRACKLINE_STORE_WIDTH_START 4
+#define TRACKLINE_STORE_GROUP_1 3 /* delays of an entry in version 1, and in version 2; each has TRACKLINE_WIDTH_PS bytes */
+#define TRACKLINE_STORE_GROUP_2 4
+#define TRACKLINE_STORE_MOST_BYTES 36004
+#define TRACKLINE_STORE_BYTES_1_OF(n) (4 + 28 * (n))
+#define TRACKLINE_STORE_BYTES_2_OF(n) (4 + 36 * (n))
+
+/* The places of the delays in force. */
+enum trackline_delays_place {
+    TRACKLINE_DELAYS_INT,
+    TRACKLINE_DELAYS_CAB,
+    TRACKLINE_DELAYS_REF,
+    TRACKLINE_DELAYS_GD,
+    TRACKLINE_DELAYS_NUMBERS /* how many there are: 4 */
+};
+
+/*
+ * The delays in force on a date, which are those of the latest start not after it, are written to the first 4 of the lent
+ * numbers. Tried in this order: 20 if the store has a version other than 1 and 2, a count above 1000, another length than
+ * these make, starts that are not strictly rising, or a delay beyond its limit in any entry; 21 if no start is early
+ * enough, as in a store of no entry; 9 if fewer than 4 numbers are lent.
+ */
+uint32_t trackline_delays(const uint8_t *store, size_t store_len, uint32_t mjd, int64_t *delays, size_t delays_len);
+
+/*
+ * The store with one entry more, of the same version, is written to the lent bytes, and how many it has to *written. Its
+ * length is 28 more in version 1 and 36 more in version 2; TRACKLINE_STORE_MOST_BYTES are room for any.
+ *
+ * Tried in this order: 20 for the store, as above, for a new delay beyond its limit and for a gd other than 0 in version
+ * 1; 22 if mjd is not later than the last start or there are 1000 entries; 9 if too few bytes are lent. A refusal leaves
+ * *written too as it was. written must not be NULL. To begin a store append to its four bytes, 2 0 0 0.
+ */
+uint32_t trackline_append(const uint8_t *store, size_t store_len, uint32_t mjd, int64_t intdly, int64_t cabdly, int64_t refdly,
+                          int64_t gd, uint8_t *longer, size_t longer_len, size_t *written);
 
 #ifdef __cplusplus
 }

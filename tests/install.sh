@@ -31,7 +31,7 @@ CGGTTS=$prefix/bin/cggtts python3 tests/cggtts/test_cggtts.py >"$scratch/log" 2>
     cat "$scratch/log" >&2
     fail 'the installed cggtts'
 }
-for test in merge view words parted convert files offset; do
+for test in merge view words parted convert files offset delays; do
     CGGTTS=$prefix/bin/cggtts python3 tests/cggtts/test_$test.py >"$scratch/log" 2>&1 || {
         cat "$scratch/log" >&2
         fail "the installed cggtts: test_$test.py"
@@ -89,6 +89,24 @@ printf '#include <trackline.h>\nversion TRACKLINE_VERSION TRACKLINE_VERSION_MAJO
 cmp docs/REFUSALS.md "$prefix/share/doc/trackline/REFUSALS.md"
 cmp docs/TRUST.md "$prefix/share/doc/trackline/TRUST.md"
 cmp docs/HIRE-BLOCK.md "$prefix/share/doc/trackline/HIRE-BLOCK.md"
+cmp docs/DELAYS.md "$prefix/share/doc/trackline/DELAYS.md"
+
+# the installed paper's commands on delays, as its table and its run have them, among the installed examples
+(
+    cp -r "$prefix/share/trackline/examples" "$scratch/delays"
+    cd "$scratch/delays"
+    paper=$prefix/share/doc/trackline/DELAYS.md
+    sed -n '/^## How to use it/,/^## What/ s/^| [a-z].* | `\([^`]*\)`.*|$/\1/p' "$paper" >"$scratch/commands"
+    [ "$(wc -l <"$scratch/commands")" -eq 5 ]
+    PATH=$prefix/bin:$PATH bash -eu "$scratch/commands" >/dev/null 2>&1
+    cmp dated.blk worked.blk
+    PATH=$prefix/bin:$PATH cggtts store --show delays.store | grep -q '^61072 .* 38702 .*# 2026-02-01$'
+    cp "$prefix/share/trackline/examples/delays.store" .
+    sed -n 's/^    \$ \(cggtts .*\)/\1/p' "$paper" >"$scratch/commands"
+    PATH=$prefix/bin:$PATH bash -eu "$scratch/commands" >"$scratch/report"
+    sed -n '/^    \$ cggtts/,/^$/ s/^    \([^$].*\)/\1/p' "$paper" | cmp - "$scratch/report"
+    grep -F -f <(sed -n '/^    58849/,/^$/ s/^    //p' "$paper" | grep .) delays.txt | wc -l | grep -qx 5
+) & wait $! || fail "the commands in DELAYS.md"
 
 # each command of the README's "From C", as it is written, in a home of its own
 sed -n '/^## From C/,/^## For files/p' README.md | sed -n '/make install/,$ s/^    //p' >"$scratch/commands"
@@ -130,8 +148,11 @@ for paper in "$prefix"/share/doc/trackline/*.md; do
     ! grep -n '](\.\./' "$paper" || fail "$(basename "$paper") links to the sources"
 done
 ! grep -n 'docs/' "$prefix/include/trackline.h" || fail 'the header names a path of the sources'
-[ -f "$prefix/$(sed -n 's|.* \(share/doc/[A-Za-z/.-]*\).*|\1|p' "$prefix/include/trackline.h")" ] ||
-    fail 'the header names no installed paper'
+papers=$(sed -n 's|.* \(share/doc/[A-Za-z/-]*\.md\).*|\1|p' "$prefix/include/trackline.h")
+[ "$(wc -w <<<"$papers")" -eq 2 ] || fail "the header names these papers: $papers"
+for paper in $papers; do
+    [ -f "$prefix/$paper" ] || fail "the header names $paper, which is not installed"
+done
 
 # the libraries: first the shared one, then the archive
 export PKG_CONFIG_PATH=$prefix/lib/pkgconfig
@@ -149,7 +170,7 @@ pkg-config --exact-version "$(sed -n 's/^VERSION := //p' Makefile)" trackline ||
 
 # what the shared library exports and needs
 exports=$(nm -D --defined-only "$prefix/lib/libtrackline.so" | awk '{print $3}' | sort | xargs)
-[ "$exports" = 'trackline_block trackline_comment trackline_line trackline_merge trackline_read trackline_start trackline_view' ] || fail "the shared library exports: $exports"
+[ "$exports" = 'trackline_append trackline_block trackline_comment trackline_delays trackline_line trackline_merge trackline_read trackline_start trackline_view' ] || fail "the shared library exports: $exports"
 needs=$(ldd "$prefix/lib/libtrackline.so" | awk '{print $1}' | grep -vE '^(linux-vdso|libc|/lib.*/ld-linux|statically)' || true)
 [ -z "$needs" ] || fail "the shared library needs: $needs"
 

@@ -4,8 +4,8 @@
     python3 tests/layout.py
 
 tests/blocks.py has it from the paper; include/trackline.h, docs/HIRE-BLOCK.md and man/hireblock.5 must say the same. The
-header's places of a line's values are those of what trackline_line is given, and those of a report document 02's. Its limits are
-document 01's, and its version is the Makefile's. All three say what a measurement is and have the equations and the starts' formula;
+header's places of a line's values are those of what trackline_line is given, and those of a report, of delays and of a store document
+02's. Its limits are document 01's, and its version is the Makefile's. All three say what a measurement is and have the equations and the starts' formula;
 README.md and docs/TRUST.md have one table of the documents.
 """
 import pathlib
@@ -20,6 +20,10 @@ LIMITS = {'MOST_MEASUREMENT': 10 ** 12, 'MOST_GEOMETRY': 2 * 10 ** 11, 'MOST_COR
           'LEAST_SATELLITE': 1, 'MOST_SATELLITE': 99, 'MOST_HC': 99, 'LEAST_FR_R': 1, 'MOST_FR_R': 24, 'MOST_ELV': 900, 'MOST_AZTH': 3599,
           'MOST_IOE_G': 255, 'MOST_IOE_J': 255, 'MOST_IOE_E': 999, 'MOST_IOE_C': 23, 'LEAST_IOE_R': 1, 'MOST_IOE_R': 96,
           'MOST_MIDPOINT': 10 ** 10 - 1, 'MOST_SLOPE': 99999, 'MOST_DELAY_SLOPE': 999, 'MOST_DELAY': 9999, 'MOST_DSG': 9999}
+# a store of delays, as document 02 has it: version and count of 16 bits, starts of 32, and 3 or 4 delays an entry
+STORE = {'STORE_MOST_ENTRIES': 1000, 'STORE_AT_VERSION': 0, 'STORE_WIDTH_VERSION': 2, 'STORE_AT_COUNT': 2, 'STORE_WIDTH_COUNT': 2,
+         'STORE_AT_STARTS': 4, 'STORE_WIDTH_START': 4, 'STORE_GROUP_1': 3, 'STORE_GROUP_2': 4, 'STORE_MOST_BYTES': 2 + 2 + 1000 * (4 + 4 * 8)}
+STORE_BYTES = {'STORE_BYTES_1': lambda n: 2 + 2 + n * (4 + 3 * 8), 'STORE_BYTES_2': lambda n: 2 + 2 + n * (4 + 4 * 8)}
 # the equation A, term by term, as document 000 has it
 SIGNS = {'INT': -1, 'CAB': -1, 'REF': 1, 'geometry': -1, 'relativity': 1, 'ionosphere': -1, 'troposphere': -1, 'GD': -1}
 # the numbers of a common view's report, as document 02 names them in order
@@ -47,7 +51,7 @@ def wrong_in_header(text):
     wanted.update({'WIDTH_' + name: width for name, (at, width) in paper().items() if at < 26})
     wanted.update({'WIDTH_PS': 8, 'WIDTH_GROUP': 40, 'MEASUREMENTS': 780, 'LEAST_GROUPS': 4, 'GROUPS': 52,
                    'BLOCK_BYTES': LENGTH, 'LINE_BYTES': 113, 'LONGEST_LINE': 140, 'FILE_LINE_BYTES': 115,
-                   'FILE_MOST_LINES': 10000, **LIMITS})
+                   'FILE_MOST_LINES': 10000, **LIMITS, **STORE})
     version = re.search(r'(?m)^VERSION := (.*)$', (ROOT / 'Makefile').read_text()).group(1)
     wanted.update(zip(('VERSION_MAJOR', 'VERSION_MINOR', 'VERSION_PATCH'), map(int, version.split('.'))))
     if re.findall(r'(?m)^#define TRACKLINE_VERSION "(.*)"$', text) != [version]:
@@ -59,7 +63,10 @@ def wrong_by_blocks(text, found):
     """The header's formulas over n, for every n; for 52 they give what stands for a full track."""
     formulas = dict(re.findall(r'(?m)^#define TRACKLINE_(\w+)_OF\(n\) \(([\d +*()n]+)\)$', text))
     names = {'BLOCK_BYTES': 'bytes', 'MEASUREMENTS': 'measurements', 'AT_GROUPS': 'groups at'}
-    wrong = sorted(set(names) ^ set(formulas))
+    wrong = sorted((set(names) | set(STORE_BYTES)) ^ set(formulas))
+    for name in set(STORE_BYTES) & set(formulas):
+        if any(eval(formulas[name], {'n': n}) != STORE_BYTES[name](n) for n in range(1001)):
+            wrong.append((name, formulas[name]))
     for name in set(names) & set(formulas):
         values = [eval(formulas[name], {'n': n}) for n in range(4, 53)]
         if values != [OF[names[name]](n) for n in range(4, 53)] or values[-1] != found.get(name):
@@ -73,6 +80,8 @@ def wrong_in_values(text):
     found = re.findall(r'(?m)^    TRACKLINE_VALUE_(\w+),$', text)
     report = re.findall(r'(?m)^    TRACKLINE_REPORT_(\w+)\b', text)
     wrong = [] if found == names and len(found) == 23 else [('values', found)]
+    delays = re.findall(r'(?m)^    TRACKLINE_DELAYS_(\w+)\b', text)
+    wrong += [] if delays == ['INT', 'CAB', 'REF', 'GD', 'NUMBERS'] else [('delays', delays)]
     return wrong + ([] if report == REPORT + ['NUMBERS'] else [('report', report)])
 
 

@@ -31,7 +31,7 @@ reference = { path = "../mutant/reference" }
 panic = "abort"
 '''
 EXPORTS = '''
-use reference::{Labels, Numbers};
+use reference::{Delays, Labels, Numbers};
 unsafe fn bytes<'a>(at: *const u8, len: usize) -> &'a [u8] {
     if at.is_null() { &[] } else { std::slice::from_raw_parts(at, len) }
 }
@@ -84,6 +84,23 @@ pub unsafe extern "C" fn trackline_view(
 ) -> u32 {
     reference::view_values(bytes(first, first_len), bytes(second, second_len), lent(report, report_len))
 }
+#[no_mangle]
+pub unsafe extern "C" fn trackline_delays(
+    store: *const u8, store_len: usize, mjd: u32, delays: *mut i64, delays_len: usize,
+) -> u32 {
+    reference::lookup_values(bytes(store, store_len), mjd, lent(delays, delays_len))
+}
+#[no_mangle]
+pub unsafe extern "C" fn trackline_append(
+    store: *const u8, store_len: usize, mjd: u32, int: i64, cab: i64, refdly: i64, gd: i64,
+    longer: *mut u8, longer_len: usize, written: *mut usize,
+) -> u32 {
+    let set = Delays { int, cab, refdly, gd };
+    match reference::append(bytes(store, store_len), mjd, &set, lent(longer, longer_len)) {
+        Ok(count) => { *written = count; 0 }
+        Err(number) => number,
+    }
+}
 '''
 LEFT = 'n * (n * n - 1) * v - (n * n - 1) * s - 3 * place(n, j) * t'
 RESIDUAL = 'let residual = v + nearest(-(n * n - 1) * s - 3 * place(n, j) * t, n * (n * n - 1));'
@@ -125,6 +142,23 @@ SUM = 'sum: differences.iter().sum()'
 FOUND = '    let View { pairs, sum, smallest, largest } = match common_view(first, second) {'
 FEW_LENT = 'if lent.len() < REPORT_VALUES {'
 REPORT = 'lent[..REPORT_VALUES].copy_from_slice(&[pairs, sum, smallest, largest]);'
+VERSIONS = '        1 => 3,\n        2 => 4,\n        _ => return Err(20),'
+COUNTED = 'count > MOST_ENTRIES || bytes.len() != store_bytes(count, in_group)'
+SOUND = '!store.rises() || !store.delays_fit()'
+IN_FORCE = 'rposition(|start| start <= mjd)'
+OF_ENTRY = 'Delays { int: delay(0), cab: delay(1), refdly: delay(2), gd }'
+FROM = 'let from = DELAY * self.in_group * entry;'
+NEW_FITS = '!fits || store.version == 1 && set.gd != 0'
+LATER = 'store.starts().next_back().is_some_and(|last| mjd <= last) || store.count == MOST_ENTRIES'
+LONGER = 'let bytes = longer(&store, mjd, set);'
+NO_ROOM = 'if lent.len() < bytes.len() {'
+WRITTEN = 'lent[..bytes.len()].copy_from_slice(&bytes);'
+NEW_START = '    bytes.extend(mjd.to_le_bytes());\n'
+NEW_COUNT = '(store.count as u16 + 1)'
+NEW_SET = 'let set = [set.int, set.cab, set.refdly, set.gd];\n    set[..store.in_group]'
+FEW_DELAYS = 'if lent.len() < SET_VALUES {'
+IN_LENT = 'lent[..SET_VALUES].copy_from_slice(&[int, cab, refdly, gd]);'
+LOOKED = '    let Delays { int, cab, refdly, gd } = match lookup(store, mjd) {\n        Ok(set) => set,\n        Err(refusal) => return refusal,'
 # name, then file, text and what to write for it, as often as needed
 MUTANTS = [
     # what the paper calls plausible and wrong
@@ -584,6 +618,113 @@ MUTANTS = [
      '    if report_len == 4 { *report.add(4) = 7; }\n    reference::view_values('),
     ('a value before the lent report', 'EXPORTS', '    reference::view_values(',
      '    if report_len == 5 { *report.sub(1) = 7; }\n    reference::view_values('),
+    # stores of delays: what one is
+    ('delays: version 3 taken', 'delays.rs', VERSIONS, VERSIONS.replace('2 => 4', '2 | 3 => 4')),
+    ('delays: version 0 taken', 'delays.rs', VERSIONS, VERSIONS.replace('1 => 3', '0 | 1 => 3')),
+    ('delays: version 2 alone', 'delays.rs', VERSIONS, VERSIONS.replace('        1 => 3,\n', '')),
+    ('delays: version in one byte', 'delays.rs', 'u16::from_le_bytes([low, high]);', 'u16::from_le_bytes([low, high]) & 0xFF;'),
+    ('delays: version big-endian', 'delays.rs', 'u16::from_le_bytes([low, high]);', 'u16::from_be_bytes([low, high]);'),
+    ('delays: count in one byte', 'delays.rs', '[count_low, count_high]))', '[count_low, count_high]) & 0xFF)'),
+    ('delays: count big-endian', 'delays.rs', 'u16::from_le_bytes([count_low', 'u16::from_be_bytes([count_low'),
+    ('delays: 1001 entries', 'delays.rs', COUNTED, COUNTED.replace('MOST_ENTRIES', 'MOST_ENTRIES + 1')),
+    ('delays: 999 entries', 'delays.rs', COUNTED, COUNTED.replace('count > MOST_ENTRIES', 'count >= MOST_ENTRIES')),
+    ('delays: any number of entries', 'delays.rs', COUNTED, 'bytes.len() != store_bytes(count, in_group)'),
+    ('delays: bytes over taken', 'delays.rs', COUNTED, COUNTED.replace('!= store_bytes', '< store_bytes')),
+    ('delays: a byte over taken', 'delays.rs', COUNTED, COUNTED.replace('bytes.len() !=', 'bytes.len() & !1 !=')),
+    ('delays: groups of four in version 1', 'delays.rs', VERSIONS, VERSIONS.replace('1 => 3', '1 => 4')),
+    ('delays: groups of three in version 2', 'delays.rs', VERSIONS, VERSIONS.replace('2 => 4', '2 => 3'),
+     'delays.rs', 'let gd = if self.version == 1 { 0 }', 'let gd = if self.in_group == 3 { 0 }'),
+    ('delays: equal starts taken', 'delays.rs', 'before < start', 'before <= start'),
+    ('delays: falling starts', 'delays.rs', 'before < start', 'before > start'),
+    ('delays: starts in any order', 'delays.rs', SOUND, '!store.delays_fit()'),
+    ('delays: the last start not compared', 'delays.rs', 'zip(self.starts().skip(1))',
+     'zip(self.starts().skip(1).take(self.count.saturating_sub(2)))'),
+    ('delays: the second start not compared', 'delays.rs', 'self.starts().zip(self.starts().skip(1))',
+     'self.starts().skip(1).zip(self.starts().skip(2))'),
+    ('delays: starts big-endian', 'delays.rs', 'u32::from_le_bytes(bytes', 'u32::from_be_bytes(bytes'),
+    ('delays: starts of 16 bits', 'delays.rs', 'u32::from_le_bytes(bytes.try_into().expect("four bytes"))',
+     'u32::from(u16::from_le_bytes([bytes[0], bytes[1]]))'),
+    ('delays: starts compared as signed', 'delays.rs', 'before < start', '(before as i32) < start as i32'),
+    ('delays: delays of any size', 'delays.rs', SOUND, '!store.rises()'),
+    ('delays: a delay one beyond', 'delays.rs', 'delay_in(delay), CORRECTION_LIMIT', 'delay_in(delay), CORRECTION_LIMIT + 1'),
+    ('delays: a delay at its limit refused', 'delays.rs', 'delay_in(delay), CORRECTION_LIMIT', 'delay_in(delay), CORRECTION_LIMIT - 1'),
+    ('delays: no limit below 0', 'delays.rs', 'within(delay_in(delay), CORRECTION_LIMIT)', '(delay_in(delay) <= CORRECTION_LIMIT)'),
+    ('delays: the last delay not tested', 'delays.rs', 'self.groups.chunks_exact(DELAY).all(',
+     'self.groups.chunks_exact(DELAY).take((self.in_group * self.count).saturating_sub(1)).all('),
+    ('delays: the first delay not tested', 'delays.rs', 'self.groups.chunks_exact(DELAY).all(',
+     'self.groups.chunks_exact(DELAY).skip(1).all('),
+    ('delays: GD not tested', 'delays.rs', 'self.groups.chunks_exact(DELAY).all(|delay| ',
+     'self.groups.chunks_exact(DELAY).enumerate().all(|(i, delay)| (self.in_group == 4 && i % 4 == 3) || '),
+    ('delays: delays tested in the entry in force alone', 'delays.rs', SOUND, '!store.rises()', 'delays.rs',
+     '    Ok(store.set(entry))', '    let set = store.set(entry);\n    if [set.int, set.cab, set.refdly, set.gd].iter().any('
+     '|d| !within(*d, CORRECTION_LIMIT)) { return Err(20); }\n    Ok(set)'),
+    ('delays: an empty store refused', 'delays.rs', 'if ' + COUNTED, 'if count == 0 || ' + COUNTED),
+    # which set is in force
+    ('delays: a start on the date not taken', 'delays.rs', IN_FORCE, 'rposition(|start| start < mjd)'),
+    ('delays: the first set always', 'delays.rs', IN_FORCE, 'position(|start| start <= mjd)'),
+    ('delays: the last set always', 'delays.rs', IN_FORCE, 'rposition(|_| true)'),
+    ('delays: the set before', 'delays.rs', 'Ok(store.set(entry))', 'Ok(store.set(entry.saturating_sub(1)))'),
+    ('delays: the nearest start, later or not', 'delays.rs', 'store.starts().' + IN_FORCE,
+     'store.starts().enumerate().min_by_key(|(_, start)| start.abs_diff(mjd)).map(|(i, _)| i)'),
+    ('delays: dates compared as signed', 'delays.rs', IN_FORCE, 'rposition(|start| start as i32 <= mjd as i32)'),
+    ('delays: the first set for an early date', 'delays.rs', '.ok_or(21u32)?', '.unwrap_or(0)', 'delays.rs',
+     '    Ok(store.set(entry))', '    if store.count == 0 { return Err(21); }\n    Ok(store.set(entry))'),
+    ('delays: 20 for an early date', 'delays.rs', '.ok_or(21u32)?', '.ok_or(20u32)?'),
+    ('delays: 21 before 20', 'delays.rs', 'pub fn lookup(store: &[u8], mjd: u32) -> Result<Delays, u32> {\n',
+     'pub fn lookup(store: &[u8], mjd: u32) -> Result<Delays, u32> {\n'
+     '    if store.len() >= 8 && start_in(&store[4..8]) > mjd { return Err(21); }\n'),
+    ('delays: CAB and REF exchanged', 'delays.rs', OF_ENTRY, OF_ENTRY.replace('delay(1)', 'delay(9)').replace('delay(2)', 'delay(1)').replace('delay(9)', 'delay(2)')),
+    ('delays: INT for CAB', 'delays.rs', OF_ENTRY, OF_ENTRY.replace('delay(1)', 'delay(0)')),
+    ('delays: GD read as 0 in version 2', 'delays.rs', 'if self.version == 1 { 0 }', 'if self.version <= 2 { 0 }'),
+    ('delays: GD of version 1 read as REF', 'delays.rs', 'if self.version == 1 { 0 }', 'if self.version == 1 { delay(2) }'),
+    ('delays: groups of three read as four', 'delays.rs', FROM, 'let from = (DELAY * 4 * entry).min(self.groups.len() - DELAY * self.in_group);'),
+    ('delays: delays unsigned in 32 bits', 'delays.rs', 'i64::from_le_bytes(bytes.try_into().expect("eight bytes"))',
+     'i64::from(u32::from_le_bytes([bytes[0], bytes[1], bytes[2], bytes[3]]))'),
+    ('delays: delays big-endian', 'delays.rs', 'i64::from_le_bytes(bytes', 'i64::from_be_bytes(bytes'),
+    # the lent delays
+    ('delays: 9 before 20', 'delays.rs', LOOKED, '    ' + FEW_DELAYS + ' return 9; }\n' + LOOKED),
+    ('delays: 9 before 21', 'delays.rs', LOOKED, LOOKED.replace('        Err(refusal)', '        Err(21) if lent.len() < SET_VALUES => return 9,\n        Err(refusal)')),
+    ('delays: 9 for four lent', 'delays.rs', FEW_DELAYS, 'if lent.len() <= SET_VALUES {'),
+    ('delays: three lent taken', 'delays.rs', FEW_DELAYS, 'if lent.len() == 3 { lent.copy_from_slice(&[int, cab, refdly]); return 0; }\n    ' + FEW_DELAYS),
+    ('delays: INT written on 9', 'delays.rs', FEW_DELAYS, FEW_DELAYS + ' if let Some(first) = lent.first_mut() { *first = int; }'),
+    ('delays: zeros on a refusal', 'delays.rs', LOOKED, LOOKED.replace('return refusal,', '{ lent.fill(0); return refusal; }')),
+    ('delays: a fifth number', 'delays.rs', IN_LENT, IN_LENT + ' if let Some(v) = lent.get_mut(4) { *v = 0; }'),
+    ('delays: nothing lent written', 'delays.rs', IN_LENT, 'let _ = (int, cab, refdly, gd);'),
+    # one entry more
+    ('append to delays: a new delay of any size', 'delays.rs', NEW_FITS, 'store.version == 1 && set.gd != 0'),
+    ('append to delays: a new GD not tested', 'delays.rs', '[set.int, set.cab, set.refdly, set.gd].iter().all(', '[set.int, set.cab, set.refdly].iter().all('),
+    ('append to delays: a new delay one beyond', 'delays.rs', 'within(*delay, CORRECTION_LIMIT)', 'within(*delay, CORRECTION_LIMIT + 1)'),
+    ('append to delays: GD in version 1 taken', 'delays.rs', NEW_FITS, '!fits'),
+    ('append to delays: GD refused in version 2', 'delays.rs', NEW_FITS, '!fits || set.gd != 0'),
+    ('append to delays: the same date taken', 'delays.rs', LATER, LATER.replace('mjd <= last', 'mjd < last')),
+    ('append to delays: any date taken', 'delays.rs', LATER, 'store.count == MOST_ENTRIES'),
+    ('append to delays: later than the first', 'delays.rs', LATER, LATER.replace('next_back()', 'next()')),
+    ('append to delays: at 1000', 'delays.rs', LATER, LATER.replace(' || store.count == MOST_ENTRIES', '')),
+    ('append to delays: at 999 refused', 'delays.rs', LATER, LATER.replace('== MOST_ENTRIES', '>= MOST_ENTRIES - 1')),
+    ('append to delays: date 0 refused', 'delays.rs', LATER, 'mjd == 0 || ' + LATER),
+    ('append to delays: 22 before 20', 'delays.rs', '    let fits = ', '    if ' + LATER + ' { return Err(22); }\n    let fits = '),
+    ('append to delays: 9 before 22', 'delays.rs', '    if ' + LATER, '    if lent.len() < store_bytes(store.count + 1, store.in_group) { return Err(9); }\n    if ' + LATER),
+    ('append to delays: 9 for the room it takes', 'delays.rs', NO_ROOM, 'if lent.len() <= bytes.len() {'),
+    ('append to delays: 17 for the room', 'delays.rs', NO_ROOM + '\n        return Err(9);', NO_ROOM + '\n        return Err(17);'),
+    ('append to delays: a cut store written', 'delays.rs', NO_ROOM, NO_ROOM + ' let n = lent.len(); lent.copy_from_slice(&bytes[..n]);'),
+    ('append to delays: the count as it was', 'delays.rs', NEW_COUNT, '(store.count as u16)'),
+    ('append to delays: count big-endian', 'delays.rs', NEW_COUNT + '.to_le_bytes()', NEW_COUNT + '.to_be_bytes()'),
+    ('append to delays: version 2 always', 'delays.rs', 'bytes.extend(store.version.to_le_bytes());', 'bytes.extend(2u16.to_le_bytes());'),
+    ('append to delays: the date behind the groups', 'delays.rs', NEW_START, '', 'delays.rs', '    let set = [set.int, set.cab, set.refdly, set.gd];\n    set[',
+     NEW_START + '    let set = [set.int, set.cab, set.refdly, set.gd];\n    set['),
+    ('append to delays: the new group first', 'delays.rs', '    bytes.extend(store.groups);\n', '', 'delays.rs', 'bytes.extend(delay.to_le_bytes()));\n    bytes\n',
+     'bytes.extend(delay.to_le_bytes()));\n    bytes.extend(store.groups);\n    bytes\n'),
+    ('append to delays: the new date first', 'delays.rs', '    bytes.extend(store.starts);\n' + NEW_START, NEW_START + '    bytes.extend(store.starts);\n'),
+    ('append to delays: CAB and REF exchanged', 'delays.rs', NEW_SET, NEW_SET.replace('set.cab, set.refdly', 'set.refdly, set.cab')),
+    ('append to delays: bytes beyond cleared', 'delays.rs', WRITTEN, WRITTEN + ' lent[bytes.len()..].fill(0);'),
+    ('append to delays: a byte beyond', 'delays.rs', WRITTEN, WRITTEN + ' if let Some(v) = lent.get_mut(bytes.len()) { *v = 0; }'),
+    ('append to delays: nothing written', 'delays.rs', WRITTEN, ''),
+    ('append to delays: the length as it was', 'delays.rs', '    Ok(bytes.len())', '    Ok(bytes.len() - START - DELAY * store.in_group)'),
+    ('append to delays: written on a refusal', 'EXPORTS', '    match reference::append(', '    *written = 0;\n    match reference::append('),
+    ('append to delays: a byte past the lent store', 'EXPORTS', '    match reference::append(',
+     '    if longer_len == 40 { *longer.add(40) = 7; }\n    match reference::append('),
+    ('delays: a value past the lent ones', 'EXPORTS', '    reference::lookup_values(',
+     '    if delays_len == 4 { *delays.add(4) = 7; }\n    reference::lookup_values('),
 ]
 # the same, put into both
 TWINS = [
@@ -598,6 +739,12 @@ TWINS = [
     ('residuals halved below 0, twice', 'fit.rs', SQUARE,
      'let residual = if *v < 0 { residual / 2 } else { residual };\n        ' + SQUARE),
     ('REFSYS of the first for the difference, twice', 'view.rs', DIFFERENCE, 'differences.push(refsys); let _ = other_refsys;'),
+    # what the test knows of stores by itself
+    ('delays: a start on the date not taken, twice', 'delays.rs', IN_FORCE, 'rposition(|start| start < mjd)'),
+    ('delays: CAB and REF exchanged, twice', 'delays.rs', OF_ENTRY, OF_ENTRY.replace('delay(1)', 'delay(9)').replace('delay(2)', 'delay(1)').replace('delay(9)', 'delay(2)')),
+    ('delays: 1001 entries, twice', 'delays.rs', COUNTED, COUNTED.replace('MOST_ENTRIES', 'MOST_ENTRIES + 1')),
+    ('append to delays: the new date first, twice', 'delays.rs', '    bytes.extend(store.starts);\n' + NEW_START, NEW_START + '    bytes.extend(store.starts);\n'),
+    ('append to delays: 9 before 22, twice', 'delays.rs', '    if ' + LATER, '    if lent.len() < store_bytes(store.count + 1, store.in_group) { return Err(9); }\n    if ' + LATER),
 ]
 
 

@@ -68,6 +68,21 @@ static uint32_t call_view(void)
     return trackline_view(first, sizeof first - 1, second, sizeof second - 1, report, TRACKLINE_REPORT_NUMBERS);
 }
 
+static uint32_t call_delays(void)
+{
+    static const uint8_t store[] = {1, 0, 1, 0, 7, 0, 0, 0, 1, 0, 0, 0, 0, 0, 0, 0, 2, 0, 0, 0, 0, 0, 0, 0, 3, 0, 0, 0, 0, 0, 0, 0};
+    static int64_t delays[TRACKLINE_DELAYS_NUMBERS];
+    return trackline_delays(store, sizeof store, 7, delays, TRACKLINE_DELAYS_NUMBERS);
+}
+
+static uint32_t call_append(void)
+{
+    static const uint8_t store[] = {2, 0, 0, 0};
+    static uint8_t longer[TRACKLINE_STORE_BYTES_2_OF(1)];
+    size_t written;
+    return trackline_append(store, sizeof store, 7, 1, 2, 3, 4, longer, sizeof longer, &written);
+}
+
 static struct measured {
     const char *name;
     uint32_t (*call)(void);
@@ -76,7 +91,8 @@ static struct measured {
 } MOST[] = {
     {"trackline_block", call_block, 16000, 0}, {"trackline_line", call_line, 1000, 0}, {"trackline_start", call_start, 1000, 0},
     {"trackline_read", call_read, 1000, 0}, {"trackline_comment", call_comment, 1000, 0},
-    {"trackline_merge", call_merge, 2000, 0}, {"trackline_view", call_view, 2000, 0}};
+    {"trackline_merge", call_merge, 2000, 0}, {"trackline_view", call_view, 2000, 0},
+    {"trackline_delays", call_delays, 1000, 0}, {"trackline_append", call_append, 1000, 0}};
 
 /* The thread. */
 static void *measure(void *which)

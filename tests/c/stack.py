@@ -16,8 +16,9 @@ MEASURED = r'stack: (trackline_\w+) takes (at most )?(\d+) bytes, promised (\d+)
 # the figures that a document gives, and the functions that each is of, in order
 DOCUMENTS = (
     ('man/trackline.3', r'that gave ([\d,]+) bytes for trackline_block, ([\d,]+) for trackline_merge, ([\d,]+) for trackline_view, '
-     r'([\d,]+) for trackline_line, ([\d,]+) for trackline_read and trackline_comment, and at most ([\d,]+) for trackline_start\.',
-     (('block',), ('merge',), ('view',), ('line',), ('read', 'comment'), ('start',)), 1),
+     r'([\d,]+) for trackline_line, ([\d,]+) for trackline_read and trackline_comment, and at most ([\d,]+) for '
+     r'trackline_start, trackline_delays and trackline_append\.',
+     (('block',), ('merge',), ('view',), ('line',), ('read', 'comment'), ('start', 'delays', 'append')), 1),
     ('docs/TRUST.md', r'`trackline_block` takes about ([\d.]+) kB', (('block',),), 1000),
 )
 PROMISED = r'takes up to ([\d,]+) bytes .+? trackline_merge and trackline_view up to ([\d,]+), .+? up to ([\d,]+)\.'
@@ -37,7 +38,7 @@ def main(program):
     printed = subprocess.run([program], stdout=subprocess.PIPE, text=True, cwd=ROOT)
     print(printed.stdout, end='')
     found = {name[10:]: (int(figure), int(most)) for name, _, figure, most in re.findall(MEASURED, printed.stdout)}
-    if len(found) != 7 or printed.returncode:
+    if len(found) != 9 or printed.returncode:
         print('stack: FAILED: the stack was not measured, or is above what is promised', file=sys.stderr)
         return 1
     faults = []

@@ -37,6 +37,9 @@ uint32_t reference_merge(const uint8_t *first, size_t first_len, const uint8_t *
                          uint8_t *file, size_t file_len, size_t *written);
 uint32_t reference_view(const uint8_t *first, size_t first_len, const uint8_t *second, size_t second_len,
                         int64_t *report, size_t report_len);
+uint32_t reference_delays(const uint8_t *store, size_t store_len, uint32_t mjd, int64_t *delays, size_t delays_len);
+uint32_t reference_append(const uint8_t *store, size_t store_len, uint32_t mjd, const int64_t *set, uint8_t *longer,
+                          size_t longer_len, size_t *written);
 int LLVMFuzzerInitialize(int *argc, char ***argv);
 int LLVMFuzzerTestOneInput(const uint8_t *data, size_t size);
 
@@ -88,6 +91,8 @@ struct guarded {
 
 /* for what is given, a lent line and lent values; for a second file that is given, and a lent one */
 static struct guarded given_memory, line_memory, values_memory, second_memory, file_memory;
+/* for a store that is given, and a longer one that is lent */
+static struct guarded store_memory, longer_memory;
 /* for a file of which nothing may be read */
 static struct guarded closed_memory;
 
@@ -122,10 +127,10 @@ static size_t offset(const struct guarded *g, size_t length, int front)
 
 /* ---- what was reached ---- */
 
-enum function { BLOCK, LINE, START, READ, MERGE, VIEW, FUNCTIONS };
-enum { ANSWERS = 20 };
+enum function { BLOCK, LINE, START, READ, MERGE, VIEW, DELAYS, APPEND, FUNCTIONS };
+enum { ANSWERS = 23 };
 static const char *const NAMES[FUNCTIONS] = {"trackline_block", "trackline_line", "trackline_start", "trackline_read",
-                                             "trackline_merge", "trackline_view"};
+                                             "trackline_merge", "trackline_view", "trackline_delays", "trackline_append"};
 static uint64_t reached[FUNCTIONS][ANSWERS];
 
 static void report(void)
@@ -767,6 +772,118 @@ static void edited_files(enum function f, struct bytes *b)
     }
 }
 
+/* ---- stores of delays ---- */
+
+enum { MOST_ENTRIES = 1024, LONGEST_STORE = 4 + 36 * MOST_ENTRIES + 64, STORE_PAGES = 40960, SET = 4 };
+
+struct store {
+    uint8_t bytes[LONGEST_STORE];
+    size_t length;
+};
+
+/* A store as it should be: few entries, or now and then about a thousand, whose starts rise by steps of the fuzzer's. */
+static void fill_store(struct store *s, struct bytes *b)
+{
+    size_t kind = take(b, 1), wide = kind & 1 ? 3 : 4, count = kind % 16 > 13 ? 998 + below(b, 4) : below(b, 12);
+    uint32_t start = kind & 2 ? 50722 : (uint32_t)take(b, 4);
+    put(s->bytes, kind & 1 ? 1 : 2, 2);
+    put(s->bytes + 2, count, 2);
+    for (size_t k = 0; k < count; k++) {
+        put(s->bytes + 4 + 4 * k, start, 4);
+        start += 1 + (uint32_t)take(b, 1);
+        for (size_t j = 0; j < wide; j++) {
+            put(s->bytes + 4 + 4 * count + 8 * (wide * k + j), (uint64_t)(int64_t)(int32_t)take(b, 3), 8);
+        }
+    }
+    s->length = 4 + (4 + 8 * wide) * count;
+}
+
+/* One change to a store, not always one that spoils it. */
+static void edit_store(struct store *s, struct bytes *b)
+{
+    size_t count = (size_t)get(s->bytes + 2, 2), known = count % MOST_ENTRIES, at = 4 + 4 * below(b, known + 1);
+    size_t delay = 4 + 4 * known + 8 * below(b, 4 * known + 1);
+    switch (take(b, 1) % 8) {
+    case 0: put(s->bytes, take(b, 2), 2); break;
+    case 1: put(s->bytes + 2, count + take(b, 1) % 3 - 1, 2); break;
+    case 2: put(s->bytes + at, get(s->bytes + at, 4) + take(b, 1) - 2, 4); break;
+    case 3: put(s->bytes + at, take(b, 4), 4); break;
+    case 4:
+    case 5: put(s->bytes + delay, (uint64_t)number(b), 8); break;
+    case 6: s->length += take(b, 1) % 3 - 1; break;
+    default: s->length = below(b, LONGEST_STORE);
+    }
+    s->length = s->length > LONGEST_STORE ? 0 : s->length;
+}
+
+/* A date at or beside a start, or any. */
+static uint32_t a_date(const struct store *s, struct bytes *b)
+{
+    size_t count = (size_t)get(s->bytes + 2, 2) % MOST_ENTRIES, kind = take(b, 1);
+    size_t entry = kind & 1 ? (count > 0 ? count - 1 : 0) : below(b, count + 1);
+    return kind % 8 == 7 ? (uint32_t)take(b, 4) : (uint32_t)(get(s->bytes + 4 + 4 * entry, 4) + kind / 8 % 3 - 1);
+}
+
+static const uint8_t *lay_store(const struct store *s, size_t kind)
+{
+    size_t at = offset(&store_memory, s->length, (kind & 1) != 0);
+    memmove(store_memory.own + at, s->bytes, s->length);
+    return s->length == 0 && (kind & 2) ? NULL : store_memory.lent + at;
+}
+
+static void call_delays(const struct store *s, struct bytes *b)
+{
+    const uint8_t *given = lay_store(s, take(b, 1));
+    uint32_t mjd = a_date(s, b);
+    struct row row;
+    lend_row(&row, SET, b);
+    uint32_t wanted = reference_delays(s->bytes, s->length, mjd, row.wanted, row.count);
+    judge(DELAYS, trackline_delays(given, s->length, mjd, row.lent, row.count), wanted);
+    if (!same_row(&row)) {
+        printf("DIFFERENT delays of a store of %zu bytes on %" PRIu32 "\n", s->length, mjd);
+        abort();
+    }
+}
+
+static void call_append(const struct store *s, struct bytes *b)
+{
+    static uint8_t wanted_store[LONGEST_STORE];
+    const uint8_t *given = lay_store(s, take(b, 1));
+    uint32_t mjd = a_date(s, b);
+    size_t *written = (size_t *)(void *)(values_memory.lent + values_memory.size - sizeof *written), wanted_written = 77;
+    size_t kind = take(b, 1), most = s->length + 40 < LONGEST_STORE ? s->length + 40 : LONGEST_STORE;
+    size_t room = kind & 1 ? most : kind & 2 ? most - below(b, most + 1) : most - (kind >> 4) % 13;
+    uint8_t *got = longer_memory.lent + offset(&longer_memory, room, (kind & 4) != 0);
+    int64_t set[SET] = {number(b), number(b), number(b), kind & 8 ? 0 : number(b)};
+    for (size_t i = 0; i < room; i++) {
+        got[i] = wanted_store[i] = (uint8_t)(kind + 7 * i);
+    }
+    *written = wanted_written;
+    uint32_t wanted = reference_append(s->bytes, s->length, mjd, set, wanted_store, room, &wanted_written);
+    judge(APPEND, trackline_append(given, s->length, mjd, set[0], set[1], set[2], set[3], got, room, written), wanted);
+    if (*written != wanted_written || memcmp(got, wanted_store, room) != 0) {
+        printf("DIFFERENT stores: %zu bytes written, should be %zu\n", *written, wanted_written);
+        abort();
+    }
+}
+
+static void edited_store(enum function f, struct bytes *b)
+{
+    static struct store store;
+    struct bytes asked = {b->at, b->left < 48 ? b->left : 48};
+    take(b, 8), take(b, 8), take(b, 8), take(b, 8), take(b, 8), take(b, 8);
+    memset(&store, 0, sizeof store);
+    fill_store(&store, b);
+    for (int i = 0; i < 4 && b->left > 0; i++) {
+        edit_store(&store, b);
+    }
+    if (f == DELAYS) {
+        call_delays(&store, &asked);
+    } else {
+        call_append(&store, &asked);
+    }
+}
+
 int LLVMFuzzerInitialize(int *argc, char ***argv)
 {
     (void)argc;
@@ -777,6 +894,8 @@ int LLVMFuzzerInitialize(int *argc, char ***argv)
     second_memory = guard(LONGEST_FILE, PROT_READ);
     file_memory = guard(2 * LONGEST_FILE, PROT_READ | PROT_WRITE);
     closed_memory = guard(CLOSED, PROT_NONE);
+    store_memory = guard(STORE_PAGES, PROT_READ);
+    longer_memory = guard(STORE_PAGES, PROT_READ | PROT_WRITE);
     setvbuf(stdout, NULL, _IOLBF, 0); /* abort does not write what is still held back */
     atexit(report);
     return 0;
@@ -785,7 +904,7 @@ int LLVMFuzzerInitialize(int *argc, char ***argv)
 int LLVMFuzzerTestOneInput(const uint8_t *data, size_t size)
 {
     struct bytes b = {data, size};
-    switch (take(&b, 1) % 16) {
+    switch (take(&b, 1) % 20) {
     case 0: raw_block(&b); break;
     case 1: start(&b); break;
     case 2:
@@ -798,6 +917,10 @@ int LLVMFuzzerTestOneInput(const uint8_t *data, size_t size)
     case 13: edited_files(MERGE, &b); break;
     case 14:
     case 15: edited_files(VIEW, &b); break;
+    case 16:
+    case 17: edited_store(DELAYS, &b); break;
+    case 18:
+    case 19: edited_store(APPEND, &b); break;
     default: edited_block(&b);
     }
     return 0;

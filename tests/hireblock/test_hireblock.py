@@ -662,6 +662,99 @@ class CommandLine(unittest.TestCase):
         os.close(ours)
         os.close(theirs)
 
+    def undelayed(self, mjd=50722):
+        """The sample's text on a date, without its delays."""
+        kept = re.sub(r'(?m)^(INT|CAB|REF|GD) *=.*\n', '', SAMPLE.read_text())
+        text = self.folder / 'undelayed.txt'
+        text.write_text(kept.replace('= 50722', '= %d' % mjd))
+        return text
+
+    def stored(self, version, *entries):
+        """A store by document 02's layout, written anew here."""
+        wide = 3 if version == 1 else 4
+        store = self.folder / 'delays.store'
+        store.write_bytes(struct.pack('<HH', version, len(entries)) + b''.join(struct.pack('<I', start) for start, *_ in entries)
+                          + b''.join(struct.pack('<%dq' % wide, *delays[:wide]) for _, *delays in entries))
+        return store
+
+    def test_delays_in_force(self):
+        entries = ((50000, 1, 2, 3, 4), (50722, -5, 10 ** 10, 7, -8), (50724, 9, 10, 11, 12))
+        told = ('entry 1 of 3, in force from MJD 50000 to 50721: INT 1, CAB 2, REF 3, GD %d',
+                'entry 2 of 3, in force from MJD 50722 to 50723: INT -5, CAB 10000000000, REF 7, GD %d',
+                'entry 3 of 3, in force from MJD 50724 on: INT 9, CAB 10, REF 11, GD %d')
+        for version in 1, 2:
+            store = self.stored(version, *entries)
+            for mjd, k in ((50000, 0), (50721, 0), (50722, 1), (50723, 1), (50724, 2), (2 ** 32 - 1, 2)):
+                gd = entries[k][4] if version == 2 else 0
+                wanted = bytearray(sample_bytes())
+                wanted[12:16] = struct.pack('<I', mjd)
+                wanted[26:58] = struct.pack('<4q', *entries[k][1:4], gd)
+                result = self.run_tool('pack', self.undelayed(mjd), '--delays', store)
+                self.ends(result, 0, '%s: %s' % (store, told[k] % gd))
+                self.assertEqual(result.stdout, wanted)
+
+    def test_gd_of_the_text(self):
+        store = self.stored(1, (50000, 1, 2, 3))
+        text = self.folder / 'gd.txt'
+        for row, gd, told in (('GD = -8380\n', -8380, 'GD -8380 of the text'), ('GD = 0\n', 0, 'GD 0 of the text'), ('', 0, 'GD 0')):
+            text.write_text(row + self.undelayed().read_text())
+            wanted = bytearray(sample_bytes())
+            wanted[12:16] = struct.pack('<I', 50722)
+            wanted[26:58] = struct.pack('<4q', 1, 2, 3, gd)
+            result = self.run_tool('pack', text, '--delays', store)
+            self.ends(result, 0, '%s: entry 1 of 1, in force from MJD 50000 on: INT 1, CAB 2, REF 3, %s' % (store, told))
+            self.assertEqual(result.stdout, wanted)
+        text.write_text('GD = 5\nREF = 6\n' + self.undelayed().read_text())
+        message = "%s:%d:%d: %s comes from the store that --delays names, and so can't stand here"
+        self.ends(self.run_tool('pack', text, '--delays', store), 1, message % (text, 2, 7, 'REF'))
+        store = self.stored(2, (50000, 1, 2, 3, 4))
+        self.ends(self.run_tool('pack', text, '--delays', store), 1, message % (text, 1, 6, 'GD'), message % (text, 2, 7, 'REF'),
+                  '%s: 2 faults; no block is made' % text)
+
+    def test_delays_of_the_examples(self):
+        examples = ROOT / 'examples'
+        result = self.run_tool('pack', examples / 'dated.txt', '--delays', examples / 'delays.store')
+        self.assertEqual((result.returncode, result.stdout), (0, (examples / 'worked.blk').read_bytes()))
+
+    def test_delays_in_both_are_refused(self):
+        store, block = self.stored(2, (50000, 1, 2, 3, 4)), self.folder / 'a.blk'
+        lines = SAMPLE.read_text().splitlines()
+        rows = [next((k, row) for k, row in enumerate(lines, 1) if row.startswith(name)) for name in ('INT', 'CAB', 'REF', 'GD')]
+        messages = ["%s:%d:%d: %s comes from the store that --delays names, and so can't stand here" % (
+            SAMPLE, k, re.search(r'=\s*', row).end() + 1, row.split()[0]) for k, row in rows]
+        self.ends(self.run_tool('pack', SAMPLE, '--delays', store, '-o', block), 1, *messages, '%s: 4 faults; no block is made' % SAMPLE)
+        self.assertFalse(block.exists())
+        self.ends(self.run_tool('pack', self.undelayed(), '-o', block), 1, '%s:%d: missing: INT, CAB, REF, GD' % (
+            self.undelayed(), len(self.undelayed().read_text().rstrip('\n').split('\n'))))
+
+    def test_stores_that_are_refused(self):
+        block, good = self.folder / 'a.blk', self.stored(2, (50000, 1, 2, 3, 4), (50010, 5, 6, 7, 8)).read_bytes()
+        text = (ROOT / 'examples/delays.txt').read_bytes()
+        for data, message in ((b'', '20: a store of delays has 4 bytes at least'), (b'\0', '20: a store of delays has 4 bytes at least'),
+                              (text, "20: it may be a text, which 'cggtts store TEXT -o STORE' makes a store of"), (b'\3' + good[1:], '20: version 3 with 2 entries is no store of delays'),
+                              (b'\2\0\xe9\3', '20: version 2 with 1001 entries is no store of delays'),
+                              (good[:-1], '20: 75 bytes are no store of version 2 with 2 entries'),
+                              (good + b'\0', '20: 77 bytes are no store of version 2 with 2 entries'),
+                              (good[:8] + good[4:8] + good[12:], '20: entry 2 starts on MJD 50000, and the one before it on 50000'),
+                              (good[:-8] + struct.pack('<q', -10 ** 10 - 1), '20: entry 2: GD is -10000000001 ps, beyond its limit'),
+                              (good[:12] + struct.pack('<q', 10 ** 10 + 1) + good[20:], '20: entry 1: INT is 10000000001 ps, beyond its limit'),
+                              (b'\2\0\0\0', '21: no entry starts as early as MJD 50722: it has no entry'),
+                              (good[:4] + struct.pack('<II', 50723, 50724) + good[12:],
+                               '21: no entry starts as early as MJD 50722: the first starts on 50723')):
+            store = self.folder / 'other.store'
+            store.write_bytes(data)
+            self.ends(self.run_tool('pack', self.undelayed(), '--delays', store, '-o', block), 1, '%s: refused %s' % (store, message))
+            self.assertFalse(block.exists())
+
+    def test_the_store_is_not_overwritten(self):
+        store = self.stored(2, (50000, 1, 2, 3, 4))
+        before = store.read_bytes()
+        self.ends(self.run_tool('pack', self.undelayed(), '--delays', store, '-o', store), 2, '%s would be overwritten: give another -o' % store)
+        self.assertEqual(store.read_bytes(), before)
+        missing = self.folder / 'missing.store'
+        self.ends(self.run_tool('pack', self.undelayed(), '--delays', missing), 2, "can't read %s: No such file or directory" % missing)
+        self.ends(self.run_tool('pack', '-', '--delays', '-'), 2, 'standard input can be read only once')
+
     def test_help(self):
         result = self.run_tool('--help')
         self.assertEqual(result.returncode, 0)

@@ -13,6 +13,7 @@ use Rattle.columns.specs.Columns.{readLabels, readNumbers}
 use Rattle.reading.specs.Read.{readNumber}
 use Rattle.viewing.specs.declared.Figures.{Figures}
 use Rattle.viewing.specs.View.{figures, viewed, viewNumber}
+use Rattle.delays.specs.Lookup.{setInForce, lookupNumber}
 
 -- A lent row afterwards: the values in its first places where the answer is 0, and else as it was lent.
 unfoldable pub rowAfter : (answer : ℕ) (values lent : List ℤ) → List ℤ
@@ -51,3 +52,11 @@ viewAnswer first second room = viewNumber first second then 9 when ltb room 4
 unfoldable pub viewAfter : (first second : List ℕ) (lent : List ℤ) → List ℤ
 viewAfter first second lent =
     rowAfter (viewAnswer first second (length lent)) (reportOf (figures (viewed first second))) lent
+
+-- A lookup's refusals, then 9 where fewer than 4 places are lent. `room` is their number.
+unfoldable pub delaysAnswer : (store : List ℕ) (mjd room : ℕ) → ℕ
+delaysAnswer store mjd room = lookupNumber store mjd then 9 when ltb room 4
+
+-- The lent places afterwards: INT, CAB, REF and GD in the first four.
+unfoldable pub delaysAfter : (store : List ℕ) (mjd : ℕ) (lent : List ℤ) → List ℤ
+delaysAfter store mjd lent = rowAfter (delaysAnswer store mjd (length lent)) (setInForce store mjd) lent

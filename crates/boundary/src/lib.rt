@@ -2,6 +2,7 @@
 // Each is one call, and its contract is that call's; what the reader or common view hands back goes to a lent row, and a length to a lent place.
 // include/trackline.h declares them; the archive is made of this crate.
 ghost use mathlib.Core.Path.{_≡_};
+ghost use Prim.Native.Nat.{suc};
 ghost use lib.ListN.{length};
 ghost use Rattle.schedule.specs.Schedule.{startRule};
 ghost use Rattle.exact.specs.Accurate.{AccurateTrack};
@@ -13,7 +14,11 @@ ghost use Rattle.line.specs.Block.{blockAnswer, blockAfter};
 ghost use Rattle.labels.specs.Given.{labelsOf, numbersOf};
 ghost use Rattle.reader.specs.Comment.{commentOffset};
 ghost use Rattle.merging.specs.Merge.{mergedFile, mergeNumber, mergeAfter};
-ghost use Rattle.boundary.specs.Values.{placeAfter, readAnswer, readAfter, viewAnswer, viewAfter};
+ghost use Rattle.delays.specs.Store.{version, count, storeLength};
+ghost use Rattle.delays.specs.Append.{appendNumber, appendAfter};
+ghost use Rattle.boundary.specs.Values.{placeAfter, readAnswer, readAfter, viewAnswer, viewAfter, delaysAnswer, delaysAfter};
+use delays::Appended;
+use delays::Delays;
 use files::Merged;
 use files::View;
 use line::Labels;
@@ -169,4 +174,49 @@ pub extern "C" fn trackline_view(first: &[u8], second: &[u8], lent: &mut [i64]) 
     };
     let row = [pairs, sum, smallest, largest];
     values::put(&row, lent)
+}
+
+// The delays in force at a date go to the first four of the lent places: INT, CAB, REF and GD.
+#[no_mangle]
+pub extern "C" fn trackline_delays(store: &[u8], mjd: u32, lent: &mut [i64]) -> u32
+    ensures answer { λ r. ⌜ r ≡ delaysAnswer (now (store .entry)) mjd (length (now (lent .entry))) ⌝ }
+    ensures written { λ _. ⌜ now (lent .exit) ≡ delaysAfter (now (store .entry)) mjd (now (lent .entry)) ⌝ }
+{
+    let found = delays::lookup(store, mjd);
+    let Delays::Set {
+        int,
+        cab,
+        refdly,
+        gd,
+    } = found
+    else {
+        return delays::delays_number(found);
+    };
+    let row = [int, cab, refdly, gd];
+    values::put(&row, lent)
+}
+
+// The store with one entry more goes to the lent buffer, and its length to the lent place.
+#[no_mangle]
+pub extern "C" fn trackline_append(
+    store: &[u8],
+    mjd: u32,
+    intdly: i64,
+    cabdly: i64,
+    refdly: i64,
+    gd: i64,
+    longer: &mut [u8],
+    written: &mut usize,
+) -> u32
+    ensures answer { λ r. ⌜ r ≡ appendNumber (now (store .entry)) mjd intdly cabdly refdly gd (length (now (longer .entry))) ⌝ }
+    ensures longer { λ _. ⌜ now (longer .exit) ≡ appendAfter (now (store .entry)) mjd intdly cabdly refdly gd (now (longer .entry)) ⌝ }
+    ensures written { λ r. ⌜
+        now (written .exit) ≡ placeAfter r (storeLength (version (now (store .entry))) (suc (count (now (store .entry))))) (now (written .entry)) ⌝ }
+{
+    let appended = delays::append(store, mjd, intdly, cabdly, refdly, gd, longer);
+    let Appended::Bytes(length) = appended else {
+        return delays::appended_number(appended);
+    };
+    *written = length;
+    0
 }

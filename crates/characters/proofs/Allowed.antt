@@ -11,16 +11,9 @@ use lib.Dec.{leb, eqb}
 use lib.ListN.{length, take, drop, getD, drop-of-length-le}
 use lib.Seq.{drop-cons}
 use borrow.Author.Tests.{leb-true}
+use Rattle.limits.proofs.Laws.{both}
 use Rattle.labels.specs.Labels.{codeFits}
 use Rattle.characters.specs.Kinds.{within, letterFits, allows, allowed, printable}
-
-pub both : (a b : Bool) → (a && b) ≡ true → (a ≡ true) × (b ≡ true)
-both true b e = (refl, e)
-both false b e = absurd (false≢true e)
-
-pub either : {X : Type 0} (a b : Bool) → a || b ≡ true → (a ≡ true → X) → (b ≡ true → X) → X
-either true b e f g = f refl
-either false b e f g = g e
 
 -- ---- what a column of each kind holds
 

@@ -11,7 +11,8 @@ use Rattle.labels.specs.declared.Labels.{Labels}
 use Rattle.limits.specs.declared.Numbers.{Numbers}
 use Rattle.columns.specs.Placed.{Put}
 use Rattle.columns.specs.Text.{lineLength, trackColumns, clockColumns, delayColumns, columns, spaced, lineText}
-use Rattle.columns.proofs.Placing.{onto, placed-whole, placed-front}
+use Rattle.lent.proofs.Placing.{placed-whole, placed-front}
+use Rattle.columns.proofs.Placing.{onto}
 use Rattle.columns.proofs.Widths.{width, track-sized, clock-sized, columns-width, groups}
 
 module _ (l : Labels) (n : Numbers) (blank : List ℕ) (long : length blank ≡ lineLength) where

@@ -1,15 +1,12 @@
--- Text put into bytes at an offset, by which the writers of single columns are specified.
+-- What the writers of single columns leave in a line.
 -- Assumes nothing.
 use mathlib.Core.Path.{_≡_}
-use Prim.Native.Nat.{ℕ, _+_}
+use Prim.Native.Nat.{ℕ}
 use Prim.Native.Char.{code}
 use mathlib.Core.List.{List, [], _∷_, _++_}
-use lib.ListN.{length, take, drop}
+use lib.ListN.{length}
+use Rattle.lent.specs.Placed.{placed}
 use Rattle.columns.specs.Text.{lineLength}
-
--- s in the place of as many bytes of d, from an offset on.
-unfoldable pub placed : (d : List ℕ) (at : ℕ) (s : List ℕ) → List ℕ
-placed d at s = take at d ++ (s ++ drop (at + length s) d)
 
 -- A column and the space that ends it.
 abbrev pub ended : List ℕ → List ℕ

@@ -7,7 +7,7 @@ use mathlib.Core.List.{List}
 use lib.IntN.{ℤ, pos, negℤ}
 use lib.ListN.{set}
 use Rattle.limits.specs.Refusal.{_when_, _then_}
-use Rattle.limits.specs.Limits.{beyond}
+use Rattle.limits.specs.Limits.{delaysBeyond}
 use Rattle.limits.specs.Lists.{anyBeyond}
 use Rattle.limits.specs.Scan.{firstOutside, readTo}
 use Rattle.exact.specs.Corrected.{Given}
@@ -32,7 +32,7 @@ unfoldable pub othersBeyond : Given → Bool
 othersBeyond g =
     (anyBeyond (2 * 10 ^ 11) (g .geometry) || anyBeyond (10 ^ 10) (g .relativity) || anyBeyond (10 ^ 10) (g .ionosphere)
     || anyBeyond (10 ^ 10) (g .troposphere) || anyBeyond (10 ^ 10) (g .clock))
-    || (beyond (10 ^ 10) (g .int) || beyond (10 ^ 10) (g .cab) || beyond (10 ^ 10) (g .refdly) || beyond (10 ^ 10) (g .gd))
+    || delaysBeyond (g .int) (g .cab) (g .refdly) (g .gd)
 
 -- The sizes are wrong, or a correction or a delay is outside: refused before any measurement is read.
 abbrev pub refusedBefore : Given → Bool

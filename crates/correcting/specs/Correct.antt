@@ -5,7 +5,7 @@ use mathlib.Core.Bool.{Bool, not, _||_}
 use mathlib.Core.List.{List, _++_}
 use lib.IntN.{ℤ, pos, _*ℤ_}
 use lib.ListN.{length, replicate}
-use Rattle.limits.specs.Limits.{beyond}
+use Rattle.limits.specs.Limits.{delaysBeyond}
 use Rattle.limits.specs.Blocks.{blocksFit}
 use Rattle.limits.specs.Lists.{miscounted, anyBeyond}
 use Rattle.whole.specs.Table.{tabulate}
@@ -51,7 +51,7 @@ outOfLimits g =
     anyBeyond (10 ^ 12) (g .measurements)
     || (anyBeyond (2 * 10 ^ 11) (g .geometry) || anyBeyond (10 ^ 10) (g .relativity) || anyBeyond (10 ^ 10) (g .ionosphere)
     || anyBeyond (10 ^ 10) (g .troposphere) || anyBeyond (10 ^ 10) (g .clock))
-    || (beyond (10 ^ 10) (g .int) || beyond (10 ^ 10) (g .cab) || beyond (10 ^ 10) (g .refdly) || beyond (10 ^ 10) (g .gd))
+    || delaysBeyond (g .int) (g .cab) (g .refdly) (g .gd)
 
 -- What Track is given, in the order of its parameters.
 abbrev pub given : List ℤ → ℤ → ℤ → ℤ → ℤ → List ℤ → List ℤ → List ℤ → List ℤ → List ℤ → Given

@@ -1,5 +1,4 @@
-// The lists and the delays that a track is given: whether the lists have their sizes, and whether every number is inside
-// its limits.
+// The lists that a track is given: whether they have their sizes, and whether every number is inside its limits.
 use limits::blocks_fit;
 use limits::outside;
 ghost use mathlib.Core.Path.{_≡_};
@@ -91,15 +90,4 @@ pub fn columns_beyond(
         j += 1;
     }
     false
-}
-
-// Whether one of the delays is outside ±10^10.
-pub fn delays_beyond(int: i64, cab: i64, refdly: i64, gd: i64) -> bool
-    ensures { λ r. ⌜ r ≡ beyond (10 ^ 10) int || beyond (10 ^ 10) cab || beyond (10 ^ 10) refdly
-        || beyond (10 ^ 10) gd ⌝ }
-{
-    outside(-10_000_000_000, 10_000_000_000, int)
-        | outside(-10_000_000_000, 10_000_000_000, cab)
-        | outside(-10_000_000_000, 10_000_000_000, refdly)
-        | outside(-10_000_000_000, 10_000_000_000, gd)
 }

@@ -8,8 +8,8 @@ mod inputs;
 
 use correction::correct_blocks;
 use inputs::columns_beyond;
-use inputs::delays_beyond;
 use inputs::sizes_wrong;
+use limits::delays_beyond;
 ghost use mathlib.Core.Path.{_≡_};
 ghost use Rattle.correcting.specs.Correct.{given, valueA, valueB, valueC, valueD};
 ghost use Rattle.correcting.specs.Answer.{correctedNumber, correctRule, correctedBlocks, filled};

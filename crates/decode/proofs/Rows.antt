@@ -1,14 +1,14 @@
--- Rows of numbers in bytes that are made of parts: what stands before a part does not matter to it, and parts that repeat give numbers that
+-- Numbers in bytes that are made of parts: what stands before a part or behind it does not matter to it, and parts that repeat give numbers that
 -- repeat.
 -- Assumes nothing.
 use mathlib.Core.Path.{_≡_, refl, sym, ap, ap₂, _∙_}
 use mathlib.Core.Bool.{Bool, true, false, cond}
 use mathlib.Core.List.{List, [], _∷_, _++_, append-assoc}
-use Prim.Native.Nat.{ℕ, zero, suc, _+_, _*_}
+use Prim.Native.Nat.{ℕ, zero, suc, _+_, _*_, _-_, _≤_}
 use native.Mathlib.Nat.{add-assoc}
 use native.Mathlib.Omega.{arith}
-use lib.ListN.{length, take, drop, replicate, length-append}
-use lib.Seq.{take-at, drop-append-add}
+use lib.ListN.{length, take, drop, replicate, length-append, length-drop, take-append-drop}
+use lib.Seq.{take-at, drop-append-add, take-append-le, drop-append-le, length-take-le}
 use lib.Dec.{leb}
 use lib.IntN.{pos}
 use borrow.Author.Tests.{le-leb, lt-leb, leb-true, leb-false}
@@ -26,6 +26,29 @@ unsigned-behind width before bytes at =
     ap₂ (λ (lies : Bool) (rest : List ℕ). cond lies (little (take width rest)) 0)
     (ap₂ leb (add-assoc (length before) at width) (length-append before bytes) ∙ lies-behind (length before) (at + width) (length bytes))
     (drop-append-add before bytes at)
+
+-- what stands behind a number does not matter to it
+pub unsigned-before : (width : ℕ) (bytes behind : List ℕ) (at : ℕ) → at + width ≤ length bytes → unsignedAt width (bytes ++ behind) at ≡ unsignedAt width bytes at
+unfolding unsignedAt
+unsigned-before width bytes behind at h =
+    ap₂ (λ (lies : Bool) (text : List ℕ). cond lies (little text) 0)
+    (le-leb (at + width) (length (bytes ++ behind)) (omega (arith, length-append bytes behind)) ∙ sym (le-leb (at + width) (length bytes) h))
+    (ap (take width) (drop-append-le at bytes behind (omega arith)) ∙ take-append-le width (drop at bytes) behind (rest (length-drop at bytes)))
+  where
+    rest : {k : ℕ} → k ≡ length bytes - at → width ≤ k
+    rest e = omega arith
+
+-- a number of a piece
+pub unsigned-piece : (width : ℕ) (front piece : List ℕ) {n : ℕ} (at : ℕ) → length front ≡ n → unsignedAt width (front ++ piece) (n + at) ≡ unsignedAt width piece at
+unsigned-piece width front piece at e = ap (λ (m : ℕ). unsignedAt width (front ++ piece) (m + at)) (sym e) ∙ unsigned-behind width front piece at
+
+pub unsigned-take : (width n : ℕ) (bytes : List ℕ) (at : ℕ) → n ≤ length bytes → at + width ≤ n → unsignedAt width (take n bytes) at ≡ unsignedAt width bytes at
+unsigned-take width n bytes at h k =
+    sym (unsigned-before width (take n bytes) (drop n bytes) at (rw (length-take-le n bytes h) k)) ∙ ap (λ (b : List ℕ). unsignedAt width b at) (take-append-drop n bytes)
+
+pub unsigned-drop : (width n : ℕ) (bytes : List ℕ) (at : ℕ) → n ≤ length bytes → unsignedAt width (drop n bytes) at ≡ unsignedAt width bytes (n + at)
+unsigned-drop width n bytes at h =
+    sym (unsigned-piece width (take n bytes) (drop n bytes) at (length-take-le n bytes h)) ∙ ap (λ (b : List ℕ). unsignedAt width b (n + at)) (take-append-drop n bytes)
 
 pub signeds-behind : (before bytes : List ℕ) (at stride count : ℕ) → signedsAt (before ++ bytes) (length before + at) stride count ≡ signedsAt bytes at stride count
 unfolding signedAt signedsAt

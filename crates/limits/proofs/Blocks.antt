@@ -1,15 +1,12 @@
 -- Laws of the count of blocks (specs/Blocks.antt).
 -- Assumes nothing.
-use mathlib.Core.Path.{_≡_, refl, sym}
-use mathlib.Core.Bool.{Bool, true, false, not, _&&_, true≢false}
+use mathlib.Core.Path.{_≡_}
+use mathlib.Core.Bool.{false, not}
 use Prim.Native.Nat.{ℕ, _≤_}
 use lib.Dec.{leb}
 use borrow.Author.Tests.{leb-true, le-leb, not-false}
 use Rattle.limits.specs.Blocks.{blocksFit}
-
-both : (a b : Bool) → a && b ≡ true → (a ≡ true) × (b ≡ true)
-both true b e = (refl, e)
-both false b e = absurd (true≢false (sym e))
+use Rattle.limits.proofs.Laws.{both}
 
 -- a count that is not refused is from 4 to 52, and the other way round
 pub blocks-within : (n : ℕ) → not (blocksFit n) ≡ false → (4 ≤ n) × (n ≤ 52)

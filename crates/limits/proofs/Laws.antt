@@ -1,7 +1,7 @@
 -- The order of refusals, and what an answer 0 tells: no condition held, and a number that is not outside its limits is inside them.
 -- Assumes nothing.
 use mathlib.Core.Path.{_≡_, refl}
-use mathlib.Core.Bool.{Bool, true, false, _||_, true≢false}
+use mathlib.Core.Bool.{Bool, true, false, _&&_, _||_, true≢false, false≢true}
 use Prim.Native.Nat.{ℕ, zero, suc, _≤_, _<_, zero-le, suc-le-suc}
 use native.Mathlib.Nat.{suc-ne-zero, not-suc-le-zero, le-of-suc-le-suc}
 use lib.IntN.{ℤ, pos, negsuc, natAbs}
@@ -38,6 +38,15 @@ pub when-zero : (number : ℕ) (condition : Bool) → suc number when condition 
 unfolding _when_
 when-zero number true e = absurd (suc-ne-zero number e)
 when-zero number false e = refl
+
+-- what is told by two tests joined
+pub both : (a b : Bool) → a && b ≡ true → (a ≡ true) × (b ≡ true)
+both true b e = (refl, e)
+both false b e = absurd (false≢true e)
+
+pub either : {X : Type 0} (a b : Bool) → a || b ≡ true → (a ≡ true → X) → (b ≡ true → X) → X
+either true b e f g = f refl
+either false b e f g = g e
 
 pub or-false : (a b : Bool) → a || b ≡ false → (a ≡ false) × (b ≡ false)
 or-false true b e = absurd (true≢false e)

@@ -1,6 +1,7 @@
--- The limits on the ten numbers that Track answers and Line writes (document 01, refusals 3, 4, 5 and 6).
+-- The limits on the ten numbers that Track answers and Line writes (document 01, refusals 3, 4, 5 and 6), and on the four delays that Track is given
+-- and a store keeps (refusal 2, and 20 of document 02, Job 9).
 -- Assumes nothing.
-use Prim.Native.Nat.{ℕ}
+use Prim.Native.Nat.{ℕ, _^_}
 use mathlib.Core.Bool.{Bool, _||_}
 use lib.IntN.{ℤ, pos, negℤ}
 use lib.Signed.{ltZ}
@@ -14,6 +15,14 @@ outside low high z = ltZ z low || ltZ high z
 -- z lies outside plus or minus limit.
 abbrev pub beyond : ℕ → ℤ → Bool
 beyond limit z = outside (negℤ (pos limit)) (pos limit) z
+
+-- The limit on INT, CAB, REF and GD, in ps, and one of the four beyond it.
+abbrev pub delayLimit : ℕ
+delayLimit = 10 ^ 10
+
+abbrev pub delaysBeyond : (int cab refdly gd : ℤ) → Bool
+delaysBeyond int cab refdly gd =
+    beyond delayLimit int || beyond delayLimit cab || beyond delayLimit refdly || beyond delayLimit gd
 
 -- 3, 4 and 5 on the eight fitted numbers, in the paper's order.
 unfoldable pub limitsRule : Numbers → ℕ

@@ -1,9 +1,9 @@
-// The ten numbers of a track and their limits, written once for Track and for Line, the limit test on a list of values, and the
-// order of refusals.
+// The ten numbers of a track and their limits, written once for Track and for Line, the limit of the four delays, written once for Track and for
+// stores, the limit test on a list of values, and the order of refusals.
 // An answer is a refusal number of document 01, or 0.
 ghost use mathlib.Core.Path.{_≡_};
 ghost use Rattle.limits.specs.Refusal.{_when_, _then_};
-ghost use Rattle.limits.specs.Limits.{outside, limitsRule, dsgRule};
+ghost use Rattle.limits.specs.Limits.{outside, beyond, delayLimit, delaysBeyond, limitsRule, dsgRule};
 ghost use Rattle.limits.specs.Blocks.{blocksFit};
 ghost use Rattle.limits.specs.Lists.{anyOutside};
 ghost use Rattle.limits.specs.Scan.{scanRule};
@@ -41,6 +41,20 @@ pub fn outside(low: i64, high: i64, z: i64) -> bool
     ensures { λ r. ⌜ r ≡ outside low high z ⌝ }
 {
     (z < low) | (high < z)
+}
+
+// Whether a delay is outside ±10^10.
+pub fn delay_beyond(delay: i64) -> bool
+    ensures { λ r. ⌜ r ≡ beyond delayLimit delay ⌝ }
+{
+    outside(-10_000_000_000, 10_000_000_000, delay)
+}
+
+// Whether one of the four delays is.
+pub fn delays_beyond(int: i64, cab: i64, refdly: i64, gd: i64) -> bool
+    ensures { λ r. ⌜ r ≡ delaysBeyond int cab refdly gd ⌝ }
+{
+    delay_beyond(int) | delay_beyond(cab) | delay_beyond(refdly) | delay_beyond(gd)
 }
 
 // Whether a track may have n blocks.

@@ -15,10 +15,10 @@ use Rattle.columns.specs.Text.{lineLength}
 use Rattle.characters.specs.Kinds.{allows, allowed}
 use Rattle.reading.specs.Fields.{digits}
 use Rattle.reading.specs.Read.{readNumber}
-use Rattle.characters.proofs.Allowed.{both, digit-range}
+use Rattle.characters.proofs.Allowed.{digit-range}
 use Rattle.reading.proofs.Columns.{Columns, columns-of}
 use Rattle.reading.proofs.Refusals.{accepted}
-use Rattle.limits.proofs.Laws.{then-zero}
+use Rattle.limits.proofs.Laws.{then-zero, both}
 use Rattle.linefile.specs.Files.{columnsOf, lineNumber}
 use Rattle.linefile.proofs.Ascending.{Accepted}
 

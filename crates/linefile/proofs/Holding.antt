@@ -5,7 +5,7 @@ use mathlib.Core.Bool.{Bool, true, false, cond, _||_, false≢true}
 use mathlib.Core.List.{List, [], _∷_}
 use Prim.Native.Nat.{ℕ, _+_}
 use native.Mathlib.Omega.{arith}
-use Rattle.characters.proofs.Allowed.{either}
+use Rattle.limits.proofs.Laws.{either}
 use Rattle.linefile.specs.Files.{same, keys, before}
 use Rattle.linefile.proofs.Keys.{never, same-refl, same-eq, before-irrefl, before-asym}
 use Rattle.linefile.proofs.Ascending.{Ascending, All, Behind, all-behind}

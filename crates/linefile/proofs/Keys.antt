@@ -8,7 +8,7 @@ use native.Mathlib.Nat.{le-refl}
 use native.Mathlib.Omega.{arith}
 use lib.Dec.{eqb}
 use borrow.Author.Tests.{lt-ltb, le-ltb, eq-eqb, ne-eqb, eqb-true}
-use Rattle.characters.proofs.Allowed.{both}
+use Rattle.limits.proofs.Laws.{both}
 use Rattle.linefile.specs.Files.{same, before}
 
 pub never : {x : Bool} → x ≡ false → x ≡ true → ⊥

@@ -3,10 +3,10 @@
 use mathlib.Core.Path.{_≡_, refl, sym, ap, subst, _∙_}
 use mathlib.Core.List.{List, []}
 use Prim.Native.Nat.{ℕ, zero, suc, _+_, _-_, _*_, _/_, _%_, _≤_, _<_}
-use native.Mathlib.Nat.{not-suc-le-zero, le-of-suc-le-suc, le-of-eq}
+use native.Mathlib.Nat.{not-suc-le-zero, le-of-suc-le-suc}
 use native.Mathlib.Omega.{arith}
 use lib.ListN.{length, take, drop, getD, length-drop}
-use lib.Seq.{length-take-le, take-all, drop-cons, drop-drop}
+use lib.Seq.{length-take-le, drop-cons, drop-drop}
 use borrow.Author.Tests.{eqb-true, eq-eqb, not-false}
 use Rattle.limits.specs.Refusal.{_when_, _then_}
 use Rattle.limits.proofs.Laws.{then-zero, when-zero}
@@ -50,9 +50,6 @@ line-part file i h = ap (λ (n : ℕ). take n (drop (endedLength * i) file)) (wi
   where
     width : (i : ℕ) → endedLength * i + endedLength - endedLength * i ≡ endedLength
     width i = omega arith
-
-pub rest-part : (file : List ℕ) (at : ℕ) → take (length file - at) (drop at file) ≡ drop at file
-rest-part file at = take-all (length file - at) (drop at file) (le-of-eq (length-drop at file))
 
 long-in : (n : ℕ) (bytes : List ℕ) → endedLength * n ≤ length bytes → All Long (linesIn n bytes)
 unfolding linesIn

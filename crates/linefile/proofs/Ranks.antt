@@ -12,7 +12,8 @@ use borrow.Author.Tests.{lt-ltb, le-ltb, eqb-true}
 use Rattle.fields.specs.Read.{readDecimal}
 use Rattle.columns.specs.Columns.{byteIn, field, readLabels}
 use Rattle.characters.specs.Kinds.{letterFits}
-use Rattle.characters.proofs.Allowed.{either, letter-is}
+use Rattle.limits.proofs.Laws.{either}
+use Rattle.characters.proofs.Allowed.{letter-is}
 use Rattle.reading.proofs.Columns.{field-bound, holds-at}
 use Rattle.linefile.specs.Files.{columnsOf, keysOf, keys, before}
 use Rattle.linefile.specs.Walk.{twoDigits, rank}

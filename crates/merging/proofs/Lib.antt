@@ -1,6 +1,5 @@
 pub mod Joined
 pub mod Steps
-pub mod Written
 pub mod Walking
 pub mod Replies
 pub mod Answers

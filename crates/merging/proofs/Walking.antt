@@ -9,7 +9,7 @@ use lib.Dec.{ltb}
 use lib.ListN.{length, drop, getD, length-append, length-drop, drop-of-length-le}
 use lib.Seq.{drop-cons}
 use borrow.Author.Tests.{ltb-false}
-use Rattle.columns.specs.Placed.{placed}
+use Rattle.lent.specs.Placed.{placed}
 use Rattle.linefile.specs.declared.Next.{Next}
 use Rattle.linefile.specs.Files.{endedLength, lines, same, fileNumber}
 use Rattle.linefile.specs.Partners.{partners}
@@ -20,7 +20,7 @@ use Rattle.linefile.proofs.Steps.{Stepped, stepped, step-made, end-pairs}
 use Rattle.merging.specs.Merge.{anyDiffer, merged, joined, mergedFile}
 use Rattle.merging.proofs.Joined.{length-joined, joined-append, rest-lines}
 use Rattle.merging.proofs.Steps.{all-merged, merged-nothing, merged-go}
-use Rattle.merging.proofs.Written.{Written, room, more-written}
+use Rattle.lent.proofs.Written.{Written, room, more-written}
 
 -- ---- a step
 

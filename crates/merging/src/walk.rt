@@ -5,11 +5,12 @@ ghost use mathlib.Core.Bool.{cond, not, _&&_};
 ghost use Prim.Native.Nat.{_+_, _*_, _≤_, _<_, _/_};
 ghost use mathlib.Core.List.{_++_};
 ghost use lib.ListN.{length, drop};
-ghost use Rattle.columns.specs.Placed.{placed};
+ghost use Rattle.lent.specs.Placed.{placed};
 ghost use Rattle.linefile.specs.Files.{endedLength, lines, same, fileNumber};
 ghost use Rattle.linefile.specs.Partners.{partners};
 ghost use Rattle.linefile.specs.Walk.{lineAt};
 ghost use Rattle.merging.specs.Merge.{anyDiffer, mergedFile};
+use lent::put;
 use linefile::step;
 
 const LINE: usize = 115;
@@ -70,15 +71,6 @@ pub fn measure(first: &[u8], second: &[u8]) -> Measured
         differ: found,
         bytes: LINE * (count + (a - m) + (b - n)),
     }
-}
-
-// Puts text into a lent file, from an offset on.
-fn put(text: &[u8], file: &mut [u8], at: usize)
-    requires { ⌜ at + length (now text) ≤ length (now file) ⌝ }
-    ensures { λ _. ⌜ now (file .exit) ≡ placed (now (file .entry)) at (now (text .entry)) ⌝ }
-{
-    let end = at + text.len();
-    bytes::copy(text, &mut file[at..end]);
 }
 
 // Puts line m of the first file or line n of the second into place k of the lent file.

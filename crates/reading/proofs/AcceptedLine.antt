@@ -11,7 +11,7 @@ use lib.ListN.{length, take, drop, getD}
 use lib.Seq.{take-add, drop-drop}
 use borrow.Author.Tests.{ltb-false, le-ltb, eqb-true}
 use Rattle.limits.specs.Refusal.{_when_, _then_}
-use Rattle.limits.proofs.Laws.{or-false}
+use Rattle.limits.proofs.Laws.{or-false, both}
 use Rattle.fields.specs.Text.{bytesOf, hexDigit, hexadecimal, checksum}
 use Rattle.fields.specs.Read.{readDecimal, readSigned}
 use Rattle.labels.specs.declared.Labels.{Labels}
@@ -24,7 +24,6 @@ use Rattle.line.proofs.Accepted.{after-is}
 use Rattle.characters.specs.Kinds.{kinds, allowed, checked}
 use Rattle.reading.specs.Read.{isMinusZero, minusZero, clockBeyond, readNumber}
 use Rattle.reading.specs.Fields.{digits, hexDigits}
-use Rattle.characters.proofs.Allowed.{both}
 use Rattle.characters.proofs.Spelled.{Spelled}
 use Rattle.reading.proofs.Columns.{Columns, columns-of}
 use Rattle.reading.proofs.Refusals.{Valued, accepted, content-is}

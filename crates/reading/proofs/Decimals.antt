@@ -14,7 +14,8 @@ use Rattle.fields.specs.Text.{decimal}
 use Rattle.fields.specs.Read.{digitsAfter, readDecimal}
 use Rattle.characters.specs.Kinds.{allows, allowed}
 use Rattle.reading.specs.Fields.{digits}
-use Rattle.characters.proofs.Allowed.{both, allowed-at, digit-range}
+use Rattle.limits.proofs.Laws.{both}
+use Rattle.characters.proofs.Allowed.{allowed-at, digit-range}
 
 -- a digit among digits
 pub digit-at : (n : ℕ) (text : List ℕ) → allowed (digits n) text ≡ true → (i : ℕ) → i < n → (48 ≤ getD text i 0) × (getD text i 0 ≤ 57)

@@ -9,7 +9,8 @@ use borrow.Author.Tests.{le-leb, lt-leb, lt-ltb, le-ltb}
 use Rattle.fields.specs.Text.{hexDigit, hexadecimal}
 use Rattle.fields.specs.Read.{readDigit, readHexadecimal}
 use Rattle.characters.specs.Kinds.{within, allows}
-use Rattle.characters.proofs.Allowed.{either, hexadecimal-is, within-true}
+use Rattle.limits.proofs.Laws.{either}
+use Rattle.characters.proofs.Allowed.{hexadecimal-is, within-true}
 
 -- a hexadecimal digit is one of 0 to 9 or one of A to F
 pub hex-cases : {X : Type 0} (b : ℕ) → allows 70 b ≡ true → ((48 ≤ b) × (b ≤ 57) → X) → ((65 ≤ b) × (b ≤ 70) → X) → X

@@ -19,7 +19,8 @@ use Rattle.columns.specs.Columns.{byteIn, field}
 use Rattle.characters.specs.Kinds.{allows, allowed}
 use Rattle.reading.specs.Read.{isMinusZero}
 use Rattle.reading.specs.Fields.{digits, hexDigits, Holds, Digits, Signed}
-use Rattle.characters.proofs.Allowed.{both, either, sign-is, space-is, allowed-drop}
+use Rattle.limits.proofs.Laws.{both, either}
+use Rattle.characters.proofs.Allowed.{sign-is, space-is, allowed-drop}
 use Rattle.reading.proofs.Decimals.{write-decimal}
 use Rattle.reading.proofs.Hexadecimals.{write-hexadecimal}
 use Rattle.reading.proofs.Signs.{minus-read, plus-read}

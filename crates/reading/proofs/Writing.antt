@@ -18,7 +18,8 @@ use Rattle.columns.specs.Text.{clock, trackColumns, clockColumns, delayColumns,
 use Rattle.columns.proofs.Widths.{length-clock}
 use Rattle.characters.specs.Kinds.{within, letterFits, allows, kinds, allowed}
 use Rattle.reading.specs.Fields.{digits, hexDigits}
-use Rattle.characters.proofs.Allowed.{both, either, letter-is, digit-is, hexadecimal-is, code-is, space-is, allowed-append}
+use Rattle.limits.proofs.Laws.{both, either}
+use Rattle.characters.proofs.Allowed.{letter-is, digit-is, hexadecimal-is, code-is, space-is, allowed-append}
 use Rattle.reading.proofs.AcceptedLine.{fieldKinds, kinds-spaced}
 
 and-true-both : {a b : Bool} → a ≡ true → b ≡ true → a && b ≡ true

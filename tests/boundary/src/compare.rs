@@ -2,8 +2,10 @@
 //! byte of what is lent, of the bytes around it and of what is given.
 
 mod files;
+mod stores;
 
 pub use files::Report;
+pub use stores::InForce;
 
 use crate::library;
 use reference::seeded::Seeded;

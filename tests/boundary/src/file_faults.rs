@@ -4,6 +4,7 @@ use reference::good_files::{ended_line, put, repair, Ended};
 use reference::seeded::Seeded;
 use reference::{Labels, FILE_LINE_BYTES, LINE_BYTES};
 use std::collections::BTreeMap;
+use std::fmt::Debug;
 
 /// Where in its file a line stands.
 #[derive(Clone, Copy, Debug, PartialEq, Eq, PartialOrd, Ord)]
@@ -90,7 +91,7 @@ pub fn of_files() -> Vec<Fault> {
 }
 
 /// Cases with two faults, by the one that decides and the other.
-pub type Pairs = BTreeMap<(Fault, Fault), u64>;
+pub type Pairs<F = Fault> = BTreeMap<(F, F), u64>;
 
 /// Counts each two of some faults, and gives the number of the one that decides.
 pub fn decided(faults: &[Fault], pairs: &mut Pairs) -> u32 {
@@ -103,7 +104,7 @@ pub fn decided(faults: &[Fault], pairs: &mut Pairs) -> u32 {
 }
 
 /// Every fault, every pair of faults, and nearly as many triples as pairs.
-pub fn each_few(all: &[Fault], seeded: &mut Seeded, mut test: impl FnMut(&[Fault], &mut Seeded)) {
+pub fn each_few<F: Copy + PartialEq>(all: &[F], seeded: &mut Seeded, mut test: impl FnMut(&[F], &mut Seeded)) {
     for (i, first) in all.iter().enumerate() {
         test(&[*first], seeded);
         for second in &all[i + 1..] {
@@ -117,7 +118,7 @@ pub fn each_few(all: &[Fault], seeded: &mut Seeded, mut test: impl FnMut(&[Fault
 }
 
 /// Prints how often each two of these were together at least; gives those that never were.
-pub fn together(of: &str, all: &[Fault], pairs: &Pairs) -> Vec<String> {
+pub fn together<F: Copy + Ord + Debug>(of: &str, all: &[F], pairs: &Pairs<F>) -> Vec<String> {
     let (mut missing, mut least) = (Vec::new(), u64::MAX);
     for (i, first) in all.iter().enumerate() {
         for second in &all[i + 1..] {
@@ -129,7 +130,7 @@ pub fn together(of: &str, all: &[Fault], pairs: &Pairs) -> Vec<String> {
             }
         }
     }
-    println!("  {} faults by file and line, each two of them together in at least {least} cases", all.len());
+    println!("  {} faults by their places, each two of them together in at least {least} cases", all.len());
     missing
 }
 

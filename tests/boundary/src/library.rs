@@ -1,6 +1,6 @@
 //! The archive's C functions, called as a C program calls them.
 
-use reference::{Labels, Numbers};
+use reference::{Delays, Labels, Numbers};
 
 extern "C" {
     fn trackline_block(block: *const u8, block_len: usize, line: *mut u8, line_len: usize) -> u32;
@@ -53,6 +53,20 @@ extern "C" {
         second_len: usize,
         report: *mut i64,
         report_len: usize,
+    ) -> u32;
+    fn trackline_delays(store: *const u8, store_len: usize, mjd: u32, delays: *mut i64, delays_len: usize) -> u32;
+    #[rustfmt::skip]
+    fn trackline_append(
+        store: *const u8,
+        store_len: usize,
+        mjd: u32,
+        intdly: i64,
+        cabdly: i64,
+        refdly: i64,
+        gd: i64,
+        longer: *mut u8,
+        longer_len: usize,
+        written: *mut usize,
     ) -> u32;
 }
 
@@ -123,4 +137,19 @@ pub fn view(first: Bytes, second: Bytes, report: LentValues) -> u32 {
     let (report, report_len) = lent_as_c(report);
     // SAFETY: live slices, or NULL with length 0, which the interface allows.
     unsafe { trackline_view(first, first_len, second, second_len, report, report_len) }
+}
+
+pub fn delays(store: Bytes, mjd: u32, delays: LentValues) -> u32 {
+    let (store, store_len) = as_c(store);
+    let (delays, delays_len) = lent_as_c(delays);
+    // SAFETY: live slices, or NULL with length 0, which the interface allows.
+    unsafe { trackline_delays(store, store_len, mjd, delays, delays_len) }
+}
+
+pub fn append(store: Bytes, mjd: u32, set: &Delays, longer: LentBytes, written: &mut usize) -> u32 {
+    let (store, store_len) = as_c(store);
+    let (longer, longer_len) = lent_as_c(longer);
+    let Delays { int, cab, refdly, gd } = *set;
+    // SAFETY: live slices, or NULL with length 0, which the interface allows, and a live number.
+    unsafe { trackline_append(store, store_len, mjd, int, cab, refdly, gd, longer, longer_len, written) }
 }

@@ -1,5 +1,5 @@
-//! Compares the archive's C functions with the plain Rust implementation on seeded blocks, lines, readings, starts
-//! and pairs of line files, and tries that what is added to all measurements alike drops out.
+//! Compares the archive's C functions with the plain Rust implementation on seeded blocks, lines, readings, starts,
+//! pairs of line files and stores of delays, and tries that what is added to all measurements alike drops out.
 //!
 //!     boundary [SEED [SCALE]]
 //!
@@ -22,6 +22,8 @@ mod offsets;
 mod reading_faults;
 mod readings;
 mod starts;
+mod store_faults;
+mod stores;
 mod view_faults;
 mod views;
 
@@ -38,6 +40,7 @@ fn main() -> ExitCode {
     let seed = arguments.first().copied().unwrap_or(1);
     let scale = arguments.get(1).copied().unwrap_or(1) as usize;
     let mut compare = Compare::new(seed);
+    let stored = stores::run(&mut compare, &mut Seeded::new(seed + 9), scale);
     lines::run(&mut compare, &mut Seeded::new(seed + 1), scale);
     blocks::run(&mut compare, &mut Seeded::new(seed + 2), scale);
     readings::run(&mut compare, &mut Seeded::new(seed + 4), scale);
@@ -51,6 +54,7 @@ fn main() -> ExitCode {
     missing.extend(merges::report(&compare, &merged));
     missing.extend(views::report(&compare, &viewed));
     missing.extend(offsets::report(&shifted));
+    missing.extend(stores::report(&compare, &stored));
     missing.iter().for_each(|what| eprintln!("MISSING: {what}"));
     if compare.agreed() && missing.is_empty() {
         println!("boundary: no difference");

@@ -1,6 +1,6 @@
 //! The plain Rust implementation's operations, as C functions.
 
-use reference::{Labels, Numbers};
+use reference::{Delays, Labels, Numbers};
 
 unsafe fn bytes<'a>(at: *const u8, len: usize) -> &'a [u8] {
     if at.is_null() {
@@ -104,4 +104,40 @@ pub unsafe extern "C" fn reference_view(
     report_len: usize,
 ) -> u32 {
     reference::view_values(bytes(first, first_len), bytes(second, second_len), lent(report, report_len))
+}
+
+/// # Safety
+/// As reference_block.
+#[no_mangle]
+pub unsafe extern "C" fn reference_delays(
+    store: *const u8,
+    store_len: usize,
+    mjd: u32,
+    delays: *mut i64,
+    delays_len: usize,
+) -> u32 {
+    reference::lookup_values(bytes(store, store_len), mjd, lent(delays, delays_len))
+}
+
+/// # Safety
+/// As reference_block; `set` has four numbers, and `written` is a number.
+#[no_mangle]
+pub unsafe extern "C" fn reference_append(
+    store: *const u8,
+    store_len: usize,
+    mjd: u32,
+    set: &[i64; 4],
+    longer: *mut u8,
+    longer_len: usize,
+    written: &mut usize,
+) -> u32 {
+    let &[int, cab, refdly, gd] = set;
+    let set = Delays { int, cab, refdly, gd };
+    match reference::append(bytes(store, store_len), mjd, &set, lent(longer, longer_len)) {
+        Ok(length) => {
+            *written = length;
+            0
+        }
+        Err(refusal) => refusal,
+    }
 }

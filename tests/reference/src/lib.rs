@@ -1,5 +1,5 @@
 //! Track lines in plain Rust: smoothing, correcting, fitting, the start test, the data line, the hire block, a line
-//! read back, line files and the common view of two.
+//! read back, line files and the common view of two, and delays by date.
 //!
 //! Written from the papers alone and not from the proved program, so that the two can be compared. Every operation
 //! answers with the papers' refusal numbers, in their order.
@@ -9,10 +9,12 @@
 //! an overflow panics.
 
 mod block;
+mod delays;
 mod files;
 mod fit;
 pub mod good;
 pub mod good_files;
+pub mod good_stores;
 mod line;
 pub mod published;
 mod reader;
@@ -25,6 +27,7 @@ pub mod waves;
 pub mod worst;
 
 pub use block::{block, block_bytes};
+pub use delays::{append, lookup, lookup_values, MOST_ENTRIES, SET_VALUES};
 pub use files::{file_lines, keys, merge, FileLine, Keys, FILE_LINE_BYTES};
 pub use fit::{fit, scatter, smooth, Fitted, LEAST_BLOCKS, MOST_BLOCKS, TENTHS, WEIGHTS};
 pub use line::{line, Labels, LINE_BYTES};

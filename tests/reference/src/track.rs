@@ -10,7 +10,7 @@ pub const BLOCK_SECONDS: usize = 15;
 pub const MOST_SECONDS: usize = BLOCK_SECONDS * MOST_BLOCKS;
 
 const GEOMETRY_LIMIT: i64 = 200_000_000_000;
-const CORRECTION_LIMIT: i64 = 10_000_000_000;
+pub(crate) const CORRECTION_LIMIT: i64 = 10_000_000_000;
 
 /// The single numbers, in ps. `refdly` is the paper's REF.
 #[derive(Clone, Copy, Debug, Default, PartialEq, Eq)]

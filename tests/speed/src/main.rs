@@ -7,7 +7,8 @@
 //! lines for each block, read back. Each time the same blocks and lines follow, spoilt so that they are refused at one stage: what
 //! one stage costs more than the stage before it is the cost of the work between them. Last, pairs of line files of as
 //! many lines as there were blocks, and of twice as many, are merged, and the common view is taken of others of as many lines and
-//! of half as many. No time fails this program; a different answer, line or value does.
+//! of half as many; and a date is looked up in stores of 10 and of 1000 entries, and an entry appended to stores of 999.
+//! No time fails this program; a different answer, line or value does.
 
 #[allow(dead_code)]
 #[path = "../../boundary/src/case.rs"]
@@ -19,6 +20,7 @@ mod library;
 mod measurements;
 mod read_stages;
 mod stages;
+mod stores;
 mod timing;
 
 use measurements::MEASUREMENTS;
@@ -115,4 +117,5 @@ fn main() {
     COMMENT.whole(count, &lines);
     drop(lines);
     files::run(count, number as usize, &mut seeded);
+    stores::run(count, &mut seeded);
 }

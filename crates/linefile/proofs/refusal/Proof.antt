@@ -1,6 +1,6 @@
 -- `linefile::refusal` meets its contract: after i turns the first i lines are judged, each by its rank.
 -- Assumes nothing.
-use Rattle.characters.proofs.Allowed.{both}
+use Rattle.limits.proofs.Laws.{both}
 use borrow.Author.Tests.{ltb-true, eqb-true}
 use mathlib.Core.Path.{_≡_, refl, sym, ap₂, _∙_}
 use Prim.Native.Nat.{_-_, _/_, _≤_, _<_}

@@ -8,7 +8,7 @@ use native.Mathlib.Omega.{arith}
 use lib.Dec.{ltb, leb, eqb}
 use lib.ListN.{length}
 use borrow.Author.Tests.{ltb-true}
-use Rattle.characters.proofs.Allowed.{both}
+use Rattle.limits.proofs.Laws.{both}
 use Rattle.linefile.specs.Files.{endedLength}
 use Rattle.linefile.specs.Walk.{rank, lineAt, passing, stepOf}
 use borrow.Author.Needs.{needs}

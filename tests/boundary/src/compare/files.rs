@@ -9,7 +9,7 @@ pub type Report = Result<[i64; REPORT_VALUES], u32>;
 
 impl Compare {
     /// A lent file at any alignment and of any length, filled with seeded bytes, twice.
-    fn files(&mut self, lent: Lent) -> (Sides<u8>, std::ops::Range<usize>) {
+    pub(super) fn files(&mut self, lent: Lent) -> (Sides<u8>, std::ops::Range<usize>) {
         let start = GUARD + self.seeded.below(8) as usize;
         let from = self.seeded.below(self.pool.len() as u64) as usize;
         let before = self.pool.iter().cycle().skip(from).take(start + lent.len() + GUARD).copied().collect();

@@ -1,3 +1,4 @@
+mod dated;
 mod document_cases;
 mod exact;
 mod merging;

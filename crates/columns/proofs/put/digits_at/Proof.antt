@@ -3,7 +3,7 @@
 use Prim.Native.Nat.{ℕ}
 use Rattle.fields.specs.Text.{decimal}
 use Rattle.fields.proofs.Laws.{length-decimal}
-use Rattle.columns.proofs.Placing.{filled}
+use Rattle.lent.proofs.Placing.{filled}
 use borrow.Author.Needs.{needs}
 use Rattle.columns.proofs.put.digits_at.Statement.{statement}
 use Rattle.columns.proofs.put.digits_at.Tie as tie

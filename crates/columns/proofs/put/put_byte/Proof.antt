@@ -2,7 +2,8 @@
 -- Assumes nothing.
 use mathlib.Core.List.{[], _∷_}
 use native.Mathlib.Omega.{arith}
-use Rattle.columns.proofs.Placing.{put, placed-byte}
+use Rattle.lent.proofs.Placing.{placed-byte}
+use Rattle.columns.proofs.Placing.{put}
 use borrow.Author.Needs.{needs}
 use Rattle.columns.proofs.put.put_byte.Statement.{statement}
 use Rattle.columns.proofs.put.put_byte.Tie as tie

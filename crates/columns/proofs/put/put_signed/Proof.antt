@@ -7,7 +7,7 @@ use mir.Facts.{toZ-ofZ}
 use native.Mathlib.Omega.{arith}
 use Rattle.fields.specs.Text.{signed}
 use Rattle.fields.proofs.Laws.{length-signed}
-use Rattle.columns.specs.Placed.{placed}
+use Rattle.lent.specs.Placed.{placed}
 use Rattle.columns.proofs.Placing.{put, onto}
 use borrow.Author.Needs.{needs}
 use Rattle.columns.proofs.put.put_signed.Statement.{statement}

@@ -5,7 +5,7 @@ use Prim.Native.Nat.{ℕ}
 use mir.Facts.{toZ-ofZ}
 use Rattle.fields.specs.Text.{signed}
 use Rattle.fields.proofs.Laws.{length-signed}
-use Rattle.columns.proofs.Placing.{filled}
+use Rattle.lent.proofs.Placing.{filled}
 use borrow.Author.Needs.{needs}
 use Rattle.columns.proofs.put.signed_at.Statement.{statement}
 use Rattle.columns.proofs.put.signed_at.Tie as tie

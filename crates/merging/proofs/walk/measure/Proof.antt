@@ -11,7 +11,7 @@ use Rattle.linefile.specs.Partners.{partners}
 use Rattle.merging.specs.Merge.{anyDiffer, merged}
 use Rattle.linefile.proofs.Lines.{length-lines, line-file}
 use Rattle.merging.proofs.Walking.{Walked, walked, found-more, count-more, end-length, end-differ, length-merged}
-use Rattle.characters.proofs.Allowed.{both}
+use Rattle.limits.proofs.Laws.{both}
 use borrow.Author.Tests.{ltb-true}
 use native.Mathlib.Nat.{zero-add}
 use Rattle.merging.proofs.walk.measure.Statement.{statement}

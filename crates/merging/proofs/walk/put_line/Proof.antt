@@ -1,15 +1,27 @@
 -- `merging::walk::put_line` meets its contract: the part is that line of its file.
 -- Assumes nothing.
-use mathlib.Core.Path.{sym, ap, _∙_}
+use mathlib.Core.Path.{_≡_, sym, ap, _∙_}
 use mathlib.Core.Bool.{Bool, cond}
-use Prim.Native.Nat.{_*_}
-use Rattle.columns.specs.Placed.{placed}
+use mathlib.Core.List.{List}
+use Prim.Native.Nat.{ℕ, _+_, _-_, _*_, _/_, _≤_, _<_}
+use native.Mathlib.Omega.{arith}
+use lib.ListN.{length, take, drop}
+use Rattle.lent.specs.Placed.{placed, placedWithin}
+use Rattle.lent.proofs.Placing.{within, length-part}
 use Rattle.linefile.specs.Files.{endedLength}
 use Rattle.linefile.specs.Walk.{lineAt}
 use Rattle.linefile.proofs.Lines.{line-part}
 use borrow.Author.Needs.{needs}
 use Rattle.merging.proofs.walk.put_line.Statement.{statement}
 use Rattle.merging.proofs.walk.put_line.Tie as tie
+
+-- a line of a file fits into its place
+line-within : (file source : List ℕ) (i k : ℕ) → i < length source / endedLength → endedLength * (k + 1) ≤ length file
+    → let line = take (endedLength * i + endedLength - endedLength * i) (drop (endedLength * i) source) in
+    placedWithin file (endedLength * k) line ≡ placed file (endedLength * k) line
+line-within file source i k h room =
+    within file (endedLength * k) (take (endedLength * i + endedLength - endedLength * i) (drop (endedLength * i) source))
+    (omega (arith, length-part source (endedLength * i) (endedLength * i + endedLength) (omega arith)))
 
 mul-at : tie.Need-mul-at
 mul-at c = search needs
@@ -62,6 +74,7 @@ returns c =
     let a = t .before .before .before .before in
     let line = line-part (a .args .first .now) (a .args .m) (a .pre .0) in
     c .before .before .put .ensures
+    ∙ line-within (a .args .file .now) (a .args .first .now) (a .args .m) (a .args .k) (a .pre .0) (a .pre .1 .1)
     ∙ ap (placed (a .args .file .now) (endedLength * a .args .k))
     (line ∙ ap (λ (b : Bool). cond b (lineAt (a .args .first .now) (a .args .m)) (lineAt (a .args .second .now) (a .args .n))) (sym (t .if1 .taken)))
 
@@ -74,6 +87,7 @@ returns-2 c =
     let a = t .before .before .before .before in
     let line = line-part (a .args .second .now) (a .args .n) (a .pre .1 .0) in
     c .before .before .put2 .ensures
+    ∙ line-within (a .args .file .now) (a .args .second .now) (a .args .n) (a .args .k) (a .pre .1 .0) (a .pre .1 .1)
     ∙ ap (placed (a .args .file .now) (endedLength * a .args .k))
     (line ∙ ap (λ (b : Bool). cond b (lineAt (a .args .first .now) (a .args .m)) (lineAt (a .args .second .now) (a .args .n))) (sym (t .if1 .left)))
 

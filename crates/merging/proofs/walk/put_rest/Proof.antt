@@ -1,12 +1,11 @@
 -- `merging::walk::put_rest` meets its contract: the part is all that follows in its file.
 -- Assumes nothing.
-use mathlib.Core.Path.{sym, ap, subst, _∙_}
-use mathlib.Core.List.{List}
-use Prim.Native.Nat.{ℕ, _+_, _*_, _≤_}
-use lib.ListN.{length}
-use Rattle.columns.specs.Placed.{placed}
+use mathlib.Core.Path.{ap, _∙_}
+use Prim.Native.Nat.{_*_}
+use lib.ListN.{drop}
+use Rattle.lent.specs.Placed.{placedWithin}
+use Rattle.lent.proofs.Placing.{within, rest-part}
 use Rattle.linefile.specs.Files.{endedLength}
-use Rattle.linefile.proofs.Lines.{rest-part}
 use borrow.Author.Needs.{needs}
 use Rattle.merging.proofs.walk.put_rest.Statement.{statement}
 use Rattle.merging.proofs.walk.put_rest.Tie as tie
@@ -27,9 +26,7 @@ mul-put : tie.Need-mul-put
 mul-put c = search needs
 
 put-requires : tie.Need-put-requires
-put-requires c κs =
-    let a = c .before .before .before .before in
-    subst (λ (t : List ℕ). endedLength * a .args .k + length t ≤ length (a .args .file .now)) (sym (rest-part (a .args .source .now) (endedLength * a .args .i))) (a .pre .1)
+put-requires c κs = search needs
 
 same-length : tie.Need-same-length
 same-length c = search needs
@@ -37,7 +34,9 @@ same-length c = search needs
 returns : tie.Need-returns
 returns c =
     let a = c .before .before .before .before .before .before .before in
-    c .before .before .put .ensures ∙ ap (placed (a .args .file .now) (endedLength * a .args .k)) (rest-part (a .args .source .now) (endedLength * a .args .i))
+    c .before .before .put .ensures
+    ∙ ap (placedWithin (a .args .file .now) (endedLength * a .args .k)) (rest-part (a .args .source .now) (endedLength * a .args .i))
+    ∙ within (a .args .file .now) (endedLength * a .args .k) (drop (endedLength * a .args .i) (a .args .source .now)) (a .pre .1)
 
 pub put-rest-spec : {M : Type 1} → statement M
 put-rest-spec =

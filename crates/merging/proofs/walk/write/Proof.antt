@@ -5,14 +5,14 @@ use Prim.Native.Nat.{ℕ, _+_, _-_, _*_, _/_, _≤_, _<_}
 use native.Mathlib.Omega.{arith}
 use mathlib.Core.List.{_++_}
 use lib.ListN.{length, drop, length-append, length-drop}
-use Rattle.columns.specs.Placed.{placed}
+use Rattle.lent.specs.Placed.{placed}
 use borrow.Author.Needs.{needs}
 use borrow.Author.Tests.{ltb-true}
-use Rattle.characters.proofs.Allowed.{both}
+use Rattle.limits.proofs.Laws.{both}
 use Rattle.linefile.specs.Files.{endedLength, lines}
 use Rattle.merging.specs.Merge.{merged, joined, mergedFile}
 use Rattle.linefile.proofs.Lines.{length-lines, lines-long, line-file}
-use Rattle.merging.proofs.Written.{Written, nothing-written, room, more-written, rests-written}
+use Rattle.lent.proofs.Written.{Written, nothing-written, room, more-written, rests-written}
 use Rattle.merging.proofs.Walking.{Walked, walked, line-room, line-written, end-text}
 use Rattle.merging.proofs.walk.write.Statement.{statement}
 use Rattle.merging.proofs.walk.write.Tie as tie

@@ -7,7 +7,7 @@ use native.Mathlib.Omega.{arith}
 use lib.ListN.{length, getD}
 use borrow.Author.Needs.{needs}
 use borrow.Author.Tests.{ltb-true}
-use Rattle.characters.proofs.Allowed.{both}
+use Rattle.limits.proofs.Laws.{both}
 use Rattle.linefile.specs.Files.{endedLength, lines}
 use Rattle.viewing.specs.View.{pairsOf, viewed, longest}
 use Rattle.viewing.specs.Gather.{Bounded}

@@ -1,0 +1,2 @@
+-- What must be believed: the bytes of a number.
+pub mod Encode
