@@ -16,7 +16,7 @@
 # make install       the programs, the libraries, the header, the manual pages: make install PREFIX=/usr/local DESTDIR=
 # make uninstall     remove what install put there, with the same PREFIX and DESTDIR; folders stay
 # make clean         remove target/, which holds everything that was built
-VERSION := 1.6.0
+VERSION := 1.7.0
 BLOCK ?= examples/sample.blk
 PREFIX ?= /usr/local
 SECONDS ?= 120
@@ -50,7 +50,7 @@ PROGRAM_SOURCES := $(shell find crates -name must-fail -prune -o -path 'crates/t
 PROGRAMS := $(PROGRAM) $(CGGTTS) tools/hireblock
 PAGES := $(wildcard man/*.[1-8])
 DOCUMENTS := docs/REFUSALS.md docs/HIRE-BLOCK.md docs/COMMON-VIEW.md docs/common-view.svg docs/SHARED-OFFSET.md docs/LAST-DIGIT.md docs/last-digit.svg docs/DELAYS.md docs/TRUST.md
-EXAMPLES := examples/receiver.c examples/delays.c examples/sample.txt examples/sample.blk examples/short.txt examples/short.blk examples/worked.txt examples/worked.blk examples/changed.txt examples/changed.blk examples/first.cggtts examples/second.cggtts examples/week.cggtts examples/roof-a.cggtts examples/roof-b.cggtts examples/delays.txt examples/delays.store examples/dated.txt
+EXAMPLES := examples/receiver.c examples/delays.c examples/sample.txt examples/sample.blk examples/short.txt examples/short.blk examples/worked.txt examples/worked.blk examples/changed.txt examples/changed.blk examples/first.cggtts examples/second.cggtts examples/week.cggtts examples/roof-a.cggtts examples/roof-b.cggtts examples/delays.txt examples/delays.store examples/dated.txt examples/oneday.txt examples/oneday.blk examples/oneday.cggtts
 TWO_TRACKS := $(wildcard examples/shared/*)
 # What follows a track to its last digit; beside the examples, of which it takes the worked track where none is named.
 FOLLOWER := tools/lastdigit tools/lastdigit_prose.py tools/lastdigit_picture.py
@@ -119,6 +119,8 @@ compared:
 	target/delays_test
 	$(CC) $(CFLAGS) $(STRICT) -Iinclude examples/delays.c $(ARCHIVE) -o target/delays_example
 	python3 tests/c/delays_example.py target/delays_example
+	$(CC) $(CFLAGS) $(STRICT) -Iinclude tests/c/day_test.c $(ARCHIVE) -o target/day_test
+	target/day_test
 	$(CC) $(CFLAGS) $(STRICT) -Iinclude examples/receiver.c $(ARCHIVE) -o target/receiver
 	target/receiver | cmp - crates/trackline/stdout
 	python3 tests/c/receiver.py target/receiver
@@ -135,6 +137,7 @@ compared:
 	python3 tests/cggtts/test_offset.py
 	python3 tests/cggtts/test_words.py
 	python3 tests/cggtts/test_delays.py
+	python3 tests/cggtts/test_day.py
 
 # What the tools, the examples and the documents say, and what is installed.
 described:
@@ -166,6 +169,11 @@ described:
 	tools/calibrations dated | cmp - examples/dated.txt
 	tools/hireblock pack examples/dated.txt --delays examples/delays.store 2> target/dated.log | cmp - examples/worked.blk
 	rm -f target/delays.store && $(CGGTTS) store examples/delays.txt -o target/delays.store && cmp target/delays.store examples/delays.store
+	tools/day text | cmp - examples/oneday.txt
+	tools/day blocks | cmp - examples/oneday.blk
+	tools/hireblock pack examples/oneday.txt | cmp - examples/oneday.blk
+	tools/day lines | cmp - examples/oneday.cggtts
+	$(CGGTTS) day examples/oneday.blk -o target/oneday.cggtts && cmp target/oneday.cggtts examples/oneday.cggtts
 	rm -rf target/two-tracks && tools/offset write target/two-tracks && diff -r target/two-tracks examples/shared
 	tools/offset check docs/SHARED-OFFSET.md
 	tools/lastdigit --check docs/LAST-DIGIT.md

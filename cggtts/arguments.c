@@ -71,6 +71,7 @@ static int *noted(const char *word, int allowed, struct arguments *found)
                          {"--parted", WITH_VIEW, &found->parted},
                          {"--skip", WITH_CONVERT, &found->skip},
                          {"--show", WITH_STORE, &found->show},
+                         {"--sort", WITH_DAY, &found->sort},
                          {"--bad", WITH_READ, &found->bad},
                          {"--csv", WITH_READ, &found->csv}};
     for (size_t i = 0; i < sizeof options / sizeof options[0]; i++) {

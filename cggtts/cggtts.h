@@ -81,9 +81,12 @@ void remark_on_date(const char *where, uint32_t mjd);
 /*
  * arguments.c: what stands behind a subcommand. Answers ACCEPTED, or FAILED after a message. Allowed may be an option -o, that
  * no file is named, that -o replaces a file that is read, that only the first word is a file and numbers follow, and the options of
- * view, of convert, of read and of store. Nothing else that is read may be written to.
+ * view, of convert, of read, of store and of day. Nothing else that is read may be written to.
  */
-enum { WITH_OUTPUT = 1, NO_FILE = 2, REPLACING = 4, WITH_VIEW = 8, WITH_CONVERT = 16, WITH_READ = 64, WITH_NUMBERS = 128, WITH_STORE = 256 };
+enum {
+    WITH_OUTPUT = 1, NO_FILE = 2, REPLACING = 4, WITH_VIEW = 8, WITH_CONVERT = 16, WITH_READ = 64, WITH_NUMBERS = 128,
+    WITH_STORE = 256, WITH_DAY = 1024
+};
 enum { MOST_CODES = 32, FRC_WIDTH = TRACKLINE_WIDTH_FRC };
 struct arguments {
     const char *output;            /* what -o names, or NULL */
@@ -92,6 +95,7 @@ struct arguments {
     int pairs, about, parted;      /* options of view that are given */
     int bad, csv;                  /* options of read that are given */
     int skip, show;                /* --skip of convert, --show of store is given */
+    int sort;                      /* --sort of day is given */
     const char *codes[MOST_CODES]; /* what --frc names, OLD=NEW */
     int codes_count;
     int count;
@@ -114,6 +118,7 @@ int64_t correction_at(const uint8_t *block, size_t j, size_t in_group);
  * figures.c, starts.c: each explains what a block is refused for.
  */
 int explain_bytes(const struct bytes *block, uint32_t number);
+void explain_refusal(const struct bytes *block, uint32_t number); /* all that check says of it */
 void explain_labels(const uint8_t *block);
 void explain_limits(const uint8_t *block);
 void explain_figures(const uint8_t *block, uint32_t number);
@@ -244,6 +249,11 @@ void advise_header(const char *name);
 void advise_parted(const char *first, const char *second);
 void advise_line(const struct line_file *file, const uint8_t *line, size_t length);
 
+/* progress.c: how far a long work has come, told where a person waits for it. */
+void begin_progress(void);
+void show_progress(size_t done, size_t all, const char *what);
+void end_progress(void);
+
 /* about.c: rounded figures for people. */
 int print_about(const struct view *view);
 
@@ -272,5 +282,6 @@ int starts_command(int argc, char **argv);
 int delays_command(int argc, char **argv);
 int append_command(int argc, char **argv);
 int store_command(int argc, char **argv);
+int day_command(int argc, char **argv);
 
 #endif

@@ -36,7 +36,7 @@ static void explain_length(const struct bytes *block)
         explain("its sizes, %zu and %zu, make %zu: %zu missing", measurements, groups, makes, makes - block->length);
     } else {
         explain("its sizes, %zu and %zu, make %zu: %zu too many%s", measurements, groups, makes, block->length - makes,
-                block_begins_at(block, makes) ? ", as if another block followed" : "");
+                block_begins_at(block, makes) ? ", as if another block followed: cggtts day takes several" : "");
     }
 }
 
@@ -63,7 +63,7 @@ int explain_bytes(const struct bytes *block, uint32_t number)
 }
 
 /* What a refused block is refused for. Only a block whose sizes and length are right is looked into. */
-static void explain_refusal(const struct bytes *block, uint32_t number)
+void explain_refusal(const struct bytes *block, uint32_t number)
 {
     switch (number) {
     case TRACKLINE_LENGTH:

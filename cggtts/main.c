@@ -29,6 +29,8 @@ static const struct command {
      "report REFSYS of FIRST minus REFSYS of SECOND over the tracks of both, or print each pair; with mean, deviation and\n"
      "        median, rounded; draw them, from LOW to HIGH ns; files of any length, date by date",
      view_command},
+    {"day", "FILE.. [-o LINES] [--sort]",
+     "make one line file of hire blocks, one or more in each FILE, all or none; with --sort put them in order first", day_command},
     {"starts", "MJD | yyyy-mm-dd", "print the starts of that date's 89 tracks as hhmmss, in order", starts_command},
     {"delays", "STORE MJD | yyyy-mm-dd", "print the delays in force on that date, and since when and until when they are",
      delays_command},

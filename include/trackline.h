@@ -1,6 +1,6 @@
 /*
  * trackline: one CGGTTS data line of 113 columns from a satellite track of 1 to 13 minutes, what stands in such a line,
- * one file of lines from two, the common view of two, and delays kept by date.
+ * one file of lines from two, the common view of two, delays kept by date, and a file of lines from many tracks.
  *
  * Each function but trackline_comment answers 0 when it accepts and the number of its refusal otherwise. A slice is a
  * pointer and a length; NULL with length 0 is an empty slice. A length counts elements: bytes of a block, a line, a file
@@ -28,9 +28,9 @@ extern "C" {
 #endif
 
 /* The version of the library that this header is of. */
-#define TRACKLINE_VERSION "1.6.0"
+#define TRACKLINE_VERSION "1.7.0"
 #define TRACKLINE_VERSION_MAJOR 1
-#define TRACKLINE_VERSION_MINOR 6
+#define TRACKLINE_VERSION_MINOR 7
 #define TRACKLINE_VERSION_PATCH 0
 
 /* Columns of a line, and bytes of a line with the longest comment behind them. */
@@ -153,7 +153,7 @@ extern "C" {
     X(6, TRACKLINE_SCATTER, "DSG is below 0 or has more than four digits")                                             \
     X(7, TRACKLINE_LABEL, "a label is out of its range, or the track length is not 15 n, n from 4 to 52")              \
     X(8, TRACKLINE_START, "no track of that day starts at that second")                                                \
-    X(9, TRACKLINE_LENT, "lent is a line under 113 bytes, values under 23, a report or delays under 4, or too short a store") \
+    X(9, TRACKLINE_LENT, "lent is a line under 113 bytes, values under 23, a report or delays under 4, or too short a store or file of a day") \
     X(10, TRACKLINE_CORRECTED, "a corrected value is beyond its limit")                                                \
     X(11, TRACKLINE_LENGTH, "the block is under 4 bytes or not as long as its sizes make it")                          \
     X(12, TRACKLINE_LINE_LENGTH, "the line is not 113 to 140 bytes long, or a file's last line is under 115")          \
@@ -352,6 +352,33 @@ uint32_t trackline_delays(const uint8_t *store, size_t store_len, uint32_t mjd, 
  */
 uint32_t trackline_append(const uint8_t *store, size_t store_len, uint32_t mjd, int64_t intdly, int64_t cabdly, int64_t refdly,
                           int64_t gd, uint8_t *longer, size_t longer_len, size_t *written);
+
+/* So many lines trackline_day keeps on its stack while it judges the blocks. */
+#define TRACKLINE_DAY_KEPT 4096
+
+/*
+ * A day at once: the lines of hire blocks that stand back to back, each as long as its own sizes make it, as a line file. It is
+ * written to the lent file, and how many bytes it has to *written: TRACKLINE_FILE_LINE_BYTES, 115, for each block. The line of
+ * each block is the one that trackline_block makes of it. No block makes an empty file and 0, whatever is lent.
+ *
+ * Either all blocks are accepted, or nothing is written and the first that offends is named in *block, counted from 0. Each
+ * block in turn is tried as trackline_block tries it, without its 9. A last one that is cut is 11; where its first four bytes
+ * are there and are no sizes it is 1. Then 16 is tried: MJD, start, letter and satellite, in this order, are not above those of
+ * the block before. Behind all blocks comes 9 if too few bytes are lent, with the number of blocks in *block.
+ *
+ * Where the set is accepted *written is set and *block keeps what it had; where it is refused *block is set and *written keeps
+ * what it had. Neither may be NULL. The two, and what is lent, must not overlap each other or the blocks.
+ *
+ * There is no heap in the library, so that the first TRACKLINE_DAY_KEPT lines are kept on the stack. Every call takes up to
+ * 500,000 bytes of it, however few the blocks: a thread has to have so many left. Where that is too much, call trackline_block
+ * for each block and put "\r\n" behind each line; the order is then the caller's to test, and trackline_merge of that file and
+ * an empty one tests it.
+ *
+ * A set may be longer than TRACKLINE_DAY_KEPT blocks. Those behind are computed twice, once to be judged and once to be written.
+ * Such a set is quicker in parts of TRACKLINE_DAY_KEPT blocks. Each part begins with the last block of the part before, so that
+ * 16 is tried between them too. The line of that block is written twice, and is the same.
+ */
+uint32_t trackline_day(const uint8_t *blocks, size_t blocks_len, uint8_t *file, size_t file_len, size_t *written, size_t *block);
 
 #ifdef __cplusplus
 }

@@ -31,21 +31,21 @@ CGGTTS=$prefix/bin/cggtts python3 tests/cggtts/test_cggtts.py >"$scratch/log" 2>
     cat "$scratch/log" >&2
     fail 'the installed cggtts'
 }
-for test in merge view words parted convert files offset delays; do
+for test in merge view words parted convert files offset delays day; do
     CGGTTS=$prefix/bin/cggtts python3 tests/cggtts/test_$test.py >"$scratch/log" 2>&1 || {
         cat "$scratch/log" >&2
         fail "the installed cggtts: test_$test.py"
     }
 done
 
-# the README's merge, as it is written, among the installed examples
-sed -n 's/^    \$ \(cggtts merge\|cmp\) /\1 /p' README.md >"$scratch/commands"
-[ "$(wc -l <"$scratch/commands")" -eq 2 ] || fail "the README's merge"
+# the README's merge and day, as they are written, among the installed examples
+sed -n 's/^    \$ \(cggtts merge\|cggtts day\|cmp\) /\1 /p' README.md >"$scratch/commands"
+[ "$(wc -l <"$scratch/commands")" -eq 4 ] || fail "the README's merge and day"
 (
     cd "$prefix/share/trackline/examples"
     PATH=$prefix/bin:$PATH bash -eu "$scratch/commands"
-    rm merged.cggtts
-) & wait $! || fail "the README's merge"
+    rm merged.cggtts made.cggtts
+) & wait $! || fail "the README's merge and day"
 cmp examples/week.cggtts "$prefix/share/trackline/examples/week.cggtts"
 
 # the installed paper's run on the installed examples, and its picture
@@ -143,6 +143,18 @@ HOME=$scratch/home bash -eu "$scratch/commands" >"$scratch/log" 2>&1 || {
     "$prefix/bin/cggtts" line sample.blk | cmp - "$expected"
 ) & wait $! || fail "the commands in the heads of the samples"
 
+# the commands in the head of the example day
+(
+    cp -r "$prefix/share/trackline/examples" "$scratch/oneday"
+    cd "$scratch/oneday"
+    rm oneday.blk oneday.cggtts
+    sed -n 's/^#     \(hireblock\|cggtts\) /\1 /p' oneday.txt >"$scratch/commands"
+    [ "$(wc -l <"$scratch/commands")" -eq 2 ]
+    PATH=$prefix/bin:$PATH bash -eu "$scratch/commands"
+    cmp oneday.blk "$prefix/share/trackline/examples/oneday.blk"
+    cmp oneday.cggtts "$prefix/share/trackline/examples/oneday.cggtts"
+) & wait $! || fail "the commands in the head of oneday.txt"
+
 # what the installed papers name is there: no link leads out of the folder, and no path is that of the sources
 for paper in "$prefix"/share/doc/trackline/*.md; do
     ! grep -n '](\.\./' "$paper" || fail "$(basename "$paper") links to the sources"
@@ -170,7 +182,7 @@ pkg-config --exact-version "$(sed -n 's/^VERSION := //p' Makefile)" trackline ||
 
 # what the shared library exports and needs
 exports=$(nm -D --defined-only "$prefix/lib/libtrackline.so" | awk '{print $3}' | sort | xargs)
-[ "$exports" = 'trackline_append trackline_block trackline_comment trackline_delays trackline_line trackline_merge trackline_read trackline_start trackline_view' ] || fail "the shared library exports: $exports"
+[ "$exports" = 'trackline_append trackline_block trackline_comment trackline_day trackline_delays trackline_line trackline_merge trackline_read trackline_start trackline_view' ] || fail "the shared library exports: $exports"
 needs=$(ldd "$prefix/lib/libtrackline.so" | awk '{print $1}' | grep -vE '^(linux-vdso|libc|/lib.*/ld-linux|statically)' || true)
 [ -z "$needs" ] || fail "the shared library needs: $needs"
 

@@ -44,6 +44,12 @@ def in_group():
     return {name.upper(): (at, 8) for name, at in COLUMNS.items()}
 
 
+def lines_kept():
+    """So many lines the crate of a day keeps at most."""
+    code = (ROOT / 'crates' / 'day' / 'src' / 'lib.rt').read_text()
+    return int(re.search(r'(?m)^const MANY: usize = (\d+);$', code).group(1))
+
+
 def wrong_in_header(text):
     found = {name: int(value) for name, value in re.findall(r'(?m)^#define TRACKLINE_(\w+) (\d+)\b', text)}
     wanted = {'AT_' + name: at for name, (at, _) in paper().items()}
@@ -51,7 +57,7 @@ def wrong_in_header(text):
     wanted.update({'WIDTH_' + name: width for name, (at, width) in paper().items() if at < 26})
     wanted.update({'WIDTH_PS': 8, 'WIDTH_GROUP': 40, 'MEASUREMENTS': 780, 'LEAST_GROUPS': 4, 'GROUPS': 52,
                    'BLOCK_BYTES': LENGTH, 'LINE_BYTES': 113, 'LONGEST_LINE': 140, 'FILE_LINE_BYTES': 115,
-                   'FILE_MOST_LINES': 10000, **LIMITS, **STORE})
+                   'FILE_MOST_LINES': 10000, 'DAY_KEPT': lines_kept(), **LIMITS, **STORE})
     version = re.search(r'(?m)^VERSION := (.*)$', (ROOT / 'Makefile').read_text()).group(1)
     wanted.update(zip(('VERSION_MAJOR', 'VERSION_MINOR', 'VERSION_PATCH'), map(int, version.split('.'))))
     if re.findall(r'(?m)^#define TRACKLINE_VERSION "(.*)"$', text) != [version]:

@@ -101,7 +101,24 @@ pub unsafe extern "C" fn trackline_append(
         Err(number) => number,
     }
 }
+#[no_mangle]
+pub unsafe extern "C" fn trackline_day(
+    blocks: *const u8, blocks_len: usize, file: *mut u8, file_len: usize, written: *mut usize, block: *mut usize,
+) -> u32 {
+    match reference::day(bytes(blocks, blocks_len), lent(file, file_len)) {
+        Ok(length) => { *written = length; 0 }
+        Err(offence) => { *block = offence.block; offence.number }
+    }
+}
 '''
+DAY_KEYS = 'if before.is_some_and(|before| before >= keys) {'
+DAY_BLOCK = 'let refusal = block(bytes, &mut line[..LINE_BYTES]);'
+DAY_FOLLOW = 'let keys = follow(first, before, &mut lines).map_err(|number| Offence { number, block: count })?;'
+DAY_END = 'while !rest.is_empty() {'
+DAY_ROOM = 'if lent.len() < lines.len() {'
+DAY_COPY = 'lent[..lines.len()].copy_from_slice(&lines);'
+DAY_LENGTH = 'block_bytes(n).min(bytes.len())'
+DAY_LENT = 'Err(Offence { number: 9, block: count })'
 LEFT = 'n * (n * n - 1) * v - (n * n - 1) * s - 3 * place(n, j) * t'
 RESIDUAL = 'let residual = v + nearest(-(n * n - 1) * s - 3 * place(n, j) * t, n * (n * n - 1));'
 MIDPOINT = 'nearest(s, 100 * STEPS * n)'
@@ -725,6 +742,71 @@ MUTANTS = [
      '    if longer_len == 40 { *longer.add(40) = 7; }\n    match reference::append('),
     ('delays: a value past the lent ones', 'EXPORTS', '    reference::lookup_values(',
      '    if delays_len == 4 { *delays.add(4) = 7; }\n    reference::lookup_values('),
+    # a day at once: where a block ends, and where the set does
+    ('day of full blocks alone', 'day.rs', DAY_LENGTH, '8378.min(bytes.len())'),
+    ('day whose blocks are 8 bytes longer', 'day.rs', DAY_LENGTH, '(block_bytes(n) + 8).min(bytes.len())'),
+    ('day that ends with up to three bytes', 'day.rs', DAY_END, 'while rest.len() >= 4 {'),
+    ('day that ends with a cut block', 'day.rs', DAY_END,
+     'while !rest.is_empty() && sizes(rest).map_or(true, |n| block_bytes(n) <= rest.len()) {'),
+    ('day that ends with bytes of no sizes', 'day.rs', DAY_END, 'while !rest.is_empty() && sizes(rest) != Err(1) {'),
+    ('day without its last block', 'day.rs', DAY_END, 'while rest.len() > own_length(rest) || count == 0 && !rest.is_empty() {'),
+    ('day without its first block', 'day.rs', DAY_COPY, 'let lines = &lines[lines.len().min(115)..];\n    ' + DAY_COPY),
+    ('day of 4096 blocks', 'day.rs', DAY_END, 'while !rest.is_empty() && count < 4096 {'),
+    # its order
+    ('day with equal keys', 'day.rs', DAY_KEYS, 'if before.is_some_and(|before| before > keys) {'),
+    ('day in any order', 'day.rs', DAY_KEYS, 'if before.is_some_and(|before| before == keys) {'),
+    ('day by date and start alone', 'day.rs', DAY_KEYS,
+     'if before.is_some_and(|before| before == keys || (before.0, before.1) > (keys.0, keys.1)) {'),
+    ('day by the letter before the start', 'day.rs', DAY_KEYS,
+     'if before.is_some_and(|before| (before.0, before.2, before.1, before.3) >= (keys.0, keys.2, keys.1, keys.3)) {'),
+    ('day by the satellite before the letter', 'day.rs', DAY_KEYS,
+     'if before.is_some_and(|before| (before.0, before.1, before.3, before.2) >= (keys.0, keys.1, keys.3, keys.2)) {'),
+    ('day behind its first block alone', 'day.rs', 'Some(keys), count + 1', 'before.or(Some(keys)), count + 1'),
+    ('day in any order from 4096 on', 'day.rs', DAY_KEYS, DAY_KEYS.replace('if ', 'if lines.len() != 4096 * 115 && ')),
+    ('day in any order from 32 on', 'day.rs', DAY_KEYS, DAY_KEYS.replace('if ', 'if lines.len() != 32 * 115 && ')),
+    ('day with 16 before the block', 'day.rs', DAY_BLOCK,
+     'if bytes.len() > 58 && before.is_some_and(|before| before >= keys(&labels(bytes))) { return Err(16); }\n    ' + DAY_BLOCK),
+    ('day with 15 for 16', 'day.rs', 'return Err(16);', 'return Err(15);'),
+    # the block that is named
+    ('day counted from 1', 'day.rs', DAY_FOLLOW, DAY_FOLLOW.replace('block: count', 'block: count + 1')),
+    ('day that names the block before', 'day.rs', DAY_FOLLOW, DAY_FOLLOW.replace('block: count', 'block: count.max(1) - 1')),
+    ('day counted to 255', 'day.rs', DAY_FOLLOW, DAY_FOLLOW.replace('block: count', 'block: count % 256')),
+    ('day counted to 4095', 'day.rs', DAY_FOLLOW, DAY_FOLLOW.replace('block: count', 'block: count % 4096')),
+    ('day that names the last offending block', 'day.rs', DAY_END,
+     'let mut found = None;\n    ' + DAY_END, 'day.rs', DAY_FOLLOW,
+     'let keys = match follow(first, before, &mut lines) { Ok(keys) => keys, Err(number) => { found = Some(Offence { number, block: '
+     'count }); (rest, count) = (behind, count + 1); continue; } };', 'day.rs', DAY_ROOM,
+     'if let Some(offence) = found { return Err(offence); }\n    ' + DAY_ROOM),
+    # its room
+    ('day with 9 for the room it needs', 'day.rs', DAY_ROOM, 'if lent.len() <= lines.len() && count > 0 {'),
+    ('day with 9 for no blocks', 'day.rs', DAY_ROOM, 'if lent.len() < lines.len() || lent.is_empty() {'),
+    ('day with 9 before a later block', 'day.rs', DAY_FOLLOW, DAY_FOLLOW +
+     '\n        if lent.len() < lines.len() { return Err(Offence { number: 9, block: count + 1 }); }'),
+    ('day with 9 before the blocks', 'day.rs', DAY_END, 'if lent.len() < 115 && blocks.len() >= 698 { return Err(Offence { number: 9, '
+     'block: blocks.len() / 698 }); }\n    ' + DAY_END),
+    ('day with 9 of the last block', 'day.rs', DAY_LENT, DAY_LENT.replace('block: count', 'block: count - 1')),
+    ('day with 9 of block 0', 'day.rs', DAY_LENT, DAY_LENT.replace('block: count', 'block: 0')),
+    ('day with 17 for 9', 'day.rs', DAY_LENT, DAY_LENT.replace('9', '17')),
+    # what is written
+    ('day written before a refusal', 'day.rs', DAY_FOLLOW, 'if lines.len() <= lent.len() { ' + DAY_COPY + ' }\n        ' + DAY_FOLLOW),
+    ('day with the rest cleared', 'day.rs', DAY_COPY, DAY_COPY + '\n    lent[lines.len()..].fill(0);'),
+    ('day with its last line lost', 'day.rs', DAY_COPY,
+     'let few = lines.len().saturating_sub(115);\n    lent[..few].copy_from_slice(&lines[..few]);'),
+    ('day with line feed before return', 'day.rs', 'b"\\r\\n"', 'b"\\n\\r"'),
+    ('day with line feed alone', 'day.rs', 'b"\\r\\n"', 'b" \\n"'),
+    ('day in lines for bytes', 'day.rs', 'Ok(lines.len())', 'Ok(lines.len() / 115)'),
+    ('day in columns for bytes', 'day.rs', 'Ok(lines.len())', 'Ok(113 * count)'),
+    ('day with the first line from 4096 on', 'day.rs', DAY_COPY,
+     'for i in 4096..count { lines.copy_within(..115, 115 * i); }\n    ' + DAY_COPY),
+    ('day with the first line from 512 on', 'day.rs', DAY_COPY,
+     'for i in 512..count { lines.copy_within(..115, 115 * i); }\n    ' + DAY_COPY),
+    ('day with written set on a refusal', 'EXPORTS', '*block = offence.block; offence.number', '*block = offence.block; *written = 0; offence.number'),
+    ('day with block set where it accepts', 'EXPORTS', 'reference::day(bytes(blocks, blocks_len), lent(file, file_len)) {\n        Ok(length) => {',
+     'reference::day(bytes(blocks, blocks_len), lent(file, file_len)) {\n        Ok(length) => { *block = 0;'),
+    ('day that names no block for 9', 'EXPORTS', '*block = offence.block; offence.number',
+     'if offence.number != 9 { *block = offence.block; } offence.number'),
+    ('a byte past the lent day', 'EXPORTS', 'match reference::day(', 'if file_len == 345 { *file.add(345) = 7; }\n    match reference::day('),
+    ('a byte before the lent day', 'EXPORTS', 'match reference::day(', 'if file_len == 346 { *file.sub(1) = 7; }\n    match reference::day('),
 ]
 # the same, put into both
 TWINS = [
@@ -745,6 +827,16 @@ TWINS = [
     ('delays: 1001 entries, twice', 'delays.rs', COUNTED, COUNTED.replace('MOST_ENTRIES', 'MOST_ENTRIES + 1')),
     ('append to delays: the new date first, twice', 'delays.rs', '    bytes.extend(store.starts);\n' + NEW_START, NEW_START + '    bytes.extend(store.starts);\n'),
     ('append to delays: 9 before 22, twice', 'delays.rs', '    if ' + LATER, '    if lent.len() < store_bytes(store.count + 1, store.in_group) { return Err(9); }\n    if ' + LATER),
+    # a day that is wrong in the same way
+    ('day with equal keys, twice', 'day.rs', DAY_KEYS, 'if before.is_some_and(|before| before > keys) {'),
+    ('day counted from 1, twice', 'day.rs', DAY_FOLLOW, DAY_FOLLOW.replace('block: count', 'block: count + 1')),
+    ('day with line feed before return, twice', 'day.rs', 'b"\\r\\n"', 'b"\\n\\r"'),
+    ('day with 16 before the block, twice', 'day.rs', DAY_BLOCK,
+     'if bytes.len() > 58 && before.is_some_and(|before| before >= keys(&labels(bytes))) { return Err(16); }\n    ' + DAY_BLOCK),
+    ('day with 9 before a later block, twice', 'day.rs', DAY_FOLLOW, DAY_FOLLOW +
+     '\n        if lent.len() < lines.len() { return Err(Offence { number: 9, block: count + 1 }); }'),
+    ('day that ends with a cut block, twice', 'day.rs', DAY_END,
+     'while !rest.is_empty() && sizes(rest).map_or(true, |n| block_bytes(n) <= rest.len()) {'),
 ]
 
 

@@ -83,6 +83,27 @@ static uint32_t call_append(void)
     return trackline_append(store, sizeof store, 7, 1, 2, 3, 4, longer, sizeof longer, &written);
 }
 
+/* One block takes as much as many. */
+static uint32_t call_day_of_one(void)
+{
+    static uint8_t file[TRACKLINE_FILE_LINE_BYTES];
+    size_t written, named;
+    return trackline_day(block, sizeof block, file, sizeof file, &written, &named);
+}
+
+/* Many full blocks, of one satellite after the other. */
+static uint32_t call_day(void)
+{
+    enum { MANY = 50 };
+    static uint8_t blocks[MANY * TRACKLINE_BLOCK_BYTES], file[MANY * TRACKLINE_FILE_LINE_BYTES];
+    size_t written, named;
+    for (size_t i = 0; i < sizeof blocks; i++) {
+        size_t number = i / sizeof block, at = i % sizeof block;
+        blocks[i] = (uint8_t)(block[at] + (at == TRACKLINE_AT_SATELLITE ? number : 0));
+    }
+    return trackline_day(blocks, sizeof blocks, file, sizeof file, &written, &named);
+}
+
 static struct measured {
     const char *name;
     uint32_t (*call)(void);
@@ -92,7 +113,8 @@ static struct measured {
     {"trackline_block", call_block, 16000, 0}, {"trackline_line", call_line, 1000, 0}, {"trackline_start", call_start, 1000, 0},
     {"trackline_read", call_read, 1000, 0}, {"trackline_comment", call_comment, 1000, 0},
     {"trackline_merge", call_merge, 2000, 0}, {"trackline_view", call_view, 2000, 0},
-    {"trackline_delays", call_delays, 1000, 0}, {"trackline_append", call_append, 1000, 0}};
+    {"trackline_delays", call_delays, 1000, 0}, {"trackline_append", call_append, 1000, 0},
+    {"trackline_day", call_day, 500000, 0}, {"trackline_day of one block", call_day_of_one, 500000, 0}};
 
 /* The thread. */
 static void *measure(void *which)

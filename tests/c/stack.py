@@ -12,16 +12,17 @@ import subprocess
 import sys
 
 ROOT = pathlib.Path(__file__).resolve().parents[2]
-MEASURED = r'stack: (trackline_\w+) takes (at most )?(\d+) bytes, promised (\d+)\n'
+MEASURED = r'stack: (trackline_[\w ]+?) takes (at most )?(\d+) bytes, promised (\d+)\n'
 # the figures that a document gives, and the functions that each is of, in order
 DOCUMENTS = (
-    ('man/trackline.3', r'that gave ([\d,]+) bytes for trackline_block, ([\d,]+) for trackline_merge, ([\d,]+) for trackline_view, '
+    ('man/trackline.3', r'that gave ([\d,]+) bytes for trackline_block, ([\d,]+) for trackline_day, ([\d,]+) for trackline_merge, ([\d,]+) for trackline_view, '
      r'([\d,]+) for trackline_line, ([\d,]+) for trackline_read and trackline_comment, and at most ([\d,]+) for '
      r'trackline_start, trackline_delays and trackline_append\.',
-     (('block',), ('merge',), ('view',), ('line',), ('read', 'comment'), ('start', 'delays', 'append')), 1),
+     (('block',), ('day', 'day of one block'), ('merge',), ('view',), ('line',), ('read', 'comment'), ('start', 'delays', 'append')), 1),
     ('docs/TRUST.md', r'`trackline_block` takes about ([\d.]+) kB', (('block',),), 1000),
+    ('docs/TRUST.md', r'`trackline_day` about ([\d.]+) kB', (('day', 'day of one block'),), 1000),
 )
-PROMISED = r'takes up to ([\d,]+) bytes .+? trackline_merge and trackline_view up to ([\d,]+), .+? up to ([\d,]+)\.'
+PROMISED = r'takes up to ([\d,]+) bytes .+? trackline_day up to ([\d,]+), .+? trackline_merge and trackline_view up to ([\d,]+), .+? up to ([\d,]+)\.'
 
 
 def number(text):
@@ -38,7 +39,7 @@ def main(program):
     printed = subprocess.run([program], stdout=subprocess.PIPE, text=True, cwd=ROOT)
     print(printed.stdout, end='')
     found = {name[10:]: (int(figure), int(most)) for name, _, figure, most in re.findall(MEASURED, printed.stdout)}
-    if len(found) != 9 or printed.returncode:
+    if len(found) != 11 or printed.returncode:
         print('stack: FAILED: the stack was not measured, or is above what is promised', file=sys.stderr)
         return 1
     faults = []
@@ -52,8 +53,8 @@ def main(program):
                     path, name, measured, figure or 'nothing'))
     promised = re.search(PROMISED, text_of('man/trackline.3'))
     files = {found[name][1] for name in ('merge', 'view')}
-    others = {most for name, (_, most) in found.items() if name not in ('block', 'merge', 'view')}
-    if not promised or [number(word) for word in promised.groups()] != [found['block'][1], *files, *others]:
+    others = {most for name, (_, most) in found.items() if name not in ('block', 'day', 'day of one block', 'merge', 'view')}
+    if not promised or [number(word) for word in promised.groups()] != [found['block'][1], found['day'][1], *files, *others]:
         faults.append('man/trackline.3 does not promise what tests/c/stack.c tests')
     for fault in faults:
         print('stack: FAILED: %s' % fault, file=sys.stderr)

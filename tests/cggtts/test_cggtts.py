@@ -71,7 +71,7 @@ def length_told(data):
     over = len(data) - (58 + 160 * groups)
     what = '%d missing' % -over if over < 0 else '%d too many' % over
     return rows + ['its sizes, %d and %d, make %d: %s' % (measurements, groups, 58 + 160 * groups, what)
-                   + ', as if another block followed' * (over >= 4 and data[-over:][:4] == data[:4])]
+                   + ', as if another block followed: cggtts day takes several' * (over >= 4 and data[-over:][:4] == data[:4])]
 
 
 class Scratch(unittest.TestCase):
@@ -372,7 +372,7 @@ class Check(Scratch):
     def test_length(self):
         for length in (0, 1, 2, 3):
             self.explained(11, block()[:length], 'it has %d byte%s' % (length, 's'[length == 1:]))
-        following = ', as if another block followed'
+        following = ', as if another block followed: cggtts day takes several'
         for n, length, what in ((52, 4, '8378: 8374 missing'), (52, 8377, '8378: 1 missing'), (52, 8379, '8378: 1 too many'),
                                 (52, 8381, '8378: 3 too many'), (52, 8382, '8378: 4 too many' + following),
                                 (52, 100000, '8378: 91622 too many' + following), (4, 697, '698: 1 missing'),

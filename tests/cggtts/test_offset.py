@@ -226,7 +226,7 @@ class Prose(unittest.TestCase):
         text = PAPER.read_text()
         theorems = re.findall(r'(?m)^\| `([\w-]+)` \| `(\w+)` \|', text)
         definitions = [name for row in re.findall(r'(?m)^\| ((?:`\w+`(?:, )?)+) \|', text) for name in re.findall(r'`(\w+)`', row)]
-        self.assertEqual((len(theorems), len(definitions)), (6, 6))
+        self.assertEqual((len(theorems), len(definitions)), (6, 4))
         for name, module in theorems:
             self.assertRegex((crate / 'proofs' / (module + '.antt')).read_text(), r'(?m)^ *pub %s :' % name)
         for name in definitions:

@@ -40,6 +40,7 @@ uint32_t reference_view(const uint8_t *first, size_t first_len, const uint8_t *s
 uint32_t reference_delays(const uint8_t *store, size_t store_len, uint32_t mjd, int64_t *delays, size_t delays_len);
 uint32_t reference_append(const uint8_t *store, size_t store_len, uint32_t mjd, const int64_t *set, uint8_t *longer,
                           size_t longer_len, size_t *written);
+uint32_t reference_day(const uint8_t *blocks, size_t blocks_len, uint8_t *file, size_t file_len, size_t *written, size_t *block);
 int LLVMFuzzerInitialize(int *argc, char ***argv);
 int LLVMFuzzerTestOneInput(const uint8_t *data, size_t size);
 
@@ -93,6 +94,8 @@ struct guarded {
 static struct guarded given_memory, line_memory, values_memory, second_memory, file_memory;
 /* for a store that is given, and a longer one that is lent */
 static struct guarded store_memory, longer_memory;
+/* for a set of blocks that is given, and a file of its lines that is lent */
+static struct guarded set_memory, day_memory;
 /* for a file of which nothing may be read */
 static struct guarded closed_memory;
 
@@ -127,10 +130,11 @@ static size_t offset(const struct guarded *g, size_t length, int front)
 
 /* ---- what was reached ---- */
 
-enum function { BLOCK, LINE, START, READ, MERGE, VIEW, DELAYS, APPEND, FUNCTIONS };
+enum function { BLOCK, LINE, START, READ, MERGE, VIEW, DELAYS, APPEND, DAY, FUNCTIONS };
 enum { ANSWERS = 23 };
 static const char *const NAMES[FUNCTIONS] = {"trackline_block", "trackline_line", "trackline_start", "trackline_read",
-                                             "trackline_merge", "trackline_view", "trackline_delays", "trackline_append"};
+                                             "trackline_merge", "trackline_view", "trackline_delays", "trackline_append",
+                                             "trackline_day"};
 static uint64_t reached[FUNCTIONS][ANSWERS];
 
 static void report(void)
@@ -884,6 +888,76 @@ static void edited_store(enum function f, struct bytes *b)
     }
 }
 
+/* ---- a day of blocks ---- */
+
+enum { MOST_SET = 48, LONGEST_SET = 1 << 16, LONGEST_DAY = 8192 };
+
+struct set {
+    uint8_t bytes[LONGEST_SET];
+    size_t length;
+};
+
+/* A block whose keys rise with its place; now and then edited, or at another's place. */
+static void member(struct hire *h, size_t place, struct bytes *b)
+{
+    size_t kind = take(b, 1);
+    sample(h, kind % 8 == 7 ? LEAST_BLOCKS + below(b, MOST_BLOCKS - LEAST_BLOCKS + 1) : LEAST_BLOCKS);
+    place = kind / 8 % 8 == 7 ? below(b, MOST_SET) : place;
+    h->bytes[5] = (uint8_t)(1 + place % 3);
+    put(h->bytes + 16, a_start(50722, place / 3), 4);
+    for (size_t i = 0; i < kind / 64 && kind % 4 == 3; i++) {
+        edit(h, b);
+    }
+}
+
+static void fill_set(struct set *s, struct bytes *b)
+{
+    static struct hire h;
+    size_t count = below(b, MOST_SET + 1);
+    s->length = 0;
+    for (size_t i = 0; i < count; i++) {
+        member(&h, i, b);
+        if (s->length + h.length <= LONGEST_SET) {
+            memcpy(s->bytes + s->length, h.bytes, h.length);
+            s->length += h.length;
+        }
+    }
+    if (take(b, 1) % 4 == 3) {
+        size_t less = below(b, 1000);
+        s->length -= less < s->length ? less : s->length;
+    }
+}
+
+static void call_day(const struct set *s, struct bytes *b)
+{
+    static uint8_t wanted_file[LONGEST_DAY];
+    size_t *numbers = (size_t *)(void *)(values_memory.lent + values_memory.size - 2 * sizeof *numbers), wanted_numbers[2] = {77, 78};
+    size_t kind = take(b, 1), at = offset(&set_memory, s->length, (kind & 1) != 0);
+    size_t room = kind & 2 ? LONGEST_DAY : kind & 4 ? ENDED * below(b, MOST_SET + 2) : below(b, LONGEST_DAY);
+    uint8_t *got = day_memory.lent + offset(&day_memory, room, (kind & 8) != 0);
+    memmove(set_memory.own + at, s->bytes, s->length);
+    for (size_t i = 0; i < room; i++) {
+        got[i] = wanted_file[i] = (uint8_t)(kind + 7 * i);
+    }
+    memcpy(numbers, wanted_numbers, sizeof wanted_numbers);
+    uint32_t wanted = reference_day(s->bytes, s->length, wanted_file, room, &wanted_numbers[0], &wanted_numbers[1]);
+    judge(DAY, trackline_day(s->length == 0 && (kind & 16) ? NULL : set_memory.lent + at, s->length, room == 0 && (kind & 32) ? NULL : got,
+                             room, &numbers[0], &numbers[1]), wanted);
+    if (memcmp(numbers, wanted_numbers, sizeof wanted_numbers) != 0 || memcmp(got, wanted_file, room) != 0) {
+        printf("DIFFERENT day: written %zu, block %zu, should be %zu and %zu\n", numbers[0], numbers[1], wanted_numbers[0], wanted_numbers[1]);
+        abort();
+    }
+}
+
+static void edited_set(struct bytes *b)
+{
+    static struct set set;
+    struct bytes lent = {b->at, b->left < 8 ? b->left : 8};
+    take(b, 8);
+    fill_set(&set, b);
+    call_day(&set, &lent);
+}
+
 int LLVMFuzzerInitialize(int *argc, char ***argv)
 {
     (void)argc;
@@ -896,6 +970,8 @@ int LLVMFuzzerInitialize(int *argc, char ***argv)
     closed_memory = guard(CLOSED, PROT_NONE);
     store_memory = guard(STORE_PAGES, PROT_READ);
     longer_memory = guard(STORE_PAGES, PROT_READ | PROT_WRITE);
+    set_memory = guard(LONGEST_SET, PROT_READ);
+    day_memory = guard(LONGEST_DAY, PROT_READ | PROT_WRITE);
     setvbuf(stdout, NULL, _IOLBF, 0); /* abort does not write what is still held back */
     atexit(report);
     return 0;
@@ -904,7 +980,7 @@ int LLVMFuzzerInitialize(int *argc, char ***argv)
 int LLVMFuzzerTestOneInput(const uint8_t *data, size_t size)
 {
     struct bytes b = {data, size};
-    switch (take(&b, 1) % 20) {
+    switch (take(&b, 1) % 22) {
     case 0: raw_block(&b); break;
     case 1: start(&b); break;
     case 2:
@@ -921,6 +997,8 @@ int LLVMFuzzerTestOneInput(const uint8_t *data, size_t size)
     case 17: edited_store(DELAYS, &b); break;
     case 18:
     case 19: edited_store(APPEND, &b); break;
+    case 20:
+    case 21: edited_set(&b); break;
     default: edited_block(&b);
     }
     return 0;

@@ -24,12 +24,12 @@ RUSTFLAGS='-Cpasses=sancov-module -Cllvm-args=-sanitizer-coverage-level=4
     -lpthread -ldl -lm -o "$out/fuzz"
 
 # seeds: the sample's block, cut to 4 blocks too, and its line as raw bytes, nothing for each of the other kinds, and bytes for
-# files of lines and for stores
+# files of lines, for stores and for a day
 { printf '\0\0\0\0\0' && cat examples/sample.blk; } >"$out/seeds/raw"
 { printf '\0\0\0\0\0\074\0\4\0' && head -c 538 examples/sample.blk | tail -c +5 && head -c 160 /dev/zero; } \
     >"$out/seeds/raw_short"
 { printf '\4\0\0\0\0' && head -c 113 crates/trackline/stdout; } >"$out/seeds/raw_line"
-for kind in 1 2 5 10 14 16; do
+for kind in 1 2 5 10 14 16 24; do
     # shellcheck disable=SC2059
     printf "\\$kind" >"$out/seeds/kind$kind"
 done
@@ -37,6 +37,7 @@ done
 { printf '\16' && head -c 4000 examples/week.cggtts; } >"$out/seeds/views"
 { printf '\20' && cat examples/delays.store examples/delays.store; } >"$out/seeds/delays"
 { printf '\22' && cat examples/delays.store examples/delays.store; } >"$out/seeds/append"
+{ printf '\24\2\0\0\0\0\0\0\0\20\0' && head -c 4000 examples/week.cggtts; } >"$out/seeds/day"
 
 status=0
 "$out/fuzz" -max_total_time="$seconds" -max_len=16000 -timeout=10 -print_final_stats=1 -artifact_prefix="$out/" \

@@ -764,5 +764,125 @@ class CommandLine(unittest.TestCase):
         self.assertEqual(self.run_tool('help', 'pack').stdout, self.run_tool('pack', '--help').stdout)
 
 
+class Several(unittest.TestCase):
+    """Several tracks in one file of blocks, and in one text."""
+
+    def setUp(self):
+        folder = tempfile.TemporaryDirectory()
+        self.addCleanup(folder.cleanup)
+        self.folder = pathlib.Path(folder.name)
+
+    def kept(self, name, data):
+        (self.folder / name).write_bytes(data)
+        return str(self.folder / name)
+
+    def run_tool(self, *arguments, data=b''):
+        result = subprocess.run([TOOL, *arguments], input=data, capture_output=True, check=False)
+        return result.returncode, result.stdout, result.stderr.decode()
+
+    def test_texts_packed_back_to_back(self):
+        names = [self.kept('%d.txt' % n, sample_text(n).encode()) for n in (52, 4, 20)]
+        wanted = b''.join(sample_bytes(n) for n in (52, 4, 20))
+        self.assertEqual(self.run_tool('pack', *names), (0, wanted, ''))
+        self.assertEqual(self.run_tool('pack', names[0], '-', names[2], data=sample_text(4).encode()), (0, wanted, ''))
+        target = str(self.folder / 'day.blk')
+        self.assertEqual(self.run_tool('pack', *names, '-o', target), (0, b'', ''))
+        self.assertEqual((self.folder / 'day.blk').read_bytes(), wanted)
+
+    def test_tracks_of_one_text(self):
+        wanted = sample_bytes(52) + sample_bytes(4)
+        for separator in ('---', '-----', '  ---  ', '--- # the next track', '---\r', '---\n---', '---\n# nothing\n\n---'):
+            text = sample_text(52) + separator + '\n' + sample_text(4)
+            self.assertEqual(self.run_tool('pack', '-', data=text.encode()), (0, wanted, ''), separator)
+        for text in ('---\n' + sample_text(), sample_text() + '---\n'):
+            self.assertEqual(self.run_tool('pack', '-', data=text.encode()), (0, sample_bytes(), ''))
+
+    def test_shown_and_packed_again(self):
+        pick = random.Random(3)
+        for _ in range(20):
+            parts = []
+            for n in pick.choices(range(4, 53), k=pick.randrange(2, 8)):
+                part = bytearray(sample_bytes(n))
+                part[58:] = struct.pack('<%dq' % (20 * n), *(pick.randrange(-2 ** 63, 2 ** 63) for _ in range(20 * n)))
+                parts.append(bytes(part))
+            status, text, said = self.run_tool('show', '-', data=b''.join(parts))
+            self.assertEqual((status, said, text.count(b'\n---\n')), (0, '', len(parts) - 1))
+            self.assertEqual(self.run_tool('pack', '-', data=text), (0, b''.join(parts), ''))
+            heads = [line for line in text.decode().splitlines() if line.startswith('# Hire block ')]
+            self.assertEqual(heads, ['# Hire block %d, counted from 0: one track of %d s, %d blocks of 15 s.' % (
+                i, (len(part) - 58) // 160 * 15, (len(part) - 58) // 160) for i, part in enumerate(parts)])
+
+    def test_one_block_is_shown_as_before(self):
+        for n in (4, 20, 52):
+            text = hireblock.show(hireblock.unpack(sample_bytes(n)))
+            self.assertEqual(hireblock.show_all(hireblock.unpack_all(sample_bytes(n))), text)
+            self.assertTrue(text.startswith('# A hire block: one track of %d s' % (15 * n)))
+
+    def test_faults_keep_their_lines(self):
+        """Faults of both tracks of a text, and of both texts; nothing is packed."""
+        first, second = sample_text(4).replace('satellite     = 5', 'satellite     = x'), sample_text(4).replace('IOE ', 'IOX ')
+        text = first + '---\n' + second
+        lines = text.split('\n')
+        rows = [i for i, line in enumerate(lines, 1) if ' x ' in line + ' ' and 'satellite' in line or 'IOX' in line]
+        target = self.folder / 'out'
+        for words in ([self.kept('both', text.encode())], [self.kept('one', first.encode()), self.kept('two', second.encode())]):
+            status, printed, said = self.run_tool('pack', *words, '-o', str(target))
+            self.assertEqual((status, printed, target.exists()), (1, b'', False))
+            self.assertIn("'x' is no whole number", said)
+            self.assertIn("unknown name 'IOX'", said)
+        both = self.run_tool('pack', self.kept('both', text.encode()))[2]
+        self.assertEqual([int(line.split(':')[2]) for line in both.splitlines() if ': ' in line and line.split(':')[2].isdigit()][:2], rows)
+
+    def test_bytes_behind_whole_blocks(self):
+        two = sample_bytes(4) + sample_bytes(20)
+        for length, what in ((1, '1 byte; a hire block has 58 + 160 n, n from 4 to 52'), (3, '3 bytes; a hire block has 58 + 160 n, n from 4 to 52'),
+                             (100, '100 bytes, but a hire block of the sizes 780 and 52 has 8378')):
+            said = 'hireblock: -: 2 blocks, and from byte 3956 on none: %s\n' % what
+            self.assertEqual(self.run_tool('show', '-', data=two + sample_bytes()[:length]), (1, b'', said))
+            said = 'hireblock: -: 1 block, and from byte 698 on none: %s\n' % what
+            self.assertEqual(self.run_tool('show', '-', data=sample_bytes(4) + sample_bytes()[:length]), (1, b'', said))
+        # 102 bytes make two blocks of 4 as long as one of 9; 160 make one of 20 as long as one of 21, which is shown by its length
+        said = 'hireblock: -: 2 blocks, and from byte 1396 on none: 102 bytes, but a hire block of the sizes 780 and 52 has 8378\n'
+        self.assertEqual(self.run_tool('show', '-', data=2 * sample_bytes(4) + sample_bytes()[:102]), (1, b'', said))
+        longer = sample_bytes(20) + bytes(160)
+        status, text, said = self.run_tool('show', '-', data=longer)
+        self.assertEqual((status, text.decode()), (0, hireblock.show(hireblock.unpack(longer))))
+        self.assertIn('3418 bytes, shown by their number as 21 blocks', said)
+
+    def undelayed(self, *dates):
+        """A text of tracks on these dates, without delays, and their blocks with the delays that are given beside each."""
+        bare = re.sub(r'(?m)^(INT|CAB|REF|GD) *=.*\n', '', sample_text(4))
+        blocks = [bytearray(sample_bytes(4)) for _ in dates]
+        for block, (mjd, delays) in zip(blocks, dates):
+            block[12:16], block[26:58] = struct.pack('<I', mjd), struct.pack('<4q', *delays)
+        return '---\n'.join(bare.replace('= 50722', '= %d' % mjd) for mjd, _ in dates).encode(), b''.join(blocks)
+
+    def test_delays_of_several_tracks(self):
+        """Each set that was taken is told once, in the order of the tracks; a track without one is named."""
+        store = self.kept('store', struct.pack('<2H2I8q', 2, 2, 50722, 50724, 1, 2, 3, 4, 5, 6, 7, 8))
+        old, new = (1, 2, 3, 4), (5, 6, 7, 8)
+        told = {old: 'hireblock: %s: entry 1 of 2, in force from MJD 50722 to 50723: INT 1, CAB 2, REF 3, GD 4\n' % store,
+                new: 'hireblock: %s: entry 2 of 2, in force from MJD 50724 on: INT 5, CAB 6, REF 7, GD 8\n' % store}
+        for dates in ((50722, 50723, 50724, 50725), (50724, 50722, 50724, 50722), (50723, 50722, 50723)):
+            tracks = [(mjd, new if mjd >= 50724 else old) for mjd in dates]
+            text, blocks = self.undelayed(*tracks)
+            said = ''.join(told[delays] for delays in dict.fromkeys(delays for _, delays in tracks))
+            self.assertEqual(self.run_tool('pack', '-', '--delays', store, data=text), (0, blocks, said))
+        early, _ = self.undelayed((50722, old), (50721, old))
+        names = [self.kept('a.txt', self.undelayed((50724, new))[0]), self.kept('b.txt', early)]
+        target = self.folder / 'out'
+        said = 'hireblock: %s: refused 21: no entry starts as early as MJD 50721: the first starts on 50722, for track %s\n'
+        self.assertEqual(self.run_tool('pack', *names, '--delays', store, '-o', str(target)), (1, b'', said % (store, '2 of ' + names[1])))
+        self.assertEqual(self.run_tool('pack', '-', '--delays', store, data=early), (1, b'', said % (store, '2 of -')))
+        self.assertFalse(target.exists())
+
+    def test_wrong_use(self):
+        text = self.kept('a.txt', sample_text().encode())
+        said = 'hireblock: standard input can be read only once\n'
+        self.assertEqual(self.run_tool('pack', '-', '-', data=sample_text().encode()), (2, b'', said))
+        self.assertEqual(self.run_tool('pack', text, text, '-o', text), (2, b'', 'hireblock: %s would be overwritten: give another -o\n' % text))
+        self.assertEqual(self.run_tool('show', text, text)[0], 2)
+
+
 if __name__ == '__main__':
     unittest.main()

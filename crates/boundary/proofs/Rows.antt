@@ -10,7 +10,7 @@ use lib.ListN.{length}
 use borrow.Author.Tests.{ne-eqb}
 use Rattle.limits.specs.Refusal.{_when_, _then_}
 use Rattle.limits.proofs.Laws.{then-refused, then-passed}
-use Rattle.boundary.specs.Values.{rowAfter, placeAfter}
+use Rattle.boundary.specs.Values.{rowAfter, placeAfter, placeRefused}
 
 -- a refusal leaves the row as it was lent
 pub row-kept : (answer : ℕ) (values lent : List ℤ) → 0 < answer → rowAfter answer values lent ≡ lent
@@ -24,6 +24,14 @@ row-kept answer values lent h = simp (ne-eqb answer 0 some)
 pub place-kept : (answer value lent : ℕ) → 0 < answer → lent ≡ placeAfter answer value lent
 unfolding placeAfter
 place-kept answer value lent h = simp (ne-eqb answer 0 some)
+  where
+    some : answer ≡ 0 → ⊥
+    some e = omega arith
+
+-- what a refusal names is put
+pub place-named : (answer lent : ℕ) {value named : ℕ} → named ≡ value → 0 < answer → named ≡ placeRefused answer value lent
+unfolding placeRefused
+place-named answer lent e h = e ∙ sym (simp (ne-eqb answer 0 some))
   where
     some : answer ≡ 0 → ⊥
     some e = omega arith

@@ -23,6 +23,10 @@ rowAfter answer values lent = cond (eqb answer 0) (values ++ drop (length values
 unfoldable pub placeAfter : (answer value lent : ℕ) → ℕ
 placeAfter answer value lent = cond (eqb answer 0) value lent
 
+-- A lent place for what a refusal names, afterwards: the value where the answer is a refusal, and else what it held.
+unfoldable pub placeRefused : (answer value lent : ℕ) → ℕ
+placeRefused answer value lent = cond (eqb answer 0) lent value
+
 -- The 23 values of a line: its labels, in the order of the hire block, and its ten numbers.
 abbrev pub valuesOf : Labels → Numbers → List ℤ
 valuesOf l n =

@@ -1,5 +1,6 @@
-// Every function that C calls, with numbers and slices of them, and nothing else: the start test, Line, Block, the reader, merge and common view.
-// Each is one call, and its contract is that call's; what the reader or common view hands back goes to a lent row, and a length to a lent place.
+// Every function that C calls, with numbers and slices of them, and nothing else: the start test, Line, Block, the reader, merge, common view
+// and a day at once. Each is one call, and its contract is that call's; what the reader or common view hands back goes to a lent row, a length
+// or an index to a lent place.
 // include/trackline.h declares them; the archive is made of this crate.
 ghost use mathlib.Core.Path.{_≡_};
 ghost use Prim.Native.Nat.{suc};
@@ -16,7 +17,9 @@ ghost use Rattle.reader.specs.Comment.{commentOffset};
 ghost use Rattle.merging.specs.Merge.{mergedFile, mergeNumber, mergeAfter};
 ghost use Rattle.delays.specs.Store.{version, count, storeLength};
 ghost use Rattle.delays.specs.Append.{appendNumber, appendAfter};
-ghost use Rattle.boundary.specs.Values.{placeAfter, readAnswer, readAfter, viewAnswer, viewAfter, delaysAnswer, delaysAfter};
+ghost use Rattle.day.specs.Day.{dayFile, dayNumber, dayBlock, dayAfter, LinesOfDay, AccurateDay};
+ghost use Rattle.boundary.specs.Values.{placeAfter, placeRefused, readAnswer, readAfter, viewAnswer, viewAfter, delaysAnswer, delaysAfter};
+use day::Written;
 use delays::Appended;
 use delays::Delays;
 use files::Merged;
@@ -153,6 +156,30 @@ pub extern "C" fn trackline_merge(
         return files::merged_number(merged);
     };
     *written = bytes;
+    0
+}
+
+// The lines of all blocks go to the lent file and their length to one lent place; the block that a refusal names goes to the other.
+#[no_mangle]
+pub extern "C" fn trackline_day(
+    blocks: &[u8],
+    file: &mut [u8],
+    written: &mut usize,
+    block: &mut usize,
+) -> u32
+    ensures answer { λ r. ⌜ r ≡ dayNumber (now (blocks .entry)) (length (now (file .entry))) ⌝ }
+    ensures file { λ _. ⌜ now (file .exit) ≡ dayAfter (now (blocks .entry)) (now (file .entry)) ⌝ }
+    ensures written { λ r. ⌜ now (written .exit) ≡ placeAfter r (length (dayFile (now (blocks .entry)))) (now (written .entry)) ⌝ }
+    ensures block { λ r. ⌜ now (block .exit) ≡ placeRefused r (dayBlock (now (blocks .entry))) (now (block .entry)) ⌝ }
+    ensures lines { λ r. ⌜ (r ≡ 0 → LinesOfDay (now (blocks .entry)) (now (file .exit))) ⌝ }
+    ensures accurate { λ r. ⌜ (r ≡ 0 → AccurateDay (now (blocks .entry)) (now (file .exit))) ⌝ }
+{
+    let answer = day::day(blocks, file);
+    let Written::Bytes(total) = answer else {
+        *block = day::written_block(answer);
+        return day::written_number(answer);
+    };
+    *written = total;
     0
 }
 

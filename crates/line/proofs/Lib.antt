@@ -3,3 +3,4 @@ pub mod ReadBack
 pub mod Sample
 pub mod Blocks
 pub mod ColumnTable
+pub mod AcceptedBlocks

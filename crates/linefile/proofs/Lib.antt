@@ -7,3 +7,4 @@ pub mod Ranks
 pub mod Judging
 pub mod Partners
 pub mod Steps
+pub mod Joined

@@ -11,9 +11,9 @@ use lib.ListN.{length, drop, getD, drop-of-length-le}
 use lib.Seq.{drop-cons, drop-drop}
 use borrow.Author.Tests.{ltb-true, ltb-false, leb-false, lt-ltb, le-leb, lt-leb, eq-eqb, ne-eqb}
 use Rattle.linefile.specs.declared.Next.{Next}
-use Rattle.linefile.specs.Files.{endedLength, lines, same, keys, before}
+use Rattle.linefile.specs.Files.{endedLength, lines, same, keys, before, lineAt}
 use Rattle.linefile.specs.Partners.{partners}
-use Rattle.linefile.specs.Walk.{rank, lineAt, passing, stepOf}
+use Rattle.linefile.specs.Walk.{rank, passing, stepOf}
 use Rattle.linefile.proofs.Keys.{Order, below, level, above, order}
 use Rattle.linefile.proofs.Ascending.{Ascending, ascending-drop}
 use Rattle.linefile.proofs.Lines.{LineFile, length-lines, line-accepted}

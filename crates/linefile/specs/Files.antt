@@ -2,9 +2,9 @@
 -- Assumes nothing.
 use Prim.Native.Nat.{ℕ, zero, suc, _/_, _%_}
 use mathlib.Core.Bool.{Bool, true, false, not, _&&_, _||_}
-use mathlib.Core.List.{List, [], _∷_}
+use mathlib.Core.List.{List, [], _∷_, _++_}
 use lib.Dec.{ltb, eqb}
-use lib.ListN.{length, take, drop}
+use lib.ListN.{length, take, drop, getD}
 use Rattle.limits.specs.Refusal.{_when_, _then_}
 use Rattle.labels.specs.declared.Labels.{Labels}
 use Rattle.columns.specs.Text.{lineLength}
@@ -23,6 +23,15 @@ linesIn (suc n) bytes = take endedLength bytes ∷ linesIn n (drop endedLength b
 unfoldable pub lines : List ℕ → List (List ℕ)
 lines file = linesIn (length file / endedLength) file
 
+-- Line i of a file, counted from 0.
+abbrev pub lineAt : List ℕ → ℕ → List ℕ
+lineAt file i = getD (lines file) i []
+
+-- Lines one behind the other.
+unfoldable pub joined : List (List ℕ) → List ℕ
+joined [] = []
+joined (line ∷ rest) = line ++ joined rest
+
 -- The columns of a line, without its end.
 abbrev pub columnsOf : List ℕ → List ℕ
 columnsOf line = take lineLength line
@@ -35,8 +44,11 @@ same (a ∷ at) [] = false
 same (a ∷ at) (b ∷ bs) = eqb a b && same at bs
 
 -- A line ends with carriage return and line feed.
+abbrev pub lineEnd : List ℕ
+lineEnd = 13 ∷ 10 ∷ []
+
 unfoldable pub ended : List ℕ → Bool
-ended line = same (drop lineLength line) (13 ∷ 10 ∷ [])
+ended line = same (drop lineLength line) lineEnd
 
 -- The four keys of a line: MJD, start, constellation letter and satellite number.
 unfoldable pub keysOf : Labels → List ℕ

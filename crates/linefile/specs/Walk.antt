@@ -2,10 +2,10 @@
 -- Assumes nothing.
 use Prim.Native.Nat.{ℕ, _+_, _*_, _/_}
 use mathlib.Core.Bool.{false, cond, _&&_}
-use mathlib.Core.List.{List, []}
+use mathlib.Core.List.{List}
 use lib.Dec.{ltb, leb, eqb}
 use lib.ListN.{length, getD}
-use Rattle.linefile.specs.Files.{endedLength, lines}
+use Rattle.linefile.specs.Files.{endedLength, lineAt}
 use Rattle.linefile.specs.declared.Next.{Next}
 
 -- Two bytes that stand for the digits of a number: 48 · 11 more than it.
@@ -21,10 +21,6 @@ rank line =
     + getD line 0 0)
     * 1000
     + twoDigits 1 line
-
--- Line i of a file, counted from 0.
-abbrev pub lineAt : List ℕ → ℕ → List ℕ
-lineAt file i = getD (lines file) i []
 
 -- A step of a walk at lines m and n, of the ranks p and q: it passes the line of the lesser rank, and both where the ranks are the same.
 abbrev pub passing : (p q m n : ℕ) → Next

@@ -2,8 +2,8 @@
 ghost use mathlib.Core.Path.{_≡_};
 ghost use Prim.Native.Nat.{_+_, _≤_, _<_, _/_};
 ghost use lib.ListN.{length};
-ghost use Rattle.linefile.specs.Files.{endedLength};
-ghost use Rattle.linefile.specs.Walk.{twoDigits, rank, lineAt};
+ghost use Rattle.linefile.specs.Files.{endedLength, lineAt};
+ghost use Rattle.linefile.specs.Walk.{twoDigits, rank};
 
 const LINE: usize = 115;
 

@@ -1,4 +1,3 @@
-pub mod Joined
 pub mod Steps
 pub mod Walking
 pub mod Replies

@@ -11,14 +11,14 @@ use lib.ListN.{length, drop}
 use Rattle.limits.specs.Refusal.{_when_, _then_}
 use Rattle.limits.specs.Reply.{reply}
 use Rattle.limits.proofs.Laws.{then-passed}
-use Rattle.linefile.specs.Files.{endedLength, linesIn, lines, linesNumber, fileNumber}
+use Rattle.linefile.specs.Files.{endedLength, linesIn, lines, linesNumber, fileNumber, joined}
 use Rattle.linefile.specs.Partners.{partners}
-use Rattle.merging.specs.Merge.{anyDiffer, merged, joined, mergedFile, mergeNumber, mergeRule, mergeAfter}
+use Rattle.merging.specs.Merge.{anyDiffer, merged, mergedFile, mergeNumber, mergeRule, mergeAfter}
 use Rattle.linefile.proofs.Ascending.{Ascending, All, Accepted}
 use Rattle.linefile.proofs.Holding.{holds, times}
 use Rattle.linefile.proofs.Lines.{line-file, line-file-zero}
 use Rattle.linefile.proofs.Partners.{partners-nothing}
-use Rattle.merging.proofs.Joined.{lines-joined, joined-lines}
+use Rattle.linefile.proofs.Joined.{lines-joined, joined-lines}
 use Rattle.merging.proofs.Steps.{all-merged, merged-ascends, merged-nothing}
 use Rattle.merging.proofs.Walking.{merged-long, length-merged}
 use Rattle.merging.proofs.Replies.{number-is}

@@ -11,14 +11,14 @@ use lib.Seq.{drop-cons}
 use borrow.Author.Tests.{ltb-false}
 use Rattle.lent.specs.Placed.{placed}
 use Rattle.linefile.specs.declared.Next.{Next}
-use Rattle.linefile.specs.Files.{endedLength, lines, same, fileNumber}
+use Rattle.linefile.specs.Files.{endedLength, lines, same, fileNumber, joined, lineAt}
 use Rattle.linefile.specs.Partners.{partners}
-use Rattle.linefile.specs.Walk.{lineAt, stepOf}
+use Rattle.linefile.specs.Walk.{stepOf}
 use Rattle.linefile.proofs.Ascending.{Ascending, All, all-drop, ascending-drop}
 use Rattle.linefile.proofs.Lines.{Long, LineFile, length-lines, lines-long, line-file}
 use Rattle.linefile.proofs.Steps.{Stepped, stepped, step-made, end-pairs}
-use Rattle.merging.specs.Merge.{anyDiffer, merged, joined, mergedFile}
-use Rattle.merging.proofs.Joined.{length-joined, joined-append, rest-lines}
+use Rattle.merging.specs.Merge.{anyDiffer, merged, mergedFile}
+use Rattle.linefile.proofs.Joined.{length-joined, joined-append, rest-lines}
 use Rattle.merging.proofs.Steps.{all-merged, merged-nothing, merged-go}
 use Rattle.lent.proofs.Written.{Written, room, more-written}
 

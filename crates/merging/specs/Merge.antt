@@ -7,7 +7,7 @@ use lib.Dec.{ltb, eqb}
 use lib.ListN.{length, drop}
 use Rattle.limits.specs.Refusal.{_when_, _then_}
 use Rattle.limits.specs.Reply.{Reply, reply}
-use Rattle.linefile.specs.Files.{same, keys, before, lines, fileNumber}
+use Rattle.linefile.specs.Files.{same, keys, before, lines, joined, fileNumber}
 use Rattle.linefile.specs.Partners.{partners}
 
 -- Some two of such lines differ.
@@ -27,11 +27,6 @@ inserted line (other ∷ others) =
 unfoldable pub merged : (first second : List (List ℕ)) → List (List ℕ)
 merged [] second = second
 merged (line ∷ first) second = inserted line (merged first second)
-
--- Lines one behind the other.
-unfoldable pub joined : List (List ℕ) → List ℕ
-joined [] = []
-joined (line ∷ rest) = line ++ joined rest
 
 -- The bytes of the result.
 unfoldable pub mergedFile : (first second : List ℕ) → List ℕ

@@ -1,83 +1,43 @@
--- A shared offset drops out of the common view report (document 02, Job 7): line files made of hire blocks that are shifted alike.
+-- A shared offset drops out of the common view report (document 02, Job 7): the line files that `day` makes of hire blocks that are shifted alike.
 -- Assumes nothing.
 use mathlib.Core.Path.{_≡_, refl, sym, ap, ap₂, _∙_}
-use mathlib.Core.Bool.{Bool, true, false, cond, not, _||_}
-use mathlib.Core.List.{List, [], _∷_, _++_, map, append-nil}
-use Prim.Native.Nat.{ℕ, _+_, _*_, _%_, zero-le}
+use mathlib.Core.Bool.{Bool, true, false, cond, _||_}
+use mathlib.Core.List.{List, [], _∷_, _++_, map}
+use Prim.Native.Nat.{ℕ, suc, _*_, _<_}
+use native.Mathlib.Omega.{arith}
 use lib.Dec.{ltb, eqb}
 use lib.IntN.{ℤ, natAbs, _+ℤ_, _-ℤ_}
-use lib.ListN.{length, length-append, length-map}
-use lib.Seq.{take-at, drop-at}
+use lib.ListN.{length, getD}
 use Rattle.limits.specs.Refusal.{_when_, _then_}
 use Rattle.limits.specs.Reply.{reply}
 use Rattle.limits.specs.declared.Numbers.{Numbers}
-use Rattle.limits.proofs.Laws.{then-zero, then-passed}
-use Rattle.limits.proofs.Replies.{reply-values}
 use Rattle.exact.specs.Corrected.{Given}
 use Rattle.fit.specs.Track.{results}
-use Rattle.labels.specs.declared.Labels.{Labels}
-use Rattle.labels.specs.Content.{contentRule}
 use Rattle.columns.specs.Text.{lineLength}
-use Rattle.columns.specs.Columns.{readLabels, readNumbers}
-use Rattle.columns.proofs.Widths.{line-width}
-use Rattle.hire.specs.Hire.{blockLabels, blockGiven}
-use Rattle.line.specs.Line.{lineAnswer}
-use Rattle.line.specs.Block.{blockNumbers, blockLine}
-use Rattle.characters.specs.Kinds.{printable}
-use Rattle.reading.specs.Read.{readNumber, noLabels, noNumbers, readRule}
-use Rattle.reading.proofs.WrittenLine.{text-reads-back}
-use Rattle.linefile.specs.Files.{endedLength, lines, columnsOf, same, ended, keysOf, keys, before, lineNumber, linesNumber, fileNumber}
+use Rattle.hire.specs.Hire.{blockGiven}
+use Rattle.line.proofs.AcceptedBlocks.{track-accepts}
+use Rattle.linefile.specs.Files.{endedLength, lines, same, keysOf, keys, fileNumber}
 use Rattle.linefile.specs.Partners.{partnersOf, partners}
 use Rattle.viewing.specs.View.{trklOf, refsysOf, sameTrkl, pairsOf, differences, viewed, figures, longest, viewNumber, viewRule}
 use Rattle.linefile.proofs.Ascending.{All}
-use Rattle.linefile.proofs.Lines.{Long}
-use Rattle.merging.proofs.Joined.{lines-joined, length-joined}
-use Rattle.offset.specs.Shifted.{AcceptedBlock, ShiftedPair, blocksBefore, blocksAfter, fileOf}
+use Rattle.day.specs.Day.{blocksOf, endedLine, dayFile}
+use Rattle.day.proofs.Lines.{labels-are, numbers-are, lines-of, length-of}
+use Rattle.day.proofs.Verdicts.{AcceptedBlock, all-accepted}
+use Rattle.day.proofs.DayFile.{Classed, all-classed, day-file}
+use Rattle.offset.specs.Shifted.{ShiftedBlock, ShiftedDay}
 use Rattle.offset.proofs.Tracks.{results-move, drops}
-use Rattle.offset.proofs.Blocks.{track-accepts, line-accepts}
-
--- ---- the line of a block
-
-abbrev endedLine : List ℕ → List ℕ
-endedLine b = blockLine b ++ 13 ∷ 10 ∷ []
-
-module _ (b : List ℕ) (a : AcceptedBlock b) where
-  content-accepts : contentRule (blockLabels b) (blockNumbers b) ≡ 0
-  unfolding lineAnswer
-  content-accepts = then-zero _ _ (line-accepts b lineLength (a .answer)) .0
-
-  line-columns : columnsOf (endedLine b) ≡ blockLine b
-  line-columns = take-at (blockLine b) (13 ∷ 10 ∷ []) lineLength (line-width (blockLabels b) (blockNumbers b))
-
-  -- what is read of it is what it was made of
-  line-read : (readNumber (blockLine b) ≡ 0) × (blockLabels b ≡ readLabels (blockLine b)) × (blockNumbers b ≡ readNumbers (blockLine b))
-  unfolding readRule printable
-  line-read =
-      let r = reply-values (noLabels, noNumbers) (readLabels (blockLine b), readNumbers (blockLine b)) (readNumber (blockLine b))
-      (sym (ap readRule (sym (append-nil (blockLine b))) ∙ text-reads-back (blockLabels b) (blockNumbers b) [] content-accepts (a .class) refl zero-le)) in
-      (r .0, ap (λ (p : Labels × Numbers). p .0) (r .1), ap (λ (p : Labels × Numbers). p .1) (r .1))
-
-  labels-are : readLabels (columnsOf (endedLine b)) ≡ blockLabels b
-  labels-are = ap readLabels line-columns ∙ sym (line-read .1)
-
-  numbers-are : readNumbers (columnsOf (endedLine b)) ≡ blockNumbers b
-  numbers-are = ap readNumbers line-columns ∙ sym (line-read .2)
-
-  line-accepted : lineNumber (endedLine b) ≡ 0
-  unfolding lineNumber ended same _when_
-  line-accepted =
-      then-passed _ _ (ap readNumber line-columns ∙ line-read .0)
-      ∙ ap (λ (t : List ℕ). 13 when not (same t (13 ∷ 10 ∷ []))) (drop-at (blockLine b) (13 ∷ 10 ∷ []) lineLength (line-width (blockLabels b) (blockNumbers b)))
-
-line-long : (b : List ℕ) → Long (endedLine b)
-line-long b =
-    length-append (blockLine b) (13 ∷ 10 ∷ []) ∙ ap (λ (n : ℕ). n + 2) (line-width (blockLabels b) (blockNumbers b))
 
 -- ---- two lines of which the second is that of the shifted block
 
+-- A block before and after a shift by k, accepted both times.
+record ShiftedPair (k : ℤ) (pair : List ℕ × List ℕ) : Type 0 where
+  pub before : AcceptedBlock (pair .0)
+  pub after : AcceptedBlock (pair .1)
+  pub classBefore : Classed (pair .0)
+  pub classAfter : Classed (pair .1)
+  pub moved : ShiftedBlock k (pair .0) (pair .1)
+
 record Alike (k : ℤ) (lines : List ℕ × List ℕ) : Type 0 where
-  pub before : lineNumber (lines .0) ≡ 0
-  pub after : lineNumber (lines .1) ≡ 0
   pub keys : keys (lines .1) ≡ keys (lines .0)
   pub trkl : trklOf (lines .1) ≡ trklOf (lines .0)
   pub refsys : refsysOf (lines .1) ≡ refsysOf (lines .0) +ℤ k
@@ -88,16 +48,15 @@ linesOf pair = (endedLine (pair .0), endedLine (pair .1))
 alike : (k : ℤ) (pair : List ℕ × List ℕ) → ShiftedPair k pair → Alike k (linesOf pair)
 unfolding keys trklOf refsysOf
 alike k pair s =
-    let a = s .before in
-    let b = s .after in
-    let m = results-move k (blockGiven (pair .0)) (track-accepts (pair .0) lineLength (a .answer)) in
-    let n = ap (λ (g : Given). results g .numbers) (s .moved .given) in
+    let l = labels-are (pair .0) (s .before) (s .classBefore) in
+    let l′ = labels-are (pair .1) (s .after) (s .classAfter) in
+    let n = numbers-are (pair .0) (s .before) (s .classBefore) in
+    let n′ = numbers-are (pair .1) (s .after) (s .classAfter) ∙ ap (λ (g : Given). results g .numbers) (s .moved .given) in
+    let m = results-move k (blockGiven (pair .0)) (track-accepts (pair .0) lineLength (s .before)) in
     record {
-      before = line-accepted (pair .0) a;
-      after = line-accepted (pair .1) b;
-      keys = ap keysOf (labels-are (pair .1) b ∙ s .moved .labels ∙ sym (labels-are (pair .0) a));
-      trkl = ap natAbs (ap (λ (x : Numbers). x .trkl) (numbers-are (pair .1) b ∙ n) ∙ m .trkl ∙ sym (ap (λ (x : Numbers). x .trkl) (numbers-are (pair .0) a)));
-      refsys = ap (λ (x : Numbers). x .refsys) (numbers-are (pair .1) b ∙ n) ∙ m .refsys ∙ sym (ap (λ (x : Numbers). x .refsys +ℤ k) (numbers-are (pair .0) a));
+      keys = ap keysOf (l′ ∙ s .moved .labels ∙ sym l);
+      trkl = ap natAbs (ap (λ (x : Numbers). x .trkl) n′ ∙ m .trkl ∙ sym (ap (λ (x : Numbers). x .trkl) n));
+      refsys = ap (λ (x : Numbers). x .refsys) n′ ∙ m .refsys ∙ sym (ap (λ (x : Numbers). x .refsys +ℤ k) n);
     }
 
 -- ---- lists of such lines
@@ -107,13 +66,6 @@ first ls = map (λ l. l .0) ls
 
 abbrev second : List (List ℕ × List ℕ) → List (List ℕ)
 second ls = map (λ l. l .1) ls
-
-lines-judged : (k : ℤ) (last : List ℕ) (ls : List (List ℕ × List ℕ)) → All (Alike k) ls → linesNumber last (second ls) ≡ linesNumber last (first ls)
-unfolding linesNumber
-lines-judged k last [] a = refl
-lines-judged k last (l ∷ ls) a =
-    (λ i. (a .0 .after ∙ sym (a .0 .before)) i then 16 when not (before last (a .0 .keys i)) then linesNumber (a .0 .keys i) (second ls))
-    ∙ ap (λ (n : ℕ). lineNumber (l .0) then 16 when not (before last (keys (l .0))) then n) (lines-judged k (keys (l .0)) ls (a .1))
 
 -- the differences of some pairs and of more
 view-append : (ps qs : List (List ℕ × List ℕ)) → differences (sameTrkl (ps ++ qs)) ≡ differences (sameTrkl ps) ++ differences (sameTrkl qs)
@@ -169,67 +121,112 @@ all-viewed k (x ∷ xs) ys a b =
     ∙ ap₂ _++_ (one-viewed k x (a .0) ys b) (all-viewed k xs ys (a .1) b)
     ∙ sym (view-append (partnersOf (x .0) (first ys)) (partners (first xs) (first ys)))
 
--- ---- the files
+-- ---- the days
 
-lines-alike : (k : ℤ) (ps : List (List ℕ × List ℕ)) → All (ShiftedPair k) ps → All (Alike k) (map linesOf ps)
-lines-alike k [] a = tt
-lines-alike k (p ∷ ps) a = (alike k p (a .0), lines-alike k ps (a .1))
+-- the blocks of two days, each with its own of the other
+abbrev zipped : (xs ys : List (List ℕ)) → List (List ℕ × List ℕ)
+zipped [] ys = []
+zipped (x ∷ xs) [] = []
+zipped (x ∷ xs) (y ∷ ys) = (x, y) ∷ zipped xs ys
 
-all-long : (bs : List (List ℕ)) → All Long (map endedLine bs)
-all-long [] = tt
-all-long (b ∷ bs) = (line-long b, all-long bs)
+-- What is known of two such lists of blocks.
+record Shifted (k : ℤ) (xs ys : List (List ℕ)) : Type 0 where
+  pub before : All AcceptedBlock xs
+  pub after : All AcceptedBlock ys
+  pub classesBefore : All Classed xs
+  pub classesAfter : All Classed ys
+  pub count : length ys ≡ length xs
+  pub moved : (i : ℕ) → i < length xs → ShiftedBlock k (getD xs i []) (getD ys i [])
 
-ended-first : (ps : List (List ℕ × List ℕ)) → map endedLine (blocksBefore ps) ≡ first (map linesOf ps)
-ended-first [] = refl
-ended-first (p ∷ ps) = ap (λ (t : List (List ℕ)). endedLine (p .0) ∷ t) (ended-first ps)
+rest : (k : ℤ) (x y : List ℕ) (xs ys : List (List ℕ)) → Shifted k (x ∷ xs) (y ∷ ys) → Shifted k xs ys
+rest k x y xs ys s =
+    record {
+      before = s .before .1;
+      after = s .after .1;
+      classesBefore = s .classesBefore .1;
+      classesAfter = s .classesAfter .1;
+      count = omega (arith, s .count);
+      moved = λ i h. s .moved (suc i) (omega arith);
+    }
 
-ended-second : (ps : List (List ℕ × List ℕ)) → map endedLine (blocksAfter ps) ≡ second (map linesOf ps)
-ended-second [] = refl
-ended-second (p ∷ ps) = ap (λ (t : List (List ℕ)). endedLine (p .1) ∷ t) (ended-second ps)
+lines-alike : (k : ℤ) (xs ys : List (List ℕ)) → Shifted k xs ys → All (Alike k) (map linesOf (zipped xs ys))
+lines-alike k [] ys s = tt
+lines-alike k (x ∷ xs) [] s = tt
+lines-alike k (x ∷ xs) (y ∷ ys) s = (
+  alike k (x, y)
+      (record {
+        before = s .before .0;
+        after = s .after .0;
+        classBefore = s .classesBefore .0;
+        classAfter = s .classesAfter .0;
+        moved = s .moved 0 (omega arith);
+      }),
+  lines-alike k xs ys (rest k x y xs ys s),
+)
 
--- a file has the lines of its blocks
-lines-of : (bs : List (List ℕ)) → lines (fileOf bs) ≡ map endedLine bs
-unfolding fileOf
-lines-of bs = lines-joined (map endedLine bs) (all-long bs)
+ended-first : (k : ℤ) (xs ys : List (List ℕ)) → Shifted k xs ys → map endedLine xs ≡ first (map linesOf (zipped xs ys))
+ended-first k [] ys s = refl
+ended-first k (x ∷ xs) [] s = absurd (omega (arith, s .count))
+ended-first k (x ∷ xs) (y ∷ ys) s =
+    ap (λ (t : List (List ℕ)). endedLine x ∷ t) (ended-first k xs ys (rest k x y xs ys s))
 
-length-of : (bs : List (List ℕ)) → length (fileOf bs) ≡ endedLength * length bs
-unfolding fileOf
-length-of bs = length-joined (map endedLine bs) (all-long bs) ∙ ap (λ (n : ℕ). endedLength * n) (length-map bs endedLine)
+ended-second : (k : ℤ) (xs ys : List (List ℕ)) → Shifted k xs ys → map endedLine ys ≡ second (map linesOf (zipped xs ys))
+ended-second k [] [] s = refl
+ended-second k [] (y ∷ ys) s = absurd (omega (arith, s .count))
+ended-second k (x ∷ xs) [] s = absurd (omega (arith, s .count))
+ended-second k (x ∷ xs) (y ∷ ys) s =
+    ap (λ (t : List (List ℕ)). endedLine y ∷ t) (ended-second k xs ys (rest k x y xs ys s))
 
-length-shifted : (ps : List (List ℕ × List ℕ)) → length (fileOf (blocksAfter ps)) ≡ length (fileOf (blocksBefore ps))
-length-shifted ps =
-    length-of (blocksAfter ps)
-    ∙ ap (λ (n : ℕ). endedLength * n) (length-map ps (λ p. p .1) ∙ sym (length-map ps (λ p. p .0)))
-    ∙ sym (length-of (blocksBefore ps))
+module _ (k : ℤ) (before after : List ℕ) (s : ShiftedDay k before after) where
+  shifted-blocks : Shifted k (blocksOf before) (blocksOf after)
+  shifted-blocks =
+      record {
+        before = all-accepted [] 0 (blocksOf before) (s .acceptedBefore) .0;
+        after = all-accepted [] 0 (blocksOf after) (s .acceptedAfter) .0;
+        classesBefore = all-classed before (s .bytesBefore);
+        classesAfter = all-classed after (s .bytesAfter);
+        count = s .count;
+        moved = s .moved;
+      }
 
--- it is refused as before, if at all
-file-judged : (k : ℤ) (ps : List (List ℕ × List ℕ)) → All (ShiftedPair k) ps → fileNumber (fileOf (blocksAfter ps)) ≡ fileNumber (fileOf (blocksBefore ps))
-unfolding fileNumber
-file-judged k ps a =
-    ap₂ (λ (n l : ℕ). n then 12 when not (eqb (l % endedLength) 0))
-    (ap (linesNumber []) (lines-of (blocksAfter ps) ∙ ended-second ps)
-    ∙ lines-judged k [] (map linesOf ps) (lines-alike k ps a)
-    ∙ ap (linesNumber []) (sym (lines-of (blocksBefore ps) ∙ ended-first ps)))
-    (length-shifted ps)
+  abbrev pairs : List (List ℕ × List ℕ)
+  pairs = map linesOf (zipped (blocksOf before) (blocksOf after))
 
-module _ (k : ℤ) (ps qs : List (List ℕ × List ℕ)) (a : All (ShiftedPair k) ps) (b : All (ShiftedPair k) qs) where
-  -- The list of the differences of two files of blocks that are shifted alike stays.
-  pub differences-stay : viewed (fileOf (blocksAfter ps)) (fileOf (blocksAfter qs)) ≡ viewed (fileOf (blocksBefore ps)) (fileOf (blocksBefore qs))
+  pairs-alike : All (Alike k) pairs
+  pairs-alike = lines-alike k (blocksOf before) (blocksOf after) shifted-blocks
+
+  lines-before : lines (dayFile before) ≡ first pairs
+  lines-before = lines-of (blocksOf before) ∙ ended-first k (blocksOf before) (blocksOf after) shifted-blocks
+
+  lines-after : lines (dayFile after) ≡ second pairs
+  lines-after = lines-of (blocksOf after) ∙ ended-second k (blocksOf before) (blocksOf after) shifted-blocks
+
+  length-stays : length (dayFile after) ≡ length (dayFile before)
+  length-stays =
+      length-of (blocksOf after) ∙ ap (λ (n : ℕ). endedLength * n) (s .count) ∙ sym (length-of (blocksOf before))
+
+  -- both are line files
+  file-stays : fileNumber (dayFile after) ≡ fileNumber (dayFile before)
+  file-stays = day-file after (s .bytesAfter) (s .acceptedAfter) ∙ sym (day-file before (s .bytesBefore) (s .acceptedBefore))
+
+module _ (k : ℤ) (a a′ b b′ : List ℕ) (s : ShiftedDay k a a′) (t : ShiftedDay k b b′) where
+  -- The list of the differences of the files of two days that are shifted alike stays.
+  pub differences-stay : viewed (dayFile a′) (dayFile b′) ≡ viewed (dayFile a) (dayFile b)
   unfolding viewed pairsOf
   differences-stay =
-      ap₂ (λ (x y : List (List ℕ)). differences (sameTrkl (partners x y))) (lines-of (blocksAfter ps) ∙ ended-second ps) (lines-of (blocksAfter qs) ∙ ended-second qs)
-      ∙ all-viewed k (map linesOf ps) (map linesOf qs) (lines-alike k ps a) (lines-alike k qs b)
-      ∙ ap₂ (λ (x y : List (List ℕ)). differences (sameTrkl (partners x y))) (sym (lines-of (blocksBefore ps) ∙ ended-first ps)) (sym (lines-of (blocksBefore qs) ∙ ended-first qs))
+      ap₂ (λ (x y : List (List ℕ)). differences (sameTrkl (partners x y))) (lines-after k a a′ s) (lines-after k b b′ t)
+      ∙ all-viewed k (pairs k a a′ s) (pairs k b b′ t) (pairs-alike k a a′ s) (pairs-alike k b b′ t)
+      ∙ ap₂ (λ (x y : List (List ℕ)). differences (sameTrkl (partners x y))) (sym (lines-before k a a′ s)) (sym (lines-before k b b′ t))
 
-  number-stays : viewNumber (fileOf (blocksAfter ps)) (fileOf (blocksAfter qs)) ≡ viewNumber (fileOf (blocksBefore ps)) (fileOf (blocksBefore qs))
+  number-stays : viewNumber (dayFile a′) (dayFile b′) ≡ viewNumber (dayFile a) (dayFile b)
   unfolding viewNumber
   number-stays =
-      λ i. 19 when (ltb longest (length-shifted ps i) || ltb longest (length-shifted qs i))
-      then file-judged k ps a i
-      then file-judged k qs b i
+      λ i. 19 when (ltb longest (length-stays k a a′ s i) || ltb longest (length-stays k b b′ t i))
+      then file-stays k a a′ s i
+      then file-stays k b b′ t i
       then 18 when eqb (length (differences-stay i)) 0
 
   -- So the whole report stays, and where it is refused the refusal.
-  pub report-stays : viewRule (fileOf (blocksAfter ps)) (fileOf (blocksAfter qs)) ≡ viewRule (fileOf (blocksBefore ps)) (fileOf (blocksBefore qs))
+  pub report-stays : viewRule (dayFile a′) (dayFile b′) ≡ viewRule (dayFile a) (dayFile b)
   unfolding viewRule
   report-stays = λ i. reply (figures []) (number-stays i) (figures (differences-stay i))

@@ -1,16 +1,15 @@
 -- A shared offset (document 02, Job 7): a track whose every measurement has the same whole multiple of 100 ps added, and how its ten numbers
--- move; hire blocks that are shifted alike, and the line files that are made of them.
+-- move; hire blocks that are shifted alike, and days of them, of which `day` makes line files.
 -- Assumes nothing.
 use mathlib.Core.Path.{_≡_}
-use mathlib.Core.List.{List, [], _∷_, _++_, map}
+use mathlib.Core.List.{List, [], _∷_}
 use lib.IntN.{ℤ, pos, _+ℤ_, _*ℤ_}
 use Prim.Native.Nat.{ℕ, _<_}
+use lib.ListN.{length}
 use Rattle.limits.specs.declared.Numbers.{Numbers}
 use Rattle.hire.specs.Hire.{blockLabels, blockGiven}
 use Rattle.exact.specs.Corrected.{Given}
-use Rattle.columns.specs.Text.{lineLength}
-use Rattle.line.specs.Block.{blockLine, blockAnswer}
-use Rattle.merging.specs.Merge.{joined}
+use Rattle.day.specs.Day.{blocksOf, dayVerdict, blockAt, AllBytes}
 
 -- c added to each number of a list.
 unfoldable pub raised : ℤ → List ℤ → List ℤ
@@ -56,24 +55,11 @@ pub record ShiftedBlock (k : ℤ) (before after : List ℕ) : Type 0 where
   pub labels : blockLabels after ≡ blockLabels before
   pub given : blockGiven after ≡ shifted k (blockGiven before)
 
--- A hire block that is accepted where there is room for its line. CL is a byte, as it is in every block of bytes.
-pub record AcceptedBlock (b : List ℕ) : Type 0 where
-  pub class : blockLabels b .cl < 256
-  pub answer : blockAnswer b lineLength ≡ 0
-
--- A block before and after a shift by k, accepted both times.
-pub record ShiftedPair (k : ℤ) (pair : List ℕ × List ℕ) : Type 0 where
-  pub before : AcceptedBlock (pair .0)
-  pub after : AcceptedBlock (pair .1)
-  pub moved : ShiftedBlock k (pair .0) (pair .1)
-
--- Of such pairs, the blocks before the shift and those after it.
-abbrev pub blocksBefore : List (List ℕ × List ℕ) → List (List ℕ)
-blocksBefore pairs = map (λ p. p .0) pairs
-
-abbrev pub blocksAfter : List (List ℕ × List ℕ) → List (List ℕ)
-blocksAfter pairs = map (λ p. p .1) pairs
-
--- The line file of some blocks: the line of each with its end, in their order.
-unfoldable pub fileOf : List (List ℕ) → List ℕ
-fileOf blocks = joined (map (λ b. blockLine b ++ 13 ∷ 10 ∷ []) blocks)
+-- Two days of hire blocks, back to back, that `day` accepts where there is room: block i of the second is block i of the first, shifted by k.
+pub record ShiftedDay (k : ℤ) (before after : List ℕ) : Type 0 where
+  pub bytesBefore : AllBytes before
+  pub bytesAfter : AllBytes after
+  pub acceptedBefore : dayVerdict before .number ≡ 0
+  pub acceptedAfter : dayVerdict after .number ≡ 0
+  pub count : length (blocksOf after) ≡ length (blocksOf before)
+  pub moved : (i : ℕ) → i < length (blocksOf before) → ShiftedBlock k (blockAt before i) (blockAt after i)

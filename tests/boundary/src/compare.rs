@@ -1,6 +1,7 @@
 //! Runs one case through the archive and through the plain Rust implementation, and compares the answers and every
 //! byte of what is lent, of the bytes around it and of what is given.
 
+mod days;
 mod files;
 mod stores;
 

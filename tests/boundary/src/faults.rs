@@ -372,17 +372,22 @@ fn cut(mut bytes: Vec<u8>, seeded: &mut Seeded) -> Option<Vec<u8>> {
     (length < 4).then_some(bytes)
 }
 
+/// Puts these faults into a case: all but those of the length and of what is lent.
+pub fn spoil_case(case: &mut Case, faults: &[Fault], seeded: &mut Seeded) {
+    faults.iter().for_each(|fault| spoil_slope(case, *fault, seeded));
+    faults.iter().for_each(|fault| spoil_level(case, *fault, seeded));
+    spoil_midpoints(case, faults, seeded);
+    faults.iter().for_each(|fault| spoil_limit(case, *fault, seeded));
+    spoil_labels(&mut case.labels, faults, seeded);
+    if faults.contains(&Sizes) {
+        spoil_sizes(case, seeded);
+    }
+}
+
 /// A good block with these faults in it. None is NULL.
 pub fn faulty_block(faults: &[Fault], seeded: &mut Seeded) -> (Option<Vec<u8>>, Lent) {
     let mut case = good(seeded);
-    faults.iter().for_each(|fault| spoil_slope(&mut case, *fault, seeded));
-    faults.iter().for_each(|fault| spoil_level(&mut case, *fault, seeded));
-    spoil_midpoints(&mut case, faults, seeded);
-    faults.iter().for_each(|fault| spoil_limit(&mut case, *fault, seeded));
-    spoil_labels(&mut case.labels, faults, seeded);
-    if faults.contains(&Sizes) {
-        spoil_sizes(&mut case, seeded);
-    }
+    spoil_case(&mut case, faults, seeded);
     let lent = lent_for(faults, seeded);
     let mut bytes = case.bytes();
     if faults.contains(&Length) {

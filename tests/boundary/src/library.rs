@@ -68,6 +68,15 @@ extern "C" {
         longer_len: usize,
         written: *mut usize,
     ) -> u32;
+    #[rustfmt::skip]
+    fn trackline_day(
+        blocks: *const u8,
+        blocks_len: usize,
+        file: *mut u8,
+        file_len: usize,
+        written: *mut usize,
+        block: *mut usize,
+    ) -> u32;
 }
 
 /// A slice, or NULL with length 0.
@@ -152,4 +161,11 @@ pub fn append(store: Bytes, mjd: u32, set: &Delays, longer: LentBytes, written: 
     let Delays { int, cab, refdly, gd } = *set;
     // SAFETY: live slices, or NULL with length 0, which the interface allows, and a live number.
     unsafe { trackline_append(store, store_len, mjd, int, cab, refdly, gd, longer, longer_len, written) }
+}
+
+pub fn day(blocks: Bytes, lent: LentBytes, written: &mut usize, block: &mut usize) -> u32 {
+    let (blocks, blocks_len) = as_c(blocks);
+    let (file, file_len) = lent_as_c(lent);
+    // SAFETY: live slices, or NULL with length 0, which the interface allows, and two live numbers.
+    unsafe { trackline_day(blocks, blocks_len, file, file_len, written, block) }
 }

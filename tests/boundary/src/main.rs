@@ -1,5 +1,5 @@
 //! Compares the archive's C functions with the plain Rust implementation on seeded blocks, lines, readings, starts,
-//! pairs of line files and stores of delays, and tries that what is added to all measurements alike drops out.
+//! pairs of line files, stores of delays and sets of blocks, and tries that what is added to all measurements alike drops out.
 //!
 //!     boundary [SEED [SCALE]]
 //!
@@ -9,6 +9,8 @@
 mod blocks;
 mod case;
 mod compare;
+mod day_faults;
+mod days;
 mod edges;
 mod faults;
 mod file_faults;
@@ -41,6 +43,7 @@ fn main() -> ExitCode {
     let scale = arguments.get(1).copied().unwrap_or(1) as usize;
     let mut compare = Compare::new(seed);
     let stored = stores::run(&mut compare, &mut Seeded::new(seed + 9), scale);
+    let days = days::run(&mut compare, &mut Seeded::new(seed + 10), scale);
     lines::run(&mut compare, &mut Seeded::new(seed + 1), scale);
     blocks::run(&mut compare, &mut Seeded::new(seed + 2), scale);
     readings::run(&mut compare, &mut Seeded::new(seed + 4), scale);
@@ -55,6 +58,7 @@ fn main() -> ExitCode {
     missing.extend(views::report(&compare, &viewed));
     missing.extend(offsets::report(&shifted));
     missing.extend(stores::report(&compare, &stored));
+    missing.extend(days::report(&compare, &days));
     missing.iter().for_each(|what| eprintln!("MISSING: {what}"));
     if compare.agreed() && missing.is_empty() {
         println!("boundary: no difference");

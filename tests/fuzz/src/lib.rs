@@ -141,3 +141,26 @@ pub unsafe extern "C" fn reference_append(
         Err(refusal) => refusal,
     }
 }
+
+/// # Safety
+/// As reference_block; `written` and `block` are numbers.
+#[no_mangle]
+pub unsafe extern "C" fn reference_day(
+    blocks: *const u8,
+    blocks_len: usize,
+    file: *mut u8,
+    file_len: usize,
+    written: *mut usize,
+    block: *mut usize,
+) -> u32 {
+    match reference::day(bytes(blocks, blocks_len), lent(file, file_len)) {
+        Ok(length) => {
+            *written = length;
+            0
+        }
+        Err(offence) => {
+            *block = offence.block;
+            offence.number
+        }
+    }
+}

@@ -31,7 +31,7 @@ fn i64_at(block: &[u8], at: usize) -> i64 {
     i64::from_le_bytes(part(block, at))
 }
 
-fn labels(block: &[u8]) -> Labels {
+pub(crate) fn labels(block: &[u8]) -> Labels {
     Labels {
         constellation: block[4],
         satellite: block[5],
@@ -69,8 +69,8 @@ fn column(block: &[u8], n: usize, which: usize) -> [i64; MOST_BLOCKS] {
     column
 }
 
-/// 11 under 4 bytes, 1 for sizes that are not 15n and n, 11 for a length that is not theirs; else n.
-fn admit(block: &[u8]) -> Result<usize, u32> {
+/// 11 under 4 bytes, 1 for sizes that are not 15n and n; else n.
+pub(crate) fn sizes(block: &[u8]) -> Result<usize, u32> {
     if block.len() < 4 {
         return Err(11);
     }
@@ -78,6 +78,12 @@ fn admit(block: &[u8]) -> Result<usize, u32> {
     if !blocks_fit(n) || seconds != BLOCK_SECONDS * n {
         return Err(1);
     }
+    Ok(n)
+}
+
+/// What the sizes are refused for, then 11 for a length that is not theirs; else n.
+fn admit(block: &[u8]) -> Result<usize, u32> {
+    let n = sizes(block)?;
     if block.len() != block_bytes(n) {
         return Err(11);
     }

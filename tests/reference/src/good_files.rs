@@ -27,7 +27,8 @@ impl Span {
     }
 }
 
-fn labels_in(span: Span, seeded: &mut Seeded) -> Labels {
+/// Labels of any track in the span.
+pub fn labels_in(span: Span, seeded: &mut Seeded) -> Labels {
     let mjd = span.first_mjd + seeded.below(span.days as u64) as u32;
     // tracks from anywhere in the day: of two dates the later one's start is often the earlier
     let track = 1 + seeded.below(span.tracks as u64) as i64 * 89 / span.tracks;

@@ -1,5 +1,5 @@
 //! Track lines in plain Rust: smoothing, correcting, fitting, the start test, the data line, the hire block, a line
-//! read back, line files and the common view of two, and delays by date.
+//! read back, line files and the common view of two, delays by date, and a day of blocks at once.
 //!
 //! Written from the papers alone and not from the proved program, so that the two can be compared. Every operation
 //! answers with the papers' refusal numbers, in their order.
@@ -9,6 +9,7 @@
 //! an overflow panics.
 
 mod block;
+mod day;
 mod delays;
 mod files;
 mod fit;
@@ -27,6 +28,7 @@ pub mod waves;
 pub mod worst;
 
 pub use block::{block, block_bytes};
+pub use day::{day, Offence};
 pub use delays::{append, lookup, lookup_values, MOST_ENTRIES, SET_VALUES};
 pub use files::{file_lines, keys, merge, FileLine, Keys, FILE_LINE_BYTES};
 pub use fit::{fit, scatter, smooth, Fitted, LEAST_BLOCKS, MOST_BLOCKS, TENTHS, WEIGHTS};

@@ -7,12 +7,14 @@
 //! lines for each block, read back. Each time the same blocks and lines follow, spoilt so that they are refused at one stage: what
 //! one stage costs more than the stage before it is the cost of the work between them. Last, pairs of line files of as
 //! many lines as there were blocks, and of twice as many, are merged, and the common view is taken of others of as many lines and
-//! of half as many; and a date is looked up in stores of 10 and of 1000 entries, and an entry appended to stores of 999.
+//! of half as many; and a date is looked up in stores of 10 and of 1000 entries, and an entry appended to stores of 999; and the
+//! blocks' day is made in one call and in tenths, and days of 100 to 100,000 short blocks.
 //! No time fails this program; a different answer, line or value does.
 
 #[allow(dead_code)]
 #[path = "../../boundary/src/case.rs"]
 mod case;
+mod days;
 mod files;
 #[allow(dead_code)]
 #[path = "../../boundary/src/library.rs"]
@@ -118,4 +120,5 @@ fn main() {
     drop(lines);
     files::run(count, number as usize, &mut seeded);
     stores::run(count, &mut seeded);
+    days::run(count, number as usize, &mut seeded);
 }

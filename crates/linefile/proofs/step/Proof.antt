@@ -9,8 +9,8 @@ use lib.Dec.{ltb, leb, eqb}
 use lib.ListN.{length}
 use borrow.Author.Tests.{ltb-true}
 use Rattle.limits.proofs.Laws.{both}
-use Rattle.linefile.specs.Files.{endedLength}
-use Rattle.linefile.specs.Walk.{rank, lineAt, passing, stepOf}
+use Rattle.linefile.specs.Files.{endedLength, lineAt}
+use Rattle.linefile.specs.Walk.{rank, passing, stepOf}
 use borrow.Author.Needs.{needs}
 use Rattle.linefile.proofs.step.Statement.{statement}
 use Rattle.linefile.proofs.step.Tie as tie

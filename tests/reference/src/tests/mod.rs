@@ -1,4 +1,5 @@
 mod dated;
+mod days;
 mod document_cases;
 mod exact;
 mod merging;

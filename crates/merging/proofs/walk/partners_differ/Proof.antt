@@ -4,8 +4,7 @@ use mathlib.Core.Path.{sym, ap, ap₂, _∙_}
 use mathlib.Core.Bool.{Bool, not, _&&_}
 use mathlib.Core.List.{List}
 use Prim.Native.Nat.{ℕ}
-use Rattle.linefile.specs.Files.{same}
-use Rattle.linefile.specs.Walk.{lineAt}
+use Rattle.linefile.specs.Files.{same, lineAt}
 use Rattle.linefile.proofs.Lines.{line-part}
 use borrow.Author.Needs.{needs}
 use Rattle.merging.proofs.walk.partners_differ.Statement.{statement}

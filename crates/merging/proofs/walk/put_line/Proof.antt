@@ -8,8 +8,7 @@ use native.Mathlib.Omega.{arith}
 use lib.ListN.{length, take, drop}
 use Rattle.lent.specs.Placed.{placed, placedWithin}
 use Rattle.lent.proofs.Placing.{within, length-part}
-use Rattle.linefile.specs.Files.{endedLength}
-use Rattle.linefile.specs.Walk.{lineAt}
+use Rattle.linefile.specs.Files.{endedLength, lineAt}
 use Rattle.linefile.proofs.Lines.{line-part}
 use borrow.Author.Needs.{needs}
 use Rattle.merging.proofs.walk.put_line.Statement.{statement}

@@ -9,8 +9,8 @@ use Rattle.lent.specs.Placed.{placed}
 use borrow.Author.Needs.{needs}
 use borrow.Author.Tests.{ltb-true}
 use Rattle.limits.proofs.Laws.{both}
-use Rattle.linefile.specs.Files.{endedLength, lines}
-use Rattle.merging.specs.Merge.{merged, joined, mergedFile}
+use Rattle.linefile.specs.Files.{endedLength, lines, joined}
+use Rattle.merging.specs.Merge.{merged, mergedFile}
 use Rattle.linefile.proofs.Lines.{length-lines, lines-long, line-file}
 use Rattle.lent.proofs.Written.{Written, nothing-written, room, more-written, rests-written}
 use Rattle.merging.proofs.Walking.{Walked, walked, line-room, line-written, end-text}

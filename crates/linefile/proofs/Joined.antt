@@ -1,4 +1,4 @@
--- Lines one behind the other, and the file that they are (specs/Merge.antt).
+-- Lines one behind the other, and the file that they are (specs/Files.antt).
 -- Assumes nothing.
 use mathlib.Core.Path.{_≡_, refl, sym, ap, ap₂, _∙_}
 use mathlib.Core.List.{List, [], _∷_, _++_, append-assoc}
@@ -8,10 +8,9 @@ use native.Mathlib.Omega.{arith}
 use lib.Dec.{lit<}
 use lib.ListN.{length, take, drop, length-append, length-drop, take-append-drop}
 use lib.Seq.{take-at, drop-at, drop-nil, drop-append-add}
-use Rattle.linefile.specs.Files.{endedLength, linesIn, lines}
+use Rattle.linefile.specs.Files.{endedLength, linesIn, lines, joined}
 use Rattle.linefile.proofs.Ascending.{All}
 use Rattle.linefile.proofs.Lines.{Long, LineFile, lines-long}
-use Rattle.merging.specs.Merge.{joined}
 
 pub length-joined : (ls : List (List ℕ)) → All Long ls → length (joined ls) ≡ endedLength * length ls
 unfolding joined

@@ -1,0 +1,9 @@
+pub mod Blocks
+pub mod Lines
+pub mod Verdicts
+pub mod Walking
+pub mod Finishing
+pub mod Answers
+pub mod DayFile
+pub mod Cutting
+pub mod Parts

@@ -1,0 +1,119 @@
+// A day at once (document 02, Job 10): hire blocks back to back, any bytes, become a line file in a lent one. Each block in turn is refused by
+// Block's order without 9, then with 16 where its keys do not follow its forerunner's, and the first that offends is named; then 9 names the
+// number of blocks. Nothing is written before every block is accepted. Lines are kept while the blocks are judged, as many as there is room for,
+// and those of later blocks are made once more: what is promised does not depend on how many are kept.
+ghost use mathlib.Core.Path.{_≡_};
+ghost use lib.ListN.{length, take};
+ghost use Rattle.linefile.specs.Files.{fileNumber};
+ghost use Rattle.day.specs.Day.{dayRule, dayAfter, LinesOfDay, AccurateDay};
+ghost use Rattle.day.specs.Answers.{writtenNumber, writtenBytes, writtenBlock};
+use limits::then;
+use limits::when;
+
+mod walk;
+
+const LINE: usize = 115;
+// An accepted block has 698 bytes at least, so LEAST x K bytes have at most K of them.
+const LEAST: usize = 698;
+// How many lines are kept: of a few blocks, of some, and of more. docs/DECISIONS.md says why.
+const FEW: usize = 32;
+
+const SOME: usize = 512;
+
+const MANY: usize = 4096;
+
+// How many bytes are written, or the refusal and the block that it names.
+pub enum Written {
+    Bytes(usize),
+    Refused { number: u32, block: usize },
+}
+
+// The number of the refusal, 0 where there is none.
+pub fn written_number(written: Written) -> u32
+    ensures { λ r. ⌜ r ≡ writtenNumber written ⌝ }
+{
+    match written {
+        Written::Bytes(_) => 0,
+        Written::Refused { number, block: _ } => number,
+    }
+}
+
+// The block that a refusal names, 0 where there is none.
+pub fn written_block(written: Written) -> usize
+    ensures { λ r. ⌜ r ≡ writtenBlock written ⌝ }
+{
+    match written {
+        Written::Bytes(_) => 0,
+        Written::Refused { number: _, block } => block,
+    }
+}
+
+// The day's lines, with what is lent to keep lines in while the blocks are judged.
+fn run(blocks: &[u8], kept: &mut [u8], file: &mut [u8]) -> Written
+    ensures answer { λ r. ⌜ r ≡ dayRule (now (blocks .entry)) (length (now (file .entry))) ⌝ }
+    ensures written { λ _. ⌜ now (file .exit) ≡ dayAfter (now (blocks .entry)) (now (file .entry)) ⌝ }
+{
+    let begun = walk::write(blocks, walk::start(blocks), kept);
+    let judged = walk::judge(blocks, begun);
+    let count = judged.count;
+    let number = then(judged.number, when(9, file.len() / LINE < count));
+    if number != 0 {
+        return Written::Refused {
+            number,
+            block: count,
+        };
+    }
+    walk::finish(blocks, begun, kept, file);
+    Written::Bytes(LINE * count)
+}
+
+// Each number of kept lines has a function of its own, so that few blocks clear few lines. That time alone is spared: the compiler inlines them,
+// and every call takes the stack of the most lines.
+fn run_few(blocks: &[u8], file: &mut [u8]) -> Written
+    ensures answer { λ r. ⌜ r ≡ dayRule (now (blocks .entry)) (length (now (file .entry))) ⌝ }
+    ensures written { λ _. ⌜ now (file .exit) ≡ dayAfter (now (blocks .entry)) (now (file .entry)) ⌝ }
+{
+    let mut kept = [0u8; LINE * FEW];
+    run(blocks, &mut kept, file)
+}
+
+fn run_some(blocks: &[u8], file: &mut [u8]) -> Written
+    ensures answer { λ r. ⌜ r ≡ dayRule (now (blocks .entry)) (length (now (file .entry))) ⌝ }
+    ensures written { λ _. ⌜ now (file .exit) ≡ dayAfter (now (blocks .entry)) (now (file .entry)) ⌝ }
+{
+    let mut kept = [0u8; LINE * SOME];
+    run(blocks, &mut kept, file)
+}
+
+fn run_many(blocks: &[u8], file: &mut [u8]) -> Written
+    ensures answer { λ r. ⌜ r ≡ dayRule (now (blocks .entry)) (length (now (file .entry))) ⌝ }
+    ensures written { λ _. ⌜ now (file .exit) ≡ dayAfter (now (blocks .entry)) (now (file .entry)) ⌝ }
+{
+    let mut kept = [0u8; LINE * MANY];
+    run(blocks, &mut kept, file)
+}
+
+// By the length of the blocks.
+fn run_sized(blocks: &[u8], file: &mut [u8]) -> Written
+    ensures answer { λ r. ⌜ r ≡ dayRule (now (blocks .entry)) (length (now (file .entry))) ⌝ }
+    ensures written { λ _. ⌜ now (file .exit) ≡ dayAfter (now (blocks .entry)) (now (file .entry)) ⌝ }
+{
+    if blocks.len() <= LEAST * FEW {
+        return run_few(blocks, file);
+    }
+    if blocks.len() <= LEAST * SOME {
+        return run_some(blocks, file);
+    }
+    run_many(blocks, file)
+}
+
+// Writes the lines of all blocks into the lent file, or names the first block that is refused.
+pub fn day(blocks: &[u8], file: &mut [u8]) -> Written
+    ensures answer { λ r. ⌜ r ≡ dayRule (now (blocks .entry)) (length (now (file .entry))) ⌝ }
+    ensures written { λ _. ⌜ now (file .exit) ≡ dayAfter (now (blocks .entry)) (now (file .entry)) ⌝ }
+    ensures lines { λ r. ⌜ (writtenNumber r ≡ 0 → LinesOfDay (now (blocks .entry)) (now (file .exit))) ⌝ }
+    ensures accurate { λ r. ⌜ (writtenNumber r ≡ 0 → AccurateDay (now (blocks .entry)) (now (file .exit))) ⌝ }
+    ensures file { λ r. ⌜ (writtenNumber r ≡ 0 → fileNumber (take (writtenBytes r) (now (file .exit))) ≡ 0) ⌝ }
+{
+    run_sized(blocks, file)
+}
