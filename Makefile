@@ -16,7 +16,7 @@
 # make install       the programs, the libraries, the header, the manual pages: make install PREFIX=/usr/local DESTDIR=
 # make uninstall     remove what install put there, with the same PREFIX and DESTDIR; folders stay
 # make clean         remove target/, which holds everything that was built
-VERSION := 1.7.0
+VERSION := 1.8.0
 BLOCK ?= examples/sample.blk
 PREFIX ?= /usr/local
 SECONDS ?= 120
@@ -113,6 +113,8 @@ compared:
 	target/files_test
 	$(CC) $(CFLAGS) $(STRICT) -Iinclude tests/c/view_test.c $(ARCHIVE) -o target/view_test
 	target/view_test
+	$(CC) $(CFLAGS) $(STRICT) -Iinclude tests/c/path_test.c $(ARCHIVE) -o target/path_test
+	target/path_test
 	$(CC) $(CFLAGS) $(STRICT) -Iinclude tests/c/limits_test.c $(ARCHIVE) -o target/limits_test
 	target/limits_test
 	$(CC) $(CFLAGS) $(STRICT) -Iinclude tests/c/delays_test.c $(ARCHIVE) -o target/delays_test
@@ -135,6 +137,7 @@ compared:
 	python3 tests/cggtts/test_convert.py
 	python3 tests/cggtts/test_files.py
 	python3 tests/cggtts/test_offset.py
+	python3 tests/cggtts/test_path.py
 	python3 tests/cggtts/test_words.py
 	python3 tests/cggtts/test_delays.py
 	python3 tests/cggtts/test_day.py

@@ -278,6 +278,7 @@ int read_command(int argc, char **argv);
 int convert_command(int argc, char **argv);
 int merge_command(int argc, char **argv);
 int view_command(int argc, char **argv);
+int path_command(int argc, char **argv);
 int starts_command(int argc, char **argv);
 int delays_command(int argc, char **argv);
 int append_command(int argc, char **argv);

@@ -1,6 +1,7 @@
 /*
  * trackline: one CGGTTS data line of 113 columns from a satellite track of 1 to 13 minutes, what stands in such a line,
- * one file of lines from two, the common view of two, delays kept by date, and a file of lines from many tracks.
+ * one file of lines from two, the common view of two, delays kept by date, a file of lines from many tracks, and the
+ * length of the path between a satellite and an antenna.
  *
  * Each function but trackline_comment answers 0 when it accepts and the number of its refusal otherwise. A slice is a
  * pointer and a length; NULL with length 0 is an empty slice. A length counts elements: bytes of a block, a line, a file
@@ -11,7 +12,8 @@
  * calls, so that threads may call at once on lines of their own.
  *
  * With a length above 0 a pointer has to point to so many elements: NULL or a wild pointer is not noticed, and is read or
- * written. Bytes may stand anywhere; int64_t and size_t have to be aligned as C aligns them, to 8 bytes.
+ * written. Bytes may stand anywhere; int64_t, size_t and double have to be aligned as C aligns them, to 8 bytes.
+ * trackline_path is given numbers alone, and writes *length where it accepts.
  *
  * All dates are UTC: an MJD and a second of it. The first measurement of a track is that of its start, and measurement i
  * that of the UTC second start + i, be it past midnight; the MJD stays that of the start. GPS, Galileo and BeiDou time have
@@ -28,9 +30,9 @@ extern "C" {
 #endif
 
 /* The version of the library that this header is of. */
-#define TRACKLINE_VERSION "1.7.0"
+#define TRACKLINE_VERSION "1.8.0"
 #define TRACKLINE_VERSION_MAJOR 1
-#define TRACKLINE_VERSION_MINOR 7
+#define TRACKLINE_VERSION_MINOR 8
 #define TRACKLINE_VERSION_PATCH 0
 
 /* Columns of a line, and bytes of a line with the longest comment behind them. */
@@ -138,6 +140,7 @@ extern "C" {
 #define TRACKLINE_MOST_DELAY_SLOPE 999     /* SMDT, SMDI */
 #define TRACKLINE_MOST_DELAY 9999          /* MDTR, MDIO */
 #define TRACKLINE_MOST_DSG 9999
+#define TRACKLINE_MOST_COORDINATE 50000000000 /* mm, to both sides of 0, for 24 */
 
 /*
  * Refusals: X(number, name, text) for each, so that a program's messages come from here. share/doc/trackline/REFUSALS.md
@@ -166,7 +169,9 @@ extern "C" {
     X(19, TRACKLINE_FILE_LENGTH, "a file is longer than 1150000 bytes, which are 10000 lines")                         \
     X(20, TRACKLINE_STORE, "the store of delays is none, or a delay is beyond its limit or has no place in it")        \
     X(21, TRACKLINE_NOT_YET, "no entry of the store starts as early as that date")                                     \
-    X(22, TRACKLINE_NOT_LATER, "the date is not later than the store's last, or the store has 1000 entries")
+    X(22, TRACKLINE_NOT_LATER, "the date is not later than the store's last, or the store has 1000 entries")           \
+    X(23, TRACKLINE_NOT_WHOLE, "a coordinate is not a whole number of millimetres")                                    \
+    X(24, TRACKLINE_COORDINATE, "a coordinate is outside -50000000000 to 50000000000 mm")
 
 #define TRACKLINE_NUMBER(number, name, text) , name = number
 enum trackline_refusal {
@@ -208,6 +213,20 @@ uint32_t trackline_line(uint8_t constellation, uint8_t satellite, uint8_t cl, ui
  * minute 2 + 16 (i - 1) - 4 (mjd - 50722), brought into 0 to 1435 by adding or taking 1436 minutes, and at its second 0.
  */
 uint32_t trackline_start(uint32_t mjd, uint32_t second);
+
+/*
+ * The straight path between a satellite, xs, ys and zs, and an antenna, xa, ya and za, all whole millimetres in one frame.
+ * Its length goes to *length: the greatest whole number of millimetres whose square is not above the exact sum of
+ * the squared differences. The double holds it exactly; it is at most 173205080756.
+ *
+ * 23 is tried of all six before 24. 23 is a coordinate that is not a whole number: a fraction, an infinity or not a
+ * number. 24 is one beyond TRACKLINE_MOST_COORDINATE to either side; so 1e300, which is a whole number, is 24. Minus zero
+ * counts as zero, and a length of 0 is plus zero. length must not be NULL.
+ *
+ * Geometry, in a block, is the path plus the Sagnac correction, in ps. That correction is not in the length, nor is the
+ * satellite's way while the signal travels. A millimetre is 10^9 / 299792458 ps.
+ */
+uint32_t trackline_path(double xs, double ys, double zs, double xa, double ya, double za, double *length);
 
 /*
  * The places of a line's values: its labels and its ten numbers, in the order and the units of trackline_line. The

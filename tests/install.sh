@@ -31,7 +31,7 @@ CGGTTS=$prefix/bin/cggtts python3 tests/cggtts/test_cggtts.py >"$scratch/log" 2>
     cat "$scratch/log" >&2
     fail 'the installed cggtts'
 }
-for test in merge view words parted convert files offset delays day; do
+for test in merge view words parted convert files offset delays day path; do
     CGGTTS=$prefix/bin/cggtts python3 tests/cggtts/test_$test.py >"$scratch/log" 2>&1 || {
         cat "$scratch/log" >&2
         fail "the installed cggtts: test_$test.py"
@@ -182,7 +182,7 @@ pkg-config --exact-version "$(sed -n 's/^VERSION := //p' Makefile)" trackline ||
 
 # what the shared library exports and needs
 exports=$(nm -D --defined-only "$prefix/lib/libtrackline.so" | awk '{print $3}' | sort | xargs)
-[ "$exports" = 'trackline_append trackline_block trackline_comment trackline_day trackline_delays trackline_line trackline_merge trackline_read trackline_start trackline_view' ] || fail "the shared library exports: $exports"
+[ "$exports" = 'trackline_append trackline_block trackline_comment trackline_day trackline_delays trackline_line trackline_merge trackline_path trackline_read trackline_start trackline_view' ] || fail "the shared library exports: $exports"
 needs=$(ldd "$prefix/lib/libtrackline.so" | awk '{print $1}' | grep -vE '^(linux-vdso|libc|/lib.*/ld-linux|statically)' || true)
 [ -z "$needs" ] || fail "the shared library needs: $needs"
 

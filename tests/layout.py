@@ -15,8 +15,8 @@ import sys
 from blocks import AT, COLUMNS, DELAYS, LENGTH, OF
 
 ROOT = pathlib.Path(__file__).resolve().parent.parent
-# the limits, as document 01 has them
-LIMITS = {'MOST_MEASUREMENT': 10 ** 12, 'MOST_GEOMETRY': 2 * 10 ** 11, 'MOST_CORRECTION': 10 ** 10, 'FIRST_MJD': 50722, 'LAST_MJD': 99999,
+# the limits, as documents 01 and 02 have them
+LIMITS = {'MOST_MEASUREMENT': 10 ** 12, 'MOST_GEOMETRY': 2 * 10 ** 11, 'MOST_CORRECTION': 10 ** 10, 'MOST_COORDINATE': 5 * 10 ** 10, 'FIRST_MJD': 50722, 'LAST_MJD': 99999,
           'LEAST_SATELLITE': 1, 'MOST_SATELLITE': 99, 'MOST_HC': 99, 'LEAST_FR_R': 1, 'MOST_FR_R': 24, 'MOST_ELV': 900, 'MOST_AZTH': 3599,
           'MOST_IOE_G': 255, 'MOST_IOE_J': 255, 'MOST_IOE_E': 999, 'MOST_IOE_C': 23, 'LEAST_IOE_R': 1, 'MOST_IOE_R': 96,
           'MOST_MIDPOINT': 10 ** 10 - 1, 'MOST_SLOPE': 99999, 'MOST_DELAY_SLOPE': 999, 'MOST_DELAY': 9999, 'MOST_DSG': 9999}

@@ -31,7 +31,7 @@ reference = { path = "../mutant/reference" }
 panic = "abort"
 '''
 EXPORTS = '''
-use reference::{Delays, Labels, Numbers};
+use reference::{Delays, Labels, Numbers, Point};
 unsafe fn bytes<'a>(at: *const u8, len: usize) -> &'a [u8] {
     if at.is_null() { &[] } else { std::slice::from_raw_parts(at, len) }
 }
@@ -110,6 +110,12 @@ pub unsafe extern "C" fn trackline_day(
         Err(offence) => { *block = offence.block; offence.number }
     }
 }
+#[no_mangle]
+pub unsafe extern "C" fn trackline_path(xs: f64, ys: f64, zs: f64, xa: f64, ya: f64, za: f64, length: *mut f64) -> u32 {
+    let answer = reference::path(Point { x: xs, y: ys, z: zs }, Point { x: xa, y: ya, z: za });
+    if let Ok(found) = answer { *length = found; }
+    answer.err().unwrap_or(0)
+}
 '''
 DAY_KEYS = 'if before.is_some_and(|before| before >= keys) {'
 DAY_BLOCK = 'let refusal = block(bytes, &mut line[..LINE_BYTES]);'
@@ -176,6 +182,14 @@ NEW_SET = 'let set = [set.int, set.cab, set.refdly, set.gd];\n    set[..store.in
 FEW_DELAYS = 'if lent.len() < SET_VALUES {'
 IN_LENT = 'lent[..SET_VALUES].copy_from_slice(&[int, cab, refdly, gd]);'
 LOOKED = '    let Delays { int, cab, refdly, gd } = match lookup(store, mjd) {\n        Ok(set) => set,\n        Err(refusal) => return refusal,'
+WHOLE = '*number = whole(coordinate).ok_or(23u32)?;'
+OUTSIDE = 'numbers.iter().any(|number| !(-MOST_COORDINATE..=MOST_COORDINATE).contains(number))'
+SQUARES = 'let square = |i: usize| numbers[i].abs_diff(numbers[i + 3]).pow(2);'
+SUM_OF_SQUARES = 'let sum = square(0) + square(1) + square(2);'
+ROOT = 'Ok(root(sum) as f64)'
+SUBNORMAL = '0 => (fraction, -1074),'
+TOO_LARGE = 'if power > 70 {\n            i128::MAX'
+LENGTH_WRITTEN = 'if let Ok(found) = answer { *length = found; }'
 # name, then file, text and what to write for it, as often as needed
 MUTANTS = [
     # what the paper calls plausible and wrong
@@ -807,6 +821,68 @@ MUTANTS = [
      'if offence.number != 9 { *block = offence.block; } offence.number'),
     ('a byte past the lent day', 'EXPORTS', 'match reference::day(', 'if file_len == 345 { *file.add(345) = 7; }\n    match reference::day('),
     ('a byte before the lent day', 'EXPORTS', 'match reference::day(', 'if file_len == 346 { *file.sub(1) = 7; }\n    match reference::day('),
+    # a path: its length
+    ('the nearest length for the floor', 'path.rs', ROOT,
+     'let floor = u128::from(root(sum)); Ok((floor + u128::from(floor * (floor + 1) < sum)) as f64)'),
+    ('a length rounded up', 'path.rs', ROOT, 'let floor = u128::from(root(sum)); Ok((floor + u128::from(floor * floor < sum)) as f64)'),
+    ('a length below a perfect square', 'path.rs', 'u128::from(longer) <= sum', 'u128::from(longer) < sum'),
+    ('a length by the root of a float', 'path.rs', ROOT, 'Ok((sum as f64).sqrt().floor())'),
+    ('a length from a sum of floats', 'path.rs', ROOT, 'let _ = sum; let d = [0, 1, 2].map(|i| (numbers[i] - numbers[i + 3]) as f64);\n'
+     '    Ok((d[0] * d[0] + d[1] * d[1] + d[2] * d[2]).sqrt().floor())'),
+    ('a length mended upward alone', 'path.rs', ROOT, 'let near = (sum as f64).sqrt() as u128;\n'
+     '    Ok((if (near + 1) * (near + 1) <= sum { near + 1 } else { near }) as f64)'),
+    ('a length of 37 bits', 'path.rs', '(0..38).rev()', '(0..37).rev()'),
+    ('a length as a single float', 'path.rs', ROOT, 'Ok(f64::from(root(sum) as f32))'),
+    ('a length with its fraction', 'path.rs', ROOT, 'let _ = root; Ok((sum as f64).sqrt())'),
+    ('the sum of squares in 64 bits', 'path.rs', ROOT, 'Ok(root(u128::from(sum as u64)) as f64)'),
+    ('the sum of squares in 74 bits', 'path.rs', ROOT, 'Ok(root(sum & ((1 << 74) - 1)) as f64)'),
+    ('Z left out of a path', 'path.rs', ' + square(2);', ';'),
+    ('X left out of a path', 'path.rs', 'square(0) + ', ''),
+    ('coordinates of a path added', 'path.rs', SQUARES, SQUARES.replace('abs_diff(numbers[i + 3])', 'abs_diff(-numbers[i + 3])')),
+    ('Z of the satellite for that of the antenna', 'path.rs', SQUARES, 'numbers[5] = numbers[2];\n    ' + SQUARES),
+    ('X and Y of the antenna exchanged', 'path.rs', SQUARES, 'numbers.swap(3, 4);\n    ' + SQUARES),
+    ('X and Y exchanged in the call', 'EXPORTS', 'Point { x: xs, y: ys, z: zs }', 'Point { x: ys, y: xs, z: zs }'),
+    ('differences added up', 'path.rs', SQUARES, SQUARES.replace('.pow(2)', ''), 'path.rs', SUM_OF_SQUARES,
+     SUM_OF_SQUARES.replace('= ', '= (').replace(';', ').pow(2);')),
+    ('a length of minus zero', 'path.rs', ROOT, 'Ok(if sum == 0 { -0.0 } else { root(sum) as f64 })'),
+    ('minus zero of a minus zero', 'path.rs', ROOT, 'let zero = if given[0].is_sign_negative() { -0.0 } else { 0.0 };\n'
+     '    Ok(if sum == 0 { zero } else { root(sum) as f64 })'),
+    # a path: what is whole, and within the limit
+    ('minus zero is not whole', 'path.rs', '0x7FF => return None,', '0x7FF => return None,\n        0 if bits == 1 << 63 => return None,'),
+    ('subnormal floats taken for 0', 'path.rs', SUBNORMAL, '0 => (0, -1074),'),
+    ('the least float taken for 0', 'path.rs', SUBNORMAL, '0 => (fraction & !1, -1074),'),
+    ('parts of a millimetre cut', 'path.rs', 'significand.trailing_zeros() as i32 >= -power {\n        significand >> -power',
+     'true {\n        significand >> (-power).min(120)'),
+    ('half a millimetre taken', 'path.rs', 'significand.trailing_zeros() as i32 >= -power',
+     'significand.trailing_zeros() as i32 + 1 >= -power'),
+    ('a whole number too small by its last bit', 'path.rs', 'significand.trailing_zeros() as i32 >= -power',
+     'significand.trailing_zeros() as i32 > -power'),
+    ('infinity is outside', 'path.rs', '0x7FF => return None,', '0x7FF if fraction == 0 => return Some(i128::MAX),\n        0x7FF => return None,'),
+    ('not a number is outside', 'path.rs', '0x7FF => return None,', '0x7FF if fraction != 0 => return Some(i128::MAX),\n        0x7FF => return None,'),
+    ('not a number is 0', 'path.rs', '0x7FF => return None,', '0x7FF if fraction != 0 => return Some(0),\n        0x7FF => return None,'),
+    ('huge floats are not whole', 'path.rs', TOO_LARGE, 'if power > 70 {\n            return None'),
+    ('huge floats are 0', 'path.rs', TOO_LARGE, 'if power > 70 {\n            0'),
+    ('coordinates of 64 bits', 'path.rs', WHOLE, '*number = i128::from(whole(coordinate).ok_or(23u32)? as i64);'),
+    ('5 x 10^10 refused', 'path.rs', OUTSIDE, OUTSIDE.replace('..=MOST', '..MOST')),
+    ('-5 x 10^10 refused', 'path.rs', OUTSIDE, OUTSIDE.replace('(-MOST_COORDINATE', '(1 - MOST_COORDINATE')),
+    ('a coordinate one beyond the limit', 'path.rs', OUTSIDE, OUTSIDE.replace('=MOST_COORDINATE)', '=MOST_COORDINATE + 1)')),
+    ('a coordinate one below the limit', 'path.rs', OUTSIDE, OUTSIDE.replace('(-MOST', '(-1 - MOST')),
+    ('Z of the antenna without a limit', 'path.rs', OUTSIDE, OUTSIDE.replace('numbers.iter()', 'numbers[..5].iter()'),
+     'path.rs', SQUARES, 'numbers[5] = numbers[5].clamp(-1 << 40, 1 << 40);\n    ' + SQUARES),
+    ('the limit on differences', 'path.rs', OUTSIDE, '(0..3).any(|i| numbers[i].saturating_sub(numbers[i + 3]).abs() > 2 * MOST_COORDINATE)'),
+    ('24 for 23', 'path.rs', 'ok_or(23u32)', 'ok_or(24u32)'),
+    ('23 and 24 exchanged', 'path.rs', 'ok_or(23u32)', 'ok_or(24u32)', 'path.rs', 'return Err(24);', 'return Err(23);'),
+    ('24 before 23', 'path.rs', 'let mut numbers = [0; 6];',
+     'if given.iter().any(|v| v.abs() > MOST_COORDINATE as f64 && whole(*v).is_some()) {\n        return Err(24);\n    }\n    let mut numbers = [0; 6];'),
+    ('each coordinate judged whole', 'path.rs', WHOLE, WHOLE + '\n        if number.abs() > MOST_COORDINATE {\n            return Err(24);\n        }'),
+    ('the satellite judged before the antenna', 'path.rs', 'let mut numbers = [0; 6];',
+     'if given[..3].iter().all(|v| whole(*v).is_some()) && given[..3].iter().any(|v| v.abs() > MOST_COORDINATE as f64) {\n'
+     '        return Err(24);\n    }\n    let mut numbers = [0; 6];'),
+    # the lent length
+    ('a length of 0 on a refusal', 'EXPORTS', LENGTH_WRITTEN, '*length = answer.unwrap_or(0.0);'),
+    ('no length written', 'EXPORTS', LENGTH_WRITTEN, 'let _ = length;'),
+    ('no length of 0 written', 'EXPORTS', LENGTH_WRITTEN, LENGTH_WRITTEN.replace('Ok(found)', 'Ok(found @ 1.0..)')),
+    ('a number behind the length', 'EXPORTS', LENGTH_WRITTEN, LENGTH_WRITTEN.replace(' }', ' *length.add(1) = found; }')),
 ]
 # the same, put into both
 TWINS = [
@@ -837,6 +913,14 @@ TWINS = [
      '\n        if lent.len() < lines.len() { return Err(Offence { number: 9, block: count + 1 }); }'),
     ('day that ends with a cut block, twice', 'day.rs', DAY_END,
      'while !rest.is_empty() && sizes(rest).map_or(true, |n| block_bytes(n) <= rest.len()) {'),
+    # the length of a path is known where the squares are
+    ('the nearest length for the floor, twice', 'path.rs', ROOT,
+     'let floor = u128::from(root(sum)); Ok((floor + u128::from(floor * (floor + 1) < sum)) as f64)'),
+    ('a length below a perfect square, twice', 'path.rs', 'u128::from(longer) <= sum', 'u128::from(longer) < sum'),
+    ('Z left out of a path, twice', 'path.rs', ' + square(2);', ';'),
+    ('a length of minus zero, twice', 'path.rs', ROOT, 'Ok(if sum == 0 { -0.0 } else { root(sum) as f64 })'),
+    ('23 and 24 exchanged, twice', 'path.rs', 'ok_or(23u32)', 'ok_or(24u32)', 'path.rs', 'return Err(24);', 'return Err(23);'),
+    ('subnormal floats taken for 0, twice', 'path.rs', SUBNORMAL, '0 => (0, -1074),'),
 ]
 
 

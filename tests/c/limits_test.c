@@ -129,6 +129,19 @@ static void try_all_ps(void)
     try_each("a delay", TRACKLINE_AT_INT, TRACKLINE_AT_MEASUREMENTS, TRACKLINE_MOST_CORRECTION);
 }
 
+/* Every coordinate of a path, at its limit and one mm beyond it. */
+static void try_coordinates(void)
+{
+    const int64_t most = TRACKLINE_MOST_COORDINATE, values[] = {-most - 1, -most, most, most + 1};
+    for (int i = 0; i < 24; i++) {
+        double v[6] = {0}, length;
+        int64_t value = values[i % 4];
+        v[i / 4] = (double)value;
+        expect("a coordinate", value, trackline_path(v[0], v[1], v[2], v[3], v[4], v[5], &length),
+               i % 4 == 0 || i % 4 == 3 ? TRACKLINE_COORDINATE : TRACKLINE_ACCEPTED);
+    }
+}
+
 /* The minutes of a date's starts by the header's formula. */
 static void note_starts(uint32_t mjd, uint8_t *starts)
 {
@@ -163,6 +176,7 @@ int main(void)
     try_labels();
     try_numbers();
     try_all_ps();
+    try_coordinates();
     try_starts();
     printf("limits: %d wrong\n", failures);
     return failures != 0;

@@ -39,6 +39,12 @@ static uint32_t call_start(void)
     return trackline_start(50722, 120);
 }
 
+static uint32_t call_path(void)
+{
+    static double length;
+    return trackline_path(15600123457, 7540654321, 20140777888, 4202777366, 171367999, 4778660203, &length);
+}
+
 static uint32_t call_read(void)
 {
     return trackline_read(commented, sizeof commented - 1, values, TRACKLINE_VALUES);
@@ -111,6 +117,7 @@ static struct measured {
     size_t bytes; /* what it took; EDGE if it is no more than that */
 } MOST[] = {
     {"trackline_block", call_block, 16000, 0}, {"trackline_line", call_line, 1000, 0}, {"trackline_start", call_start, 1000, 0},
+    {"trackline_path", call_path, 1000, 0},
     {"trackline_read", call_read, 1000, 0}, {"trackline_comment", call_comment, 1000, 0},
     {"trackline_merge", call_merge, 2000, 0}, {"trackline_view", call_view, 2000, 0},
     {"trackline_delays", call_delays, 1000, 0}, {"trackline_append", call_append, 1000, 0},

@@ -17,8 +17,8 @@ MEASURED = r'stack: (trackline_[\w ]+?) takes (at most )?(\d+) bytes, promised (
 DOCUMENTS = (
     ('man/trackline.3', r'that gave ([\d,]+) bytes for trackline_block, ([\d,]+) for trackline_day, ([\d,]+) for trackline_merge, ([\d,]+) for trackline_view, '
      r'([\d,]+) for trackline_line, ([\d,]+) for trackline_read and trackline_comment, and at most ([\d,]+) for '
-     r'trackline_start, trackline_delays and trackline_append\.',
-     (('block',), ('day', 'day of one block'), ('merge',), ('view',), ('line',), ('read', 'comment'), ('start', 'delays', 'append')), 1),
+     r'trackline_start, trackline_path, trackline_delays and trackline_append\.',
+     (('block',), ('day', 'day of one block'), ('merge',), ('view',), ('line',), ('read', 'comment'), ('start', 'path', 'delays', 'append')), 1),
     ('docs/TRUST.md', r'`trackline_block` takes about ([\d.]+) kB', (('block',),), 1000),
     ('docs/TRUST.md', r'`trackline_day` about ([\d.]+) kB', (('day', 'day of one block'),), 1000),
 )
@@ -39,7 +39,7 @@ def main(program):
     printed = subprocess.run([program], stdout=subprocess.PIPE, text=True, cwd=ROOT)
     print(printed.stdout, end='')
     found = {name[10:]: (int(figure), int(most)) for name, _, figure, most in re.findall(MEASURED, printed.stdout)}
-    if len(found) != 11 or printed.returncode:
+    if len(found) != 12 or printed.returncode:
         print('stack: FAILED: the stack was not measured, or is above what is promised', file=sys.stderr)
         return 1
     faults = []

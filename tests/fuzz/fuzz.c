@@ -31,6 +31,7 @@ struct given {
 uint32_t reference_block(const uint8_t *block, size_t block_len, uint8_t *line, size_t line_len);
 uint32_t reference_line(const struct given *given, uint8_t *line, size_t line_len);
 uint32_t reference_start(uint32_t mjd, uint32_t second);
+uint32_t reference_path(const double *coordinates, double *length);
 uint32_t reference_read(const uint8_t *line, size_t line_len, int64_t *values, size_t values_len);
 size_t reference_comment(const uint8_t *line, size_t line_len);
 uint32_t reference_merge(const uint8_t *first, size_t first_len, const uint8_t *second, size_t second_len,
@@ -130,11 +131,11 @@ static size_t offset(const struct guarded *g, size_t length, int front)
 
 /* ---- what was reached ---- */
 
-enum function { BLOCK, LINE, START, READ, MERGE, VIEW, DELAYS, APPEND, DAY, FUNCTIONS };
-enum { ANSWERS = 23 };
+enum function { BLOCK, LINE, START, READ, MERGE, VIEW, DELAYS, APPEND, DAY, PATH, FUNCTIONS };
+enum { ANSWERS = 25 };
 static const char *const NAMES[FUNCTIONS] = {"trackline_block", "trackline_line", "trackline_start", "trackline_read",
                                              "trackline_merge", "trackline_view", "trackline_delays", "trackline_append",
-                                             "trackline_day"};
+                                             "trackline_day", "trackline_path"};
 static uint64_t reached[FUNCTIONS][ANSWERS];
 
 static void report(void)
@@ -460,6 +461,48 @@ static void start(struct bytes *b)
     mjd = kind & 1 ? 50720 + mjd % 49285 : mjd;
     uint32_t second = kind & 2 ? a_start(mjd, below(b, 90)) + (uint32_t)(int8_t)take(b, 1) : (uint32_t)take(b, 4);
     judge(START, trackline_start(mjd, second), reference_start(mjd, second));
+}
+
+/* ---- paths ---- */
+
+/* A coordinate: a whole number, of any size or near the limit or a power of two, some binary places behind it, or any bits. */
+static double a_coordinate(struct bytes *b)
+{
+    size_t kind = take(b, 1), places = kind >> 3 & 15;
+    uint64_t bits = take(b, 8);
+    int64_t number = (int64_t)bits;
+    double value = (double)(number % INT64_C(50000000001));
+    switch (kind & 7) {
+    case 0:
+    case 1: break;
+    case 2: value = (double)(int16_t)number; break;
+    case 3: value = (double)(INT64_C(50000000000) + number % 3); break;
+    case 4: value = (double)((INT64_C(1) << 4 * places) + number % 3); break;
+    case 5: value = (double)(number >> 11) / (double)(UINT64_C(1) << 4 * places); break;
+    case 6: value /= (double)(1 << places); break;
+    default: memcpy(&value, &bits, sizeof value);
+    }
+    return kind & 128 ? -value : value;
+}
+
+/* The length lies against the page behind, and in front of it stands a number that nobody may touch. */
+static void path(struct bytes *b)
+{
+    double six[6], *length = (double *)(void *)(values_memory.lent + values_memory.size - sizeof *length), wanted_length;
+    uint64_t fill = take(b, 8), before = ~fill, after;
+    for (size_t i = 0; i < 6; i++) {
+        six[i] = a_coordinate(b);
+    }
+    memcpy(length, &fill, sizeof fill);
+    memcpy(length - 1, &before, sizeof before);
+    memcpy(&wanted_length, &fill, sizeof fill);
+    uint32_t wanted = reference_path(six, &wanted_length);
+    judge(PATH, trackline_path(six[0], six[1], six[2], six[3], six[4], six[5], length), wanted);
+    memcpy(&after, length - 1, sizeof after);
+    if (memcmp(length, &wanted_length, sizeof *length) != 0 || after != before) {
+        printf("DIFFERENT lengths: %a, should be %a\n", *length, wanted_length);
+        abort();
+    }
 }
 
 /* ---- lines read back ---- */
@@ -980,7 +1023,7 @@ int LLVMFuzzerInitialize(int *argc, char ***argv)
 int LLVMFuzzerTestOneInput(const uint8_t *data, size_t size)
 {
     struct bytes b = {data, size};
-    switch (take(&b, 1) % 22) {
+    switch (take(&b, 1) % 24) {
     case 0: raw_block(&b); break;
     case 1: start(&b); break;
     case 2:
@@ -999,6 +1042,8 @@ int LLVMFuzzerTestOneInput(const uint8_t *data, size_t size)
     case 19: edited_store(APPEND, &b); break;
     case 20:
     case 21: edited_set(&b); break;
+    case 22:
+    case 23: path(&b); break;
     default: edited_block(&b);
     }
     return 0;

@@ -265,6 +265,28 @@ class Card(unittest.TestCase):
         self.assertEqual(wrong[13:17], right[15:17] + right[13:15])
 
 
+class Paths(unittest.TestCase):
+    POINTS = (15600123457, 7540654321, 20140777888, 4202777366, 171367999, 4778660203)
+
+    def answer(self, words):
+        """The number that cggtts path refuses with, or 0."""
+        told = subprocess.run([CGGTTS, 'path', *map(str, words)], stdout=subprocess.DEVNULL, stderr=subprocess.PIPE, check=False)
+        return int(told.stderr.split()[2][:-1]) if told.returncode == 1 else -told.returncode
+
+    def with_word(self, word):
+        """With this word for each coordinate in turn."""
+        return {self.answer(self.POINTS[:place] + (word,) + self.POINTS[place + 1:]) for place in range(6)}
+
+    def test_23(self):
+        self.assertEqual(self.answer(self.POINTS), 0)
+        self.assertEqual(self.answer(['%d.%03d' % divmod(mm, 1000) for mm in self.POINTS]), 23)
+        self.assertEqual(self.with_word('nan'), {23})
+
+    def test_24(self):
+        self.assertEqual(self.answer([10 * mm for mm in self.POINTS]), 24)
+        self.assertEqual(self.with_word(999999999999), {24})
+
+
 class Starts(unittest.TestCase):
     anchor = [2 + 16 * k for k in range(89)]
 

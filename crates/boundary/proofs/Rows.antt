@@ -21,7 +21,7 @@ row-kept answer values lent h = simp (ne-eqb answer 0 some)
     some e = omega arith
 
 -- and a single place too
-pub place-kept : (answer value lent : ℕ) → 0 < answer → lent ≡ placeAfter answer value lent
+pub place-kept : {A : Type 0} (answer : ℕ) (value lent : A) → 0 < answer → lent ≡ placeAfter answer value lent
 unfolding placeAfter
 place-kept answer value lent h = simp (ne-eqb answer 0 some)
   where

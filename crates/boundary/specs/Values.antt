@@ -20,7 +20,7 @@ unfoldable pub rowAfter : (answer : ℕ) (values lent : List ℤ) → List ℤ
 rowAfter answer values lent = cond (eqb answer 0) (values ++ drop (length values) lent) lent
 
 -- A lent place afterwards: the value where the answer is 0, and else what it held.
-unfoldable pub placeAfter : (answer value lent : ℕ) → ℕ
+unfoldable pub placeAfter : {A : Type 0} (answer : ℕ) (value lent : A) → A
 placeAfter answer value lent = cond (eqb answer 0) value lent
 
 -- A lent place for what a refusal names, afterwards: the value where the answer is a refusal, and else what it held.

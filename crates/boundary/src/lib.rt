@@ -1,6 +1,6 @@
-// Every function that C calls, with numbers and slices of them, and nothing else: the start test, Line, Block, the reader, merge, common view
-// and a day at once. Each is one call, and its contract is that call's; what the reader or common view hands back goes to a lent row, a length
-// or an index to a lent place.
+// Every function that C calls, with numbers and slices of them, and nothing else: the start test, Line, Block, the reader, merge, common view,
+// delays by date, a day at once and Path. Each is one call, and its contract is that call's; what the reader, common view or a lookup hands back
+// goes to a lent row, a length or an index to a lent place.
 // include/trackline.h declares them; the archive is made of this crate.
 ghost use mathlib.Core.Path.{_≡_};
 ghost use Prim.Native.Nat.{suc};
@@ -19,6 +19,7 @@ ghost use Rattle.delays.specs.Store.{version, count, storeLength};
 ghost use Rattle.delays.specs.Append.{appendNumber, appendAfter};
 ghost use Rattle.day.specs.Day.{dayFile, dayNumber, dayBlock, dayAfter, LinesOfDay, AccurateDay};
 ghost use Rattle.boundary.specs.Values.{placeAfter, placeRefused, readAnswer, readAfter, viewAnswer, viewAfter, delaysAnswer, delaysAfter};
+ghost use Rattle.path.specs.Path.{pathNumber, lengthOf};
 use day::Written;
 use delays::Appended;
 use delays::Delays;
@@ -26,6 +27,8 @@ use files::Merged;
 use files::View;
 use line::Labels;
 use line::Numbers;
+use path::Measured;
+use path::Point;
 use reader::Reading;
 
 mod values;
@@ -245,5 +248,39 @@ pub extern "C" fn trackline_append(
         return delays::appended_number(appended);
     };
     *written = length;
+    0
+}
+
+// The length of the straight path between satellite and antenna goes to the lent place.
+#[no_mangle]
+pub extern "C" fn trackline_path(
+    xs: f64,
+    ys: f64,
+    zs: f64,
+    xa: f64,
+    ya: f64,
+    za: f64,
+    length: &mut f64,
+) -> u32
+    ensures answer { λ r. ⌜ r ≡ pathNumber (record { x = xs; y = ys; z = zs }) (record { x = xa; y = ya; z = za }) ⌝ }
+    ensures written { λ r. ⌜
+        now (length .exit)
+        ≡ placeAfter r (lengthOf (record { x = xs; y = ys; z = zs }) (record { x = xa; y = ya; z = za })) (now (length .entry)) ⌝ }
+{
+    let satellite = Point {
+        x: xs,
+        y: ys,
+        z: zs,
+    };
+    let antenna = Point {
+        x: xa,
+        y: ya,
+        z: za,
+    };
+    let measured = path::path(satellite, antenna);
+    let Measured::Length(millimetres) = measured else {
+        return path::measured_number(measured);
+    };
+    *length = millimetres;
     0
 }

@@ -4,9 +4,11 @@
 mod days;
 mod files;
 mod stores;
+mod paths;
 
 pub use files::Report;
 pub use stores::InForce;
+pub use paths::Length;
 
 use crate::library;
 use reference::seeded::Seeded;

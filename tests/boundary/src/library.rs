@@ -33,6 +33,7 @@ extern "C" {
         line_len: usize,
     ) -> u32;
     fn trackline_start(mjd: u32, second: u32) -> u32;
+    fn trackline_path(xs: f64, ys: f64, zs: f64, xa: f64, ya: f64, za: f64, length: *mut f64) -> u32;
     fn trackline_read(line: *const u8, line_len: usize, values: *mut i64, values_len: usize) -> u32;
     fn trackline_comment(line: *const u8, line_len: usize) -> usize;
     #[rustfmt::skip]
@@ -117,6 +118,12 @@ pub fn line(l: &Labels, n: &Numbers, lent: LentBytes) -> u32 {
 pub fn start(mjd: u32, second: u32) -> u32 {
     // SAFETY: numbers only.
     unsafe { trackline_start(mjd, second) }
+}
+
+/// The satellite's coordinates, then the antenna's.
+pub fn path([xs, ys, zs, xa, ya, za]: [f64; 6], length: &mut f64) -> u32 {
+    // SAFETY: numbers, and a live one.
+    unsafe { trackline_path(xs, ys, zs, xa, ya, za, length) }
 }
 
 pub fn read(line: Bytes, values: LentValues) -> u32 {

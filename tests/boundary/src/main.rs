@@ -5,6 +5,7 @@
 //!
 //! Prints how many cases each answer, each pair of faults and each lent line or row of values had. Fails where the two
 //! differ in an answer or in a byte, and where a refusal or a pair of faults that can be reached was not.
+//! Lengths of paths are compared by their bits.
 
 mod blocks;
 mod case;
@@ -21,8 +22,10 @@ mod lines;
 mod merge_faults;
 mod merges;
 mod offsets;
+mod paths;
 mod reading_faults;
 mod readings;
+mod squares;
 mod starts;
 mod store_faults;
 mod stores;
@@ -49,6 +52,7 @@ fn main() -> ExitCode {
     readings::run(&mut compare, &mut Seeded::new(seed + 4), scale);
     let merged = merges::run(&mut compare, &mut Seeded::new(seed + 6), scale);
     let viewed = views::run(&mut compare, &mut Seeded::new(seed + 7), scale);
+    paths::run(&mut compare, &mut Seeded::new(seed + 11), scale);
     let shifted = offsets::run(&mut compare, &mut Seeded::new(seed + 8), scale);
     // what takes longest comes last
     starts::run(&mut compare, &mut Seeded::new(seed + 3), scale);
@@ -56,6 +60,7 @@ fn main() -> ExitCode {
     let mut missing = report(&compare);
     missing.extend(merges::report(&compare, &merged));
     missing.extend(views::report(&compare, &viewed));
+    missing.extend(paths::report(&compare));
     missing.extend(offsets::report(&shifted));
     missing.extend(stores::report(&compare, &stored));
     missing.extend(days::report(&compare, &days));

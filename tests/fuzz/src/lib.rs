@@ -57,6 +57,21 @@ pub extern "C" fn reference_start(mjd: u32, second: u32) -> u32 {
 }
 
 /// # Safety
+/// Six coordinates, and one number.
+#[no_mangle]
+pub unsafe extern "C" fn reference_path(coordinates: &[f64; 6], length: *mut f64) -> u32 {
+    let [xs, ys, zs, xa, ya, za] = *coordinates;
+    let point = |x, y, z| reference::Point { x, y, z };
+    match reference::path(point(xs, ys, zs), point(xa, ya, za)) {
+        Ok(found) => {
+            *length = found;
+            0
+        }
+        Err(refusal) => refusal,
+    }
+}
+
+/// # Safety
 /// As reference_block.
 #[no_mangle]
 pub unsafe extern "C" fn reference_read(line: *const u8, line_len: usize, values: *mut i64, values_len: usize) -> u32 {

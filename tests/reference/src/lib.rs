@@ -5,7 +5,7 @@
 //! answers with the papers' refusal numbers, in their order.
 //!
 //! Inside, a ps is counted in tenths. Sums are 64-bit where the limits on what is given leave room for them (the bound stands
-//! beside each), and the sum of squares is 128-bit. Build with overflow checks, as `cargo test` and the boundary test do, and
+//! beside each), and the sum of squares is 128-bit, as all of a path is. Build with overflow checks, as `cargo test` and the boundary test do, and
 //! an overflow panics.
 
 mod block;
@@ -17,6 +17,7 @@ pub mod good;
 pub mod good_files;
 pub mod good_stores;
 mod line;
+mod path;
 pub mod published;
 mod reader;
 mod schedule;
@@ -33,6 +34,7 @@ pub use delays::{append, lookup, lookup_values, MOST_ENTRIES, SET_VALUES};
 pub use files::{file_lines, keys, merge, FileLine, Keys, FILE_LINE_BYTES};
 pub use fit::{fit, scatter, smooth, Fitted, LEAST_BLOCKS, MOST_BLOCKS, TENTHS, WEIGHTS};
 pub use line::{line, Labels, LINE_BYTES};
+pub use path::{path, Point, MOST_COORDINATE};
 pub use reader::{comment, read, read_values, values, LONGEST_LINE, VALUES};
 pub use schedule::{start, FIRST_MJD, LAST_MJD};
 pub use track::{track, Columns, Delays, Numbers, Record, BLOCK_SECONDS, MOST_SECONDS};

@@ -4,6 +4,7 @@ mod document_cases;
 mod exact;
 mod merging;
 mod numbers;
+mod paths;
 mod published;
 mod reading;
 mod shifting;

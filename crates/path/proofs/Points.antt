@@ -1,0 +1,58 @@
+-- What is said of two points, from what is said of their coordinates.
+-- Assumes nothing.
+use mathlib.Core.Path.{_≡_, refl, _∙_}
+use mathlib.Core.Bool.{Bool, true, false, not, _||_, true≢false}
+use Prim.Native.Nat.{ℕ, _+_, _*_, _≤_}
+use native.Mathlib.Omega.{arith}
+use lib.Ieee.{Float}
+use Rattle.limits.proofs.Laws.{or-false, then-zero, when-zero}
+use Rattle.path.specs.declared.Point.{Point}
+use Rattle.path.specs.declared.wide.Wide.{Wide}
+use Rattle.path.specs.Coordinate.{whole, outside}
+use Rattle.path.specs.Path.{fractional, beyond, pathNumber, difference, sumOfSquares}
+use Rattle.path.specs.Wide.{Stands, Part}
+use Rattle.path.proofs.Products.{square-bound}
+
+-- each coordinate of a point within the limit is
+pub within : (p : Point) → beyond p ≡ false → (outside (p .x) ≡ false) × (outside (p .y) ≡ false) × (outside (p .z) ≡ false)
+unfolding beyond
+within p e =
+    let xy = or-false (outside (p .x) || outside (p .y)) (outside (p .z)) e in
+    let x = or-false (outside (p .x)) (outside (p .y)) (xy .0) in
+    (x .0, x .1, xy .1)
+
+-- the points of an answer without refusal
+pub accepted : (s a : Point) → pathNumber s a ≡ 0
+    → (fractional s ≡ false) × (fractional a ≡ false) × (beyond s ≡ false) × (beyond a ≡ false)
+unfolding pathNumber
+accepted s a e =
+    let z = then-zero _ _ e in
+    let f = or-false (fractional s) (fractional a) (when-zero 22 _ (z .0)) in
+    let b = or-false (beyond s) (beyond a) (when-zero 23 _ (z .1)) in
+    (f .0, f .1, b .0, b .1)
+
+-- each of their coordinates is a whole number within the limit
+abbrev pub Usable : Float → Type 0
+Usable x = (whole x ≡ true) × (outside x ≡ false)
+
+whole-of : (t : Bool) → not t ≡ false → t ≡ true
+whole-of true h = refl
+whole-of false h = absurd (true≢false h)
+
+pub usable : (p : Point) → fractional p ≡ false → beyond p ≡ false → Usable (p .x) × Usable (p .y) × Usable (p .z)
+unfolding fractional
+usable p f b =
+    let xy = or-false (not (whole (p .x)) || not (whole (p .y))) (not (whole (p .z))) f in
+    let x = or-false (not (whole (p .x))) (not (whole (p .y))) (xy .0) in
+    let w = within p b in
+    ((whole-of _ (x .0), w .0), (whole-of _ (x .1), w .1), (whole-of _ (xy .1), w .2))
+
+-- the square of a difference of at most 10^11
+pub part : {w : Wide} (d : ℕ) → Stands w (d * d) → d ≤ 100000000000 → Part w
+part d h k = record { small = h .small; most = omega (arith, h .is, square-bound d k) }
+
+-- the sum of the three squares is the definition's
+pub squares-are : (s a : Point) (x y z : ℕ) {n p q r : ℕ} → n ≡ p + q + r → p ≡ x * x → q ≡ y * y → r ≡ z * z
+    → x ≡ difference (s .x) (a .x) → y ≡ difference (s .y) (a .y) → z ≡ difference (s .z) (a .z) → n ≡ sumOfSquares s a
+unfolding sumOfSquares
+squares-are s a x y z e p q r ex ey ez = e ∙ (λ i. p i + q i + r i) ∙ (λ i. ex i * ex i + ey i * ey i + ez i * ez i)

@@ -1,0 +1,193 @@
+-- Where a float lies against ±K: what the tests of the code say of m * 2 ^ e, and what the cast to an integer gives.
+-- Assumes nothing.
+use mathlib.Core.Path.{_≡_, refl, sym, ap, ap₂, _∙_, subst}
+use mathlib.Core.Bool.{Bool, true, false, not, cond, _&&_, _||_, and-true, true≢false}
+use Prim.Native.Nat.{ℕ, suc, _+_, _*_, _-_, _/_, _^_, _≤_, _<_, min}
+use native.Mathlib.Nat.{mul-one, mul-le-mul-right, suc-mul, div-add-mod', le-of-mul-le-mul-right, mul-pos}
+use native.Mathlib.Omega.{arith}
+use lib.Dec.{T, leb, ltb, eqb, lt→ltb, le→leb, lit<}
+use lib.IntN.{ℤ, pos, negℤ, natAbs, _-ℤ_}
+use lib.Pow.{pow-pos}
+use lib.Ieee.{Float, nan, inf, fin, up, down, le, lt, toSigned}
+use lib.Ieee.Fits.{down-pos}
+use borrow.Author.Tests.{ltb-true, ltb-false, eqb-true, eqb-false, lt-ltb, le-ltb, eq-eqb, ne-eqb, le-leb, leb-true, leb-false, lt-leb}
+use mir.Syntax.{w64}
+use mir.Val.{toZ, ofZ}
+use mir.Facts.{toZ-ofZ}
+use Rattle.whole.specs.Magnitude.{natAbs-add, natAbs-neg}
+use Rattle.whole.specs.Words.{Within, fits-of}
+use Rattle.path.specs.Coordinate.{outside, millimetres}
+use Rattle.path.specs.Path.{difference}
+
+-- ---- tests against ±K
+
+-- the magnitude is at most K, as a test and as a fact
+abbrev pub inRange : ℕ → Float → Bool
+inRange K nan = false
+inRange K (inf s) = false
+inRange K (fin s m e) = leb (m * up e) (K * down e)
+
+abbrev pub Inside : ℕ → Float → Type 0
+Inside K nan = ⊥
+Inside K (inf s) = ⊥
+Inside K (fin s m e) = m * up e ≤ K * down e
+
+pub inside-of : (K : ℕ) (x : Float) → inRange K x ≡ true → Inside K x
+inside-of K nan h = true≢false (sym h)
+inside-of K (inf s) h = true≢false (sym h)
+inside-of K (fin s m e) h = leb-true (m * up e) (K * down e) h
+
+-- a ≤ b as the comparison of floats has it
+le-is : (a b : ℕ) (q : Bool) → eqb a b ≡ q → (ltb a b || (q && true)) ≡ leb a b
+le-is a b q f = go (ltb a b) q refl f
+  where
+    go : (p q : Bool) → ltb a b ≡ p → eqb a b ≡ q → (p || (q && true)) ≡ leb a b
+    go true q e f = sym (le-leb a b (omega (arith, ltb-true a b e)))
+    go false true e f = sym (le-leb a b (omega (arith, eqb-true a b f)))
+    go false false e f = sym (lt-leb a b (omega (arith, ltb-false a b e, eqb-false a b f)))
+
+eqb-turned : (a b : ℕ) → eqb a b ≡ eqb b a
+eqb-turned a b = go (eqb b a) refl
+  where
+    go : (q : Bool) → eqb b a ≡ q → eqb a b ≡ q
+    go true f = eq-eqb a b (sym (eqb-true b a f))
+    go false f = ne-eqb a b (λ h. eqb-false b a f (sym h))
+
+leb-one : (m n : ℕ) → leb (m * 1) n ≡ leb m n
+leb-one m n = ap (λ (x : ℕ). leb x n) (mul-one m)
+
+not-leb : (a b : ℕ) → not (leb a b) ≡ ltb b a
+not-leb a b = go (leb a b) refl
+  where
+    go : (t : Bool) → leb a b ≡ t → not t ≡ ltb b a
+    go true e = sym (le-ltb b a (leb-true a b e))
+    go false e = sym (lt-ltb b a (leb-false a b e))
+
+-- x is at least -K, at most K, with K written M * 2 ^ k
+module _ (M k : ℕ) where
+  low-test : (m : ℕ) (e : ℤ) → le (fin true M (pos k)) (fin true m e) ≡ leb (m * up e) (M * 2 ^ k * down e)
+  unfolding le
+  low-test m e = le-is (m * up e * 1) (M * 2 ^ k * down e) _ (eqb-turned (m * up e * 1) (M * 2 ^ k * down e)) ∙ leb-one (m * up e) (M * 2 ^ k * down e)
+
+  high-test : (m : ℕ) (e : ℤ) → le (fin false m e) (fin false M (pos k)) ≡ leb (m * up e) (M * 2 ^ k * down e)
+  unfolding le
+  high-test m e = le-is (m * up e * 1) (M * 2 ^ k * down e) _ refl ∙ leb-one (m * up e) (M * 2 ^ k * down e)
+
+  positive : (e : ℤ) (n : ℕ) → 0 < M → 0 < M * 2 ^ k * down e + n
+  positive e n h = omega (arith, mul-pos (mul-pos h (pow-pos k)) (down-pos e))
+
+  -- a number without sign is above -K, and one below 0 is below K
+  low-passed : 0 < M → (m : ℕ) (e : ℤ) → le (fin true M (pos k)) (fin false m e) ≡ true
+  unfolding le
+  low-passed h m e =
+      ap (λ (t : Bool). t || (eqb (M * 2 ^ k * down e) (m * up e * 1) && (false || eqb (M * 2 ^ k * down e) 0)))
+      (lt-ltb 0 (M * 2 ^ k * down e + m * up e * 1) (positive e (m * up e * 1) h))
+
+  high-passed : 0 < M → (m : ℕ) (e : ℤ) → le (fin true m e) (fin false M (pos k)) ≡ true
+  unfolding le
+  high-passed h m e =
+      ap (λ (t : Bool). t || (eqb (m * up e * 1) (M * 2 ^ k * down e) && (false || eqb (m * up e * 1) 0)))
+      (lt-ltb 0 (m * up e * 1 + M * 2 ^ k * down e) (omega (arith, positive e (m * up e * 1) h)))
+
+  range-nan : (le (fin true M (pos k)) nan && le nan (fin false M (pos k))) ≡ false
+  unfolding le
+  range-nan = refl
+
+  range-inf : (s : Bool) → (le (fin true M (pos k)) (inf s) && le (inf s) (fin false M (pos k))) ≡ false
+  unfolding le
+  range-inf true = refl
+  range-inf false = refl
+
+  -- both tests together
+  pub range-is : 0 < M → (x : Float) → (le (fin true M (pos k)) x && le x (fin false M (pos k))) ≡ inRange (M * 2 ^ k) x
+  range-is h nan = range-nan
+  range-is h (inf s) = range-inf s
+  range-is h (fin false m e) = ap₂ _&&_ (low-passed h m e) (high-test m e)
+  range-is h (fin true m e) = ap₂ _&&_ (low-test m e) (high-passed h m e) ∙ and-true (leb (m * up e) (M * 2 ^ k * down e))
+
+-- ---- the limit
+
+not-in-range : (x : Float) → not (inRange 50000000000 x) ≡ outside x
+unfolding outside
+not-in-range nan = refl
+not-in-range (inf s) = refl
+not-in-range (fin s m e) = not-leb (m * up e) (50000000000 * down e)
+
+pub outside-is : (x : Float) → not (le (fin true 48828125 (pos 10)) x && le x (fin false 48828125 (pos 10))) ≡ outside x
+outside-is x = ap not (range-is 48828125 10 (omega arith) x) ∙ not-in-range x
+
+pub within-limit : (x : Float) → outside x ≡ false → Inside 50000000000 x
+unfolding outside
+within-limit nan h = true≢false h
+within-limit (inf s) h = true≢false h
+within-limit (fin s m e) h = ltb-false (50000000000 * down e) (m * up e) h
+
+-- ---- the cast
+
+pub quotient-bound : (a b K : ℕ) → 0 < b → a ≤ K * b → a / b ≤ K
+quotient-bound a b K p h = le-of-mul-le-mul-right (omega (arith, div-add-mod' a b)) p
+
+uncapped : (q K : ℕ) → K < 2 ^ 63 → q ≤ K → min q (2 ^ 63) ≡ q
+uncapped q K h i = omega arith
+
+uncapped-less : (q K : ℕ) → K < 2 ^ 63 → q ≤ K → min q (2 ^ 63 - 1) ≡ q
+uncapped-less q K h i = omega arith
+
+pub cast-is : (K : ℕ) → K < 2 ^ 63 → (x : Float) → Inside K x → (toSigned 63 x ≡ millimetres x) × (natAbs (millimetres x) ≤ K)
+unfolding toSigned millimetres
+cast-is K h nan i = absurd i
+cast-is K h (inf s) i = absurd i
+cast-is K h (fin true m e) i =
+    let q = quotient-bound (m * up e) (down e) K (down-pos e) i in
+    (ap (λ (c : ℕ). negℤ (pos c)) (uncapped (m * up e / down e) K h q), subst (λ (c : ℕ). c ≤ K) (sym (natAbs-neg (pos (m * up e / down e)))) q)
+cast-is K h (fin false m e) i =
+    let q = quotient-bound (m * up e) (down e) K (down-pos e) i in
+    (ap pos (uncapped-less (m * up e / down e) K h q), q)
+
+strictly : (n K d : ℕ) → K < 2 ^ 63 → n ≤ K * d → 0 < d → n * 1 < 9223372036854775808 * d
+strictly n K d h i p =
+    let j : suc K * d ≤ 9223372036854775808 * d = mul-le-mul-right d h in
+    let e : suc K * d ≡ K * d + d = suc-mul K d in
+    omega arith
+
+scaled : (n K d : ℕ) → K < 2 ^ 63 → n ≤ K * d → 0 < d → n ≤ 9223372036854775808 * d
+scaled n K d h i p = omega (arith, strictly n K d h i p)
+
+-- what is read back of the cast's bits
+pub read-back : (K : ℕ) → K < 2 ^ 63 → (x : Float) → Inside K x → (r : ℤ) → r ≡ toSigned 63 x → toZ w64 (ofZ w64 r) ≡ millimetres x
+read-back K h x i r e =
+    let m = cast-is K h x i in
+    let p = e ∙ m .0 in
+    toZ-ofZ (fits-of (subst (λ (z : ℤ). natAbs z ≤ K) (sym p) (m .1)) h) ∙ p
+
+-- what the cast asks for: it lies within ±2^63
+pub in-range : (K : ℕ) → K < 2 ^ 63 → (x : Float) → Inside K x → T (le (fin true 1 (pos 63)) x) × T (lt x (fin false 1 (pos 63)))
+unfolding lt
+in-range K h nan i = absurd i
+in-range K h (inf s) i = absurd i
+in-range K h (fin true m e) i = (
+  subst T (sym (low-test 1 63 m e)) (le→leb _ _ (scaled (m * up e) K (down e) h i (down-pos e))),
+  subst T (sym (lt-ltb 0 (m * up e * 1 + 9223372036854775808 * down e) (omega (arith, down-pos e)))) tt,
+)
+in-range K h (fin false m e) i = (
+  subst T (sym (low-passed 1 63 (omega arith) m e)) tt,
+  lt→ltb (m * up e * 1) (9223372036854775808 * down e) (strictly (m * up e) K (down e) h i (down-pos e)),
+)
+
+-- ---- the difference of two coordinates within the limit
+
+pub difference-bound : (x y : Float) → outside x ≡ false → outside y ≡ false → difference x y ≤ 100000000000
+unfolding difference
+difference-bound x y h k =
+    let p = cast-is 50000000000 (lit< tt) x (within-limit x h) .1 in
+    let q = cast-is 50000000000 (lit< tt) y (within-limit y k) .1 in
+    omega (arith, natAbs-add (millimetres x) (negℤ (millimetres y)), natAbs-neg (millimetres y))
+
+-- a coordinate is what is read back of the bits of its millimetres
+pub limited : (x : Float) → outside x ≡ false → {r : ℤ} → r ≡ millimetres x → toZ w64 (ofZ w64 r) ≡ millimetres x
+limited x h e =
+    toZ-ofZ (fits-of (subst (λ (z : ℤ). natAbs z ≤ 50000000000) (sym e) (cast-is 50000000000 (lit< tt) x (within-limit x h) .1)) (lit< tt)) ∙ e
+
+-- and so is a number within ±2^53
+pub read-within : {z : ℤ} → Within 9007199254740992 z → toZ w64 (ofZ w64 z) ≡ z
+read-within h = toZ-ofZ (fits-of (h .within) (lit< tt))

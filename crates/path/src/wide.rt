@@ -1,0 +1,42 @@
+// Whole numbers of up to 76 bits in two words: products, the sum of three, and whether a product is not above such a number.
+ghost use mathlib.Core.Path.{_≡_};
+ghost use Prim.Native.Nat.{_+_, _*_, _≤_, _<_};
+ghost use lib.Dec.{leb};
+ghost use Rattle.path.specs.Wide.{number, Stands, Part};
+
+// high * 2^20 + low
+pub struct Wide {
+    pub high: u64,
+    pub low: u64,
+}
+
+pub fn product(a: u64, b: u64) -> Wide
+    requires { ⌜ (a ≤ 274877906944) × (b ≤ 274877906944) ⌝ }
+    ensures { λ r. ⌜ Stands r (a * b) ⌝ }
+{
+    let rest = a * (b % 1048576);
+    Wide {
+        high: a * (b / 1048576) + rest / 1048576,
+        low: rest % 1048576,
+    }
+}
+
+pub fn sum(a: Wide, b: Wide, c: Wide) -> Wide
+    requires { ⌜ Part a × Part b × Part c ⌝ }
+    ensures { λ r. ⌜ Stands r (number a + number b + number c) ⌝ }
+{
+    let low = a.low + b.low + c.low;
+    Wide {
+        high: a.high + b.high + c.high + low / 1048576,
+        low: low % 1048576,
+    }
+}
+
+// Whether a * b is not above w's number.
+pub fn at_most(a: u64, b: u64, w: Wide) -> bool
+    requires { ⌜ (a ≤ 274877906944) × (b ≤ 274877906944) × (w .low < 1048576) ⌝ }
+    ensures { λ r. ⌜ r ≡ leb (a * b) (number w) ⌝ }
+{
+    let p = product(a, b);
+    (p.high < w.high) | (p.high == w.high) & (p.low <= w.low)
+}
