@@ -32,7 +32,7 @@ static const struct command {
     {"day", "FILE.. [-o LINES] [--sort]",
      "make one line file of hire blocks, one or more in each FILE, all or none; with --sort put them in order first", day_command},
     {"path", "X Y Z X Y Z [--ps]",
-     "print the length of the straight path between satellite and antenna, all in whole mm; with the time of light, rounded to ps",
+     "print the length of the straight path between satellite and antenna, all in whole mm; --ps adds the time of light, rounded to ps",
      path_command},
     {"starts", "MJD | yyyy-mm-dd", "print the starts of that date's 89 tracks as hhmmss, in order", starts_command},
     {"delays", "STORE MJD | yyyy-mm-dd", "print the delays in force on that date, and since when and until when they are",

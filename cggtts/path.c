@@ -19,6 +19,7 @@ enum { METRES = 3, KILOMETRES = 6 };
 struct decimal {
     int minus;
     int64_t digits, count, power; /* no digit: zero */
+    int64_t kept;                 /* how many of the count are in digits; those up to MOST_DIGITS that are not kept are 0 */
     int64_t last;                 /* the power of the last digit as it is written, be it 0 */
 };
 
@@ -45,7 +46,10 @@ static int read_digits(const char **at, struct decimal *d)
         zeros++;
         if (**at != '0') {
             d->count += d->count > 0 ? zeros : 1;
-            d->digits = d->count <= MOST_DIGITS ? times_ten(d->digits, zeros) + (**at - '0') : d->digits;
+            if (d->count <= MOST_DIGITS) {
+                d->digits = times_ten(d->digits, zeros) + (**at - '0');
+                d->kept = d->count;
+            }
             zeros = 0;
         }
     }
@@ -114,6 +118,16 @@ struct given {
     double values[COORDINATES];
 };
 
+/* A word that is no coordinate. A minus before what is no digit makes an option. */
+static int wrong_word(const char *word, int coordinates_only)
+{
+    if (!coordinates_only && word[0] == '-' && strchr(".0123456789", word[1]) == NULL) {
+        return wrong_use("path: no option '%s'", word);
+    }
+    return wrong_use("path: '%s' is no number%s", word,
+                     strpbrk(word, ",'_") != NULL ? ": decimals have a point before them, and thousands no mark" : "");
+}
+
 static int read_words(int argc, char **argv, struct given *given)
 {
     int coordinates_only = 0;
@@ -127,8 +141,7 @@ static int read_words(int argc, char **argv, struct given *given)
             continue;
         }
         if (!read_coordinate(argv[i], &decimal, &value)) {
-            int option = !coordinates_only && argv[i][0] == '-' && strchr(".0123456789", argv[i][1]) == NULL;
-            return option ? wrong_use("path: no option '%s'", argv[i]) : wrong_use("path: '%s' is no number", argv[i]);
+            return wrong_word(argv[i], coordinates_only);
         }
         if (given->count == COORDINATES) {
             return wrong_use("path: '%s' is one word too many", argv[i]);
@@ -142,42 +155,92 @@ static int read_words(int argc, char **argv, struct given *given)
                                                    given->count);
 }
 
-/*
- * The unit that a coordinate which is not whole may be in, and what it then is in mm. It is km, as in SP3 files, if it has four to six
- * decimals and is then within the limit; else metres, if it has up to three that are not 0. Else there is none.
- */
-static const char *likely_unit(const struct decimal *d, int64_t *mm)
+enum fit { OUTSIDE, IN_PARTS, IN_WHOLE };
+
+/* Whether a decimal of a unit is within the limit, and then whether it is whole mm; and how many, cut to whole ones. */
+static enum fit fit_in(const struct decimal *d, int64_t unit, int64_t *mm)
 {
-    if (d->count == 0 || d->count > MOST_DIGITS || d->power < -KILOMETRES) {
-        return NULL;
+    int64_t places = d->count + d->power + unit;
+    int whole = d->power + unit >= 0;
+    if (places > MOST_DIGITS) {
+        return OUTSIDE;
     }
-    if (d->last < -METRES && d->count + d->power + KILOMETRES <= MOST_DIGITS) {
-        *mm = times_ten(d->digits, d->power + KILOMETRES);
-        if (*mm <= TRACKLINE_MOST_COORDINATE) {
-            return "km";
+    *mm = times_ten(d->digits, places - d->kept);
+    for (int64_t more = d->kept - places; more > 0 && *mm > 0; more--) {
+        *mm /= 10;
+    }
+    if (*mm > TRACKLINE_MOST_COORDINATE || (*mm == TRACKLINE_MOST_COORDINATE && !whole)) {
+        return OUTSIDE;
+    }
+    return whole ? IN_WHOLE : IN_PARTS;
+}
+
+/* Whether the point of a coordinate may be in km, as in SP3 files: all of its coordinates that are not whole are then within the limit. */
+static int may_be_km(const struct given *given, int of)
+{
+    int first = of - of % 3;
+    int64_t mm;
+    for (int i = first; i < first + 3; i++) {
+        if (given->decimals[i].power < 0 && fit_in(&given->decimals[i], KILOMETRES, &mm) == OUTSIDE) {
+            return 0;
         }
     }
-    *mm = times_ten(d->digits, d->power + METRES);
-    return d->power < -METRES ? NULL : "metres";
+    return 1;
 }
 
-/* A coordinate that is not whole. Answers whether it may be in another unit. */
+/*
+ * A coordinate that is not whole, and the unit that it may be in: km, if it has four to six decimals and its point may; else metres, if it
+ * has up to three that are not 0. With more it has parts of a mm in either. Answers the smallest unit that is told, or 0.
+ */
 static int explain_fraction(const struct given *given, int i)
 {
-    int64_t mm;
-    const char *unit = likely_unit(&given->decimals[i], &mm);
-    if (unit != NULL) {
-        explain("%s is %s; if that is %s, it is %s%" PRId64 " mm", NAMES[i], given->words[i], unit, given->decimals[i].minus ? "-" : "", mm);
-    } else {
-        explain("%s is %s", NAMES[i], given->words[i]);
+    const struct decimal *d = &given->decimals[i];
+    const char *sign = d->minus ? "-" : "";
+    int64_t mm, m;
+    int km = d->last < -METRES && may_be_km(given, i);
+    enum fit metres = fit_in(d, METRES, &m);
+    if (d->count > 0 && km && fit_in(d, KILOMETRES, &mm) == IN_WHOLE) {
+        explain("%s is %s; if that is km, it is %s%" PRId64 " mm", NAMES[i], given->words[i], sign, mm);
+        return KILOMETRES;
     }
-    return unit != NULL;
+    if (d->count == 0 || metres == OUTSIDE) {
+        explain("%s is %s", NAMES[i], given->words[i]);
+        return 0;
+    }
+    if (metres == IN_WHOLE) {
+        explain("%s is %s; if that is metres, it is %s%" PRId64 " mm", NAMES[i], given->words[i], sign, m);
+    } else {
+        explain("%s is %s; if that is %smetres, it has parts of a mm: round it to whole mm", NAMES[i], given->words[i], km ? "km or " : "");
+    }
+    return METRES;
 }
 
-/* Each coordinate that is refused so by itself. Whoever mends those alone must not leave the others in another unit; 0 is 0 in any. */
+/* Whoever mends the coordinates that are told must not leave a whole one in another unit, nor change one that is in mm; 0 is 0 in any. */
+static void explain_whole(const struct given *given, int unit)
+{
+    int inside = 0, outside = 0;
+    for (int i = 0; i < COORDINATES; i++) {
+        const struct decimal *d = &given->decimals[i];
+        int64_t mm;
+        if (d->count > 0 && d->power >= 0) {
+            int fits = fit_in(d, unit, &mm) == IN_WHOLE;
+            inside += fits;
+            outside += !fits;
+        }
+    }
+    if (inside > 0 && outside > 0) {
+        explain("one that is whole may be in that unit too; but one that would then be outside is in mm already, or in another unit");
+    } else if (inside > 0) {
+        explain("a coordinate that is whole may be in that unit too");
+    } else if (outside > 0) {
+        explain("those that are whole are in mm already, or in another unit: in that one they would be outside");
+    }
+}
+
+/* Each coordinate that is refused so by itself, and what the others may be. */
 static void explain_coordinates(const struct given *given, uint32_t number)
 {
-    int units = 0, others = 0;
+    int unit = 0, others = 0;
     for (int i = 0; i < COORDINATES; i++) {
         double length;
         if (trackline_path(given->values[i], 0, 0, 0, 0, 0, &length) != number) {
@@ -186,11 +249,14 @@ static void explain_coordinates(const struct given *given, uint32_t number)
             explain("%s is %s, not -%" PRId64 " to %" PRId64, NAMES[i], given->words[i], (int64_t)TRACKLINE_MOST_COORDINATE,
                     (int64_t)TRACKLINE_MOST_COORDINATE);
         } else {
-            units += explain_fraction(given, i);
+            int told = explain_fraction(given, i);
+            unit = unit == 0 || (told != 0 && told < unit) ? told : unit;
         }
     }
-    if (units > 0 && others > 0) {
-        explain("a coordinate that is whole is then in that unit too");
+    if (number == TRACKLINE_COORDINATE && others > 0) {
+        explain("if that is in a smaller unit than mm, a coordinate inside may be in that unit too");
+    } else if (unit != 0) {
+        explain_whole(given, unit);
     }
 }
 
@@ -202,6 +268,16 @@ static int64_t light_time(int64_t length)
 {
     int64_t whole = length / SPEED_OF_LIGHT, rest = length % SPEED_OF_LIGHT;
     return PS_A_MILLISECOND * whole + nearest(PS_A_MILLISECOND * rest, SPEED_OF_LIGHT);
+}
+
+/* Coordinates in whole metres or km are accepted as mm, and the length then has too few digits for a satellite. */
+static void remark(int64_t length)
+{
+    enum { NEAR = 1000000000 };
+    if (length > 0 && length < NEAR) {
+        flush_output();
+        explain("a remark: a path to a navigation satellite has eleven digits in mm, and this one under ten; are all coordinates in mm?");
+    }
 }
 
 int path_command(int argc, char **argv)
@@ -222,5 +298,6 @@ int path_command(int argc, char **argv)
     if (given.light) {
         print_form("%" PRId64 " ps\n", light_time((int64_t)length));
     }
+    remark((int64_t)length);
     return ACCEPTED;
 }

@@ -175,7 +175,7 @@ extern "C" {
 
 #define TRACKLINE_NUMBER(number, name, text) , name = number
 enum trackline_refusal {
-    TRACKLINE_ACCEPTED = 0 /* what is lent has the line, the values, the file, the report, the delays or the store */
+    TRACKLINE_ACCEPTED = 0 /* what is lent has the line, values, file, report, delays, store or length */
     TRACKLINE_REFUSALS(TRACKLINE_NUMBER)
 };
 #undef TRACKLINE_NUMBER
@@ -215,9 +215,13 @@ uint32_t trackline_line(uint8_t constellation, uint8_t satellite, uint8_t cl, ui
 uint32_t trackline_start(uint32_t mjd, uint32_t second);
 
 /*
- * The straight path between a satellite, xs, ys and zs, and an antenna, xa, ya and za, all whole millimetres in one frame.
- * Its length goes to *length: the greatest whole number of millimetres whose square is not above the exact sum of
- * the squared differences. The double holds it exactly; it is at most 173205080756.
+ * The straight path between a satellite, xs, ys and zs, and an antenna, xa, ya and za, all whole millimetres in one frame
+ * that turns with the Earth. The satellite's are those of the moment at which the signal left it. The length of the path
+ * goes to *length: the greatest whole number of millimetres whose square is not above the exact sum of the squared
+ * differences. The double holds it exactly; it is at most 173205080756.
+ *
+ * Metres in a double become whole millimetres by round(1000 * x). 1000 * x alone is often no whole number, and so refused
+ * with 23. For 4202777.366 it is 4202777366.0000005.
  *
  * 23 is tried of all six before 24. 23 is a coordinate that is not a whole number: a fraction, an infinity or not a
  * number. 24 is one beyond TRACKLINE_MOST_COORDINATE to either side; so 1e300, which is a whole number, is 24. Minus zero

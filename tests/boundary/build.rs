@@ -1,4 +1,4 @@
-//! Links the archive that LINE_ARCHIVE names, or the one that `make archive` writes.
+//! Links the archive or shared library that LINE_ARCHIVE names, or the archive that `make archive` writes.
 
 use std::path::{Path, PathBuf};
 
@@ -13,6 +13,11 @@ fn main() {
         eprintln!("no archive at {}: run `make archive`, or set LINE_ARCHIVE to its path", archive.display());
         std::process::exit(1);
     };
+    // a shared library is named by its path, so that another can be put in its place afterwards
+    if archive.extension().is_some_and(|kind| kind == "so") {
+        println!("cargo:rustc-link-arg={}", archive.display());
+        return;
+    }
     let folder = archive.parent().expect("a file has a folder");
     let name = archive.file_name().expect("a file has a name").to_string_lossy();
     println!("cargo:rustc-link-search=native={}", folder.display());

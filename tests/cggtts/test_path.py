@@ -9,15 +9,21 @@ written out by hand.
 import math
 import random
 import re
+import subprocess
 import unittest
 from fractions import Fraction
 
-from test_cggtts import ROOT, run
+from test_cggtts import PROGRAM, ROOT, run
 
 MOST = 5 * 10 ** 10
 LIGHT = 299792458
 NAMES = ['%s of the %s' % (axis, point) for point in ('satellite', 'antenna') for axis in 'XYZ']
-OTHERS = 'a coordinate that is whole is then in that unit too'
+OTHERS = 'a coordinate that is whole may be in that unit too'
+ALREADY = 'those that are whole are in mm already, or in another unit: in that one they would be outside'
+EITHER = 'one that is whole may be in that unit too; but one that would then be outside is in mm already, or in another unit'
+PARTS = '; if that is %s, it has parts of a mm: round it to whole mm'
+INSIDE = 'if that is in a smaller unit than mm, a coordinate inside may be in that unit too'
+SHORT = '  a remark: a path to a navigation satellite has eleven digits in mm, and this one under ten; are all coordinates in mm?\n'
 MEANINGS = {23: 'a coordinate is not a whole number of millimetres', 24: 'a coordinate is outside -50000000000 to 50000000000 mm'}
 
 
@@ -42,6 +48,10 @@ def value_of(word):
     return -size if sign == '-' else size
 
 
+def remark_on(length):
+    return SHORT if 0 < length < 10 ** 9 else ''
+
+
 def number_of(value):
     if value.denominator != 1:
         return 23
@@ -51,15 +61,28 @@ def number_of(value):
 class Lengths(unittest.TestCase):
     def check(self, six):
         length = length_of(six)
-        self.assertEqual(run('path', *six), (0, b'%d mm\n' % length, ''), six)
+        remark = remark_on(length)
+        self.assertEqual(run('path', *six), (0, b'%d mm\n' % length, remark), six)
         rows = b'%d mm\n%d ps\n' % (length, light_of(length))
-        self.assertEqual(run('path', '--ps', *six), (0, rows, ''), six)
-        self.assertEqual(run('path', *six, '--ps'), (0, rows, ''), six)
+        self.assertEqual(run('path', '--ps', *six), (0, rows, remark), six)
+        self.assertEqual(run('path', *six, '--ps'), (0, rows, remark), six)
 
     def test_by_hand(self):
         for six, length in (((3, 4, 0, 0, 0, 0), 5), ((1, 2, 2, 0, 0, 0), 3), ((0, 0, 0, 2, -3, 6), 7), ((2, 2, 0, 0, 0, 0), 2),
                             ((5, 5, 5, 5, 5, 5), 0), ((MOST, MOST, MOST, -MOST, -MOST, -MOST), 173205080756)):
-            self.assertEqual(run('path', *six), (0, b'%d mm\n' % length, ''))
+            self.assertEqual(run('path', *six), (0, b'%d mm\n' % length, remark_on(length)))
+
+    def test_a_length_too_short_for_a_satellite(self):
+        """Coordinates in whole metres are accepted, and a remark is made: from 1 mm to nine digits, in order behind the rows."""
+        for length, remark in ((0, ''), (1, SHORT), (999999999, SHORT), (10 ** 9, ''), (10 ** 10, '')):
+            self.assertEqual(run('path', 0, 0, 0, 0, 0, -length), (0, b'%d mm\n' % length, remark))
+        six = (15600123, 7540654, 20140777, 4202777, 171367, 4778660)
+        self.assertEqual(length_of(six), 20498793)
+        self.assertEqual(run('path', *six), (0, b'20498793 mm\n', SHORT))
+        rows = ('20498793 mm\n%d ps\n' % light_of(20498793) + SHORT).encode()
+        self.assertEqual(run('path', 0, 0, 0, 4202777366, 171367999, 4778660203), (0, b'6366183936 mm\n', ''))
+        both = subprocess.run([PROGRAM, 'path', *map(str, six), '--ps'], stdout=subprocess.PIPE, stderr=subprocess.STDOUT, check=False)
+        self.assertEqual((both.returncode, both.stdout), (0, rows))
 
     def test_seeded(self):
         pick = random.Random(11)
@@ -76,7 +99,7 @@ class Lengths(unittest.TestCase):
         """299792458 mm are 1 ms; 149896229 are half of it; 1 mm is 3.3356 ps."""
         for length, ps in ((0, 0), (1, 3), (2, 7), (3, 10), (149896229, 500000000), (299792458, 10 ** 9), (299792459, 10 ** 9 + 3),
                            (MOST, 166782047599)):
-            self.assertEqual(run('path', length, 0, 0, 0, 0, 0, '--ps'), (0, b'%d mm\n%d ps\n' % (length, ps), ''))
+            self.assertEqual(run('path', length, 0, 0, 0, 0, 0, '--ps'), (0, b'%d mm\n%d ps\n' % (length, ps), remark_on(length)))
         # no tie can arise: twice the time is length x 2 x 10^9 / c, which has a factor 2 more than c
         self.assertEqual((LIGHT % 2, LIGHT % 4), (0, 2))
 
@@ -88,8 +111,8 @@ class Lengths(unittest.TestCase):
 class Words(unittest.TestCase):
     def test_one_number_in_many_ways(self):
         for word in ('20', '+20', '020', '20.', '20.0', '20.000', '2e1', '2E+1', '200e-1', '.2e2', '0.02e3', '2000.00e-2', '00020.00e0'):
-            self.assertEqual(run('path', word, 0, 0, 0, 0, 0), (0, b'20 mm\n', ''), word)
-            self.assertEqual(run('path', 0, 0, 0, 0, 0, '-' + word.lstrip('+')), (0, b'20 mm\n', ''), word)
+            self.assertEqual(run('path', word, 0, 0, 0, 0, 0), (0, b'20 mm\n', SHORT), word)
+            self.assertEqual(run('path', 0, 0, 0, 0, 0, '-' + word.lstrip('+')), (0, b'20 mm\n', SHORT), word)
 
     def test_zeros(self):
         for word in ('0', '-0', '+0', '-0.0', '.0', '0.', '0e9', '-0e-9', '0e99999999999999999999', '0' * 5000):
@@ -102,7 +125,8 @@ class Words(unittest.TestCase):
             self.assertEqual(number_of(value_of(word)), 23)
             if not word.startswith(('0.', '1e')):
                 self.assertEqual(float(word), round(float(word)))
-            self.assertEqual(run('path', word, 0, 0, 0, 0, 0), (1, b'', told(23, 'X of the satellite is ' + word)))
+            hint = '' if word[0] in '24' else PARTS % 'km or metres'
+            self.assertEqual(run('path', word, 0, 0, 0, 0, 0), (1, b'', told(23, 'X of the satellite is ' + word + hint)))
 
     def test_whole_numbers_beyond_every_double(self):
         """1e400 is a whole number, so 24, where a double of it would be infinite."""
@@ -124,7 +148,8 @@ class Words(unittest.TestCase):
                 self.assertEqual((status, output), (1, b''), words)
                 self.assertTrue(errors.startswith('path: refused %d: ' % min(numbers)), words)
             else:
-                self.assertEqual((status, output, errors), (0, b'%d mm\n' % length_of(list(map(int, values))), ''), words)
+                length = length_of(list(map(int, values)))
+                self.assertEqual((status, output, errors), (0, b'%d mm\n' % length, remark_on(length)), words)
         self.assertEqual(seen, {0, 23, 24})
 
     def word(self, pick):
@@ -146,19 +171,41 @@ class Words(unittest.TestCase):
 
 class Refusals(unittest.TestCase):
     def test_each_that_is_to_blame_is_named(self):
-        rows = ['X of the satellite is 0.25; if that is metres, it is 250 mm', 'Z of the satellite is 1e-7', 'Y of the antenna is nan', OTHERS]
+        rows = ['X of the satellite is 0.25; if that is metres, it is 250 mm', 'Z of the satellite is 1e-7' + PARTS % 'km or metres',
+                'Y of the antenna is nan', EITHER]
         self.assertEqual(run('path', '0.25', 1, '1e-7', MOST + 1, 'nan', 0), (1, b'', told(23, *rows)))
         rows = ['%s is %d, not -50000000000 to 50000000000' % (name, -MOST - 1) for name in NAMES]
         self.assertEqual(run('path', *[-MOST - 1] * 6), (1, b'', told(24, *rows)))
+        self.assertEqual(run('path', *[-MOST - 1] * 5, '-0'), (1, b'', told(24, *rows[:5])))
+        self.assertEqual(run('path', *[-MOST - 1] * 5, 1), (1, b'', told(24, *rows[:5], INSIDE)))
 
     def test_metres(self):
         """Up to three decimals, and more where what follows is 0 and kilometres would be outside."""
         for word, mm in (('4202777.366', '4202777366'), ('-171367.9', '-171367900'), ('0.001', '1'), ('4778660203e-3', '4778660203'),
-                         ('-.02', '-20'), ('123456789012.345', '123456789012345'), ('-171367.9990', '-171367999'), ('50000.001000', '50000001'),
-                         ('99999999999999.9', '99999999999999900'), ('4202777.3660000', '4202777366'), ('999999999.999000', '999999999999')):
+                         ('-.02', '-20'), ('-171367.9990', '-171367999'), ('50000.001000', '50000001'), ('4202777.3660000', '4202777366'),
+                         ('49999999.999', '49999999999'), ('-49999999.9990', '-49999999999')):
             self.check_unit(word, 'metres', 1000, mm)
-        for word in ('4202777.3661', '1234567890123.456', '50000.0000001', '50000.0001', '999999999999.9991', 'nan', '-inf'):
+
+    def test_parts_of_a_millimetre(self):
+        """Four decimals as in RINEX headers, or as many as a program prints of a double."""
+        for word in ('4202777.3662', '50000.0001', '-50000.0000001', '4202777.3662000001', '49999999.9999', '-20140777.888200001',
+                     '50001.0000000001', '49999999.' + '9' * 40):
+            self.assertTrue(abs(value_of(word)) * 1000 < MOST < abs(value_of(word)) * 10 ** 6)
+            self.check_parts(word, 'metres')
+        for word in ('15600.1234567', '1e-7', '49999.9999999', '-0.00000' + '1' * 20):
+            self.assertTrue(abs(value_of(word)) * 10 ** 6 < MOST)
+            self.check_parts(word, 'km or metres')
+
+    def check_parts(self, word, units):
+        self.assertEqual(run('path', 0, 0, 0, 0, 0, word), (1, b'', told(23, 'Z of the antenna is ' + word + PARTS % units)))
+
+    def test_no_advice_leads_outside(self):
+        """In metres each of these would be outside, and so refused again."""
+        for word in ('50000000.001', '-50000000.0001', '4202777.3662e3', '5.00000000001e10', '123456789012.345', '99999999999999.9', '999999999.999000',
+                     '1234567890123.456', '999999999999.9991', '9' * 30 + '.5'):
+            self.assertGreater(abs(value_of(word)) * 1000, MOST)
             self.assertEqual(run('path', 0, 0, 0, 0, 0, word), (1, b'', told(23, 'Z of the antenna is ' + word)))
+            self.assertEqual(run('path', 7, 0, 0, 0, 0, word), (1, b'', told(23, 'Z of the antenna is ' + word)))
 
     def test_kilometres(self):
         """Four to six decimals, as in SP3 files, within the limits."""
@@ -172,6 +219,32 @@ class Refusals(unittest.TestCase):
         self.assertEqual(run('path', 0, '-0', '0.000', 0, '0e-3', word), (1, b'', told(23, row)))
         self.assertEqual(value_of(word) * factor, int(mm))
         self.assertEqual(run('path', 0, 0, 0, 7, 0, word), (1, b'', told(23, row, OTHERS)))
+
+    def test_kilometres_go_by_the_point(self):
+        """One small coordinate among metres is no km; the other point is judged by itself."""
+        words = ('4202777.3662', '1713.9991', '4778660.2033')
+        rows = ['%s of the antenna is %s' % (axis, word) + PARTS % 'metres' for axis, word in zip('XYZ', words)]
+        self.assertEqual(run('path', 0, 0, 0, *words), (1, b'', told(23, *rows)))
+        km = 'Y of the satellite is 1713.9991; if that is km, it is 1713999100 mm'
+        self.assertEqual(run('path', 0, '1713.9991', 0, *words), (1, b'', told(23, km, *rows)))
+        self.assertEqual(run('path', MOST, '1713.9991', '0e-9', 0, 0, 0), (1, b'', told(23, km, ALREADY)))
+        metres = 'Y of the satellite is 1713.9990; if that is metres, it is 1713999 mm'
+        self.assertEqual(run('path', '60000.5', '1713.9990', 'nan', 0, 0, 0)[2].splitlines()[2].strip(), metres)
+
+    def test_whole_ones_beside(self):
+        """A whole coordinate may be in the unit that is told; one that would be outside in it is in mm."""
+        satellite, metres = ('15600123.457', '7540654.321', '20140777.888'), ('15600123457', '7540654321', '20140777888')
+        rows = ['%s is %s; if that is metres, it is %s mm' % told_so for told_so in zip(NAMES, satellite, metres)]
+        self.assertEqual(run('path', *satellite, 4202777366, 171367999, 4778660203), (1, b'', told(23, *rows, ALREADY)))
+        self.assertEqual(run('path', *satellite, 4202777, 171367, 4778660), (1, b'', told(23, *rows, OTHERS)))
+        self.assertEqual(run('path', *satellite, 50000000, 0, 0), (1, b'', told(23, *rows, OTHERS)))
+        self.assertEqual(run('path', *satellite, 50000001, 0, 0), (1, b'', told(23, *rows, ALREADY)))
+        self.assertEqual(run('path', *satellite, 50000000, -50000001, 0), (1, b'', told(23, *rows, EITHER)))
+        km = 'X of the satellite is 15600.123457; if that is km, it is 15600123457 mm'
+        self.assertEqual(run('path', '15600.123457', 50000, 0, 0, 0, 0), (1, b'', told(23, km, OTHERS)))
+        self.assertEqual(run('path', '15600.123457', 50001, 0, 0, 0, 0), (1, b'', told(23, km, ALREADY)))
+        both = 'X of the antenna is 1.5; if that is metres, it is 1500 mm'
+        self.assertEqual(run('path', '15600.123457', 50001, 0, '1.5', 0, 0), (1, b'', told(23, km, both, OTHERS)))
 
     def test_no_coordinate_is_left_behind(self):
         """Whole ones are pointed out only beside one that has another unit."""
@@ -189,26 +262,40 @@ class Use(unittest.TestCase):
                               (('-x', 1, 2, 3, 4, 5, 6), "path: no option '-x'"), (('--pss', 1, 2, 3, 4, 5, 6), "path: no option '--pss'"),
                               (('--', 1, 2, 3, 4, 5, 6, '--ps'), "path: '--ps' is no number"), (('-', 2, 3, 4, 5, 6), "path: '-' is no number"),
                               *(((word, 2, 3, 4, 5, 6), "path: '%s' is no number" % word)
-                                for word in ('', 'x', '1 ', ' 1', '1,5', '0x10', '1e', '1e+', 'e5', '.', '+', '1.2.3', '1_000', 'nan(1)', 'infi', '1f',
+                                for word in ('', 'x', '1 ', ' 1', '0x10', '1e', '1e+', 'e5', '.', '+', '1.2.3', 'nan(1)', 'infi', '1f',
                                              '1e5.0', '+-1'))):
             self.assertEqual(run('path', *words), (2, b'', 'cggtts: %s; try cggtts --help\n' % reason), words)
-        for word in ('-', '-.', '-5m', '-171367,999', '-.5x', '-e5', '--5', '-x5', '-5-'):
+        for word in ('15600123,457', '-171367,999', '1,5', '15,600,123.457', "15'600'123", '1_000'):
+            reason = "path: '%s' is no number: decimals have a point before them, and thousands no mark" % word
+            self.assertEqual(run('path', 1, word, 3, 4, 5, 6), (2, b'', 'cggtts: %s; try cggtts --help\n' % reason))
+        for word in ('-', '-.', '-5m', '-.5x', '-e5', '--5', '-x5', '-5-'):
             reason = "path: no option '%s'" % word if word in ('-e5', '--5', '-x5') else "path: '%s' is no number" % word
             self.assertEqual(run('path', 1, word, 3, 4, 5, 6), (2, b'', 'cggtts: %s; try cggtts --help\n' % reason))
 
     def test_words_behind_two_dashes(self):
-        self.assertEqual(run('path', '--ps', '--', '-3', 0, 0, 0, '-4', 0), (0, b'5 mm\n17 ps\n', ''))
+        self.assertEqual(run('path', '--ps', '--', '-3', 0, 0, 0, '-4', 0), (0, b'5 mm\n17 ps\n', SHORT))
 
     def test_help(self):
         for words in (('path', '-h'), ('path', '--help', 1), ('help', 'path')):
             status, output, errors = run(*words)
             self.assertEqual((status, errors), (0, ''))
             self.assertIn(b'cggtts path X Y Z X Y Z [--ps]\n', output)
+            self.assertIn(b'; --ps adds the time of light, rounded to ps\n', output)
             self.assertNotIn(b'cggtts starts', output)
 
     def test_output_that_can_not_be_written(self):
         with open('/dev/full', 'wb') as full:
-            self.assertEqual(run('path', 1, 2, 2, 0, 0, 0, stdout=full)[::2], (2, 'cggtts: standard output: No space left on device\n'))
+            told_once = 'cggtts: standard output: No space left on device\n'
+            self.assertEqual(run('path', MOST, 0, 0, 0, 0, 0, stdout=full)[::2], (2, told_once))
+            self.assertEqual(run('path', 1, 2, 2, 0, 0, 0, stdout=full)[::2], (2, SHORT + told_once))
+
+    def test_the_papers_metres(self):
+        """trackline.h and trackline(3) have metres whose product with 1000 is no whole number as a double, and near one."""
+        for name in ('include/trackline.h', 'man/trackline.3'):
+            metres, product = re.search(r'For (\d+\.\d+) it is (\d+\.\d+)\.', (ROOT / name).read_text()).groups()
+            self.assertEqual(repr(1000 * float(metres)), product)
+            self.assertEqual(round(1000 * float(metres)), value_of(metres) * 1000)
+            self.assertTrue(run('path', product, 0, 0, 0, 0, 0)[2].startswith('path: refused 23: '))
 
     def test_the_papers_run(self):
         """HIRE-BLOCK.md and cggtts(1) have a run each, as it comes out."""

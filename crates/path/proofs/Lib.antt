@@ -1,5 +1,6 @@
 pub mod Ranges
 pub mod WholeFloats
+pub mod Shifts
 pub mod Patterns
 pub mod Roots
 pub mod Products

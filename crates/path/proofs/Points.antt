@@ -3,6 +3,7 @@
 use mathlib.Core.Path.{_≡_, refl, _∙_}
 use mathlib.Core.Bool.{Bool, true, false, not, _||_, true≢false}
 use Prim.Native.Nat.{ℕ, _+_, _*_, _≤_}
+use native.Mathlib.Nat.{mul-le-mul}
 use native.Mathlib.Omega.{arith}
 use lib.Ieee.{Float}
 use Rattle.limits.proofs.Laws.{or-false, then-zero, when-zero}
@@ -11,7 +12,6 @@ use Rattle.path.specs.declared.wide.Wide.{Wide}
 use Rattle.path.specs.Coordinate.{whole, outside}
 use Rattle.path.specs.Path.{fractional, beyond, pathNumber, difference, sumOfSquares}
 use Rattle.path.specs.Wide.{Stands, Part}
-use Rattle.path.proofs.Products.{square-bound}
 
 -- each coordinate of a point within the limit is
 pub within : (p : Point) → beyond p ≡ false → (outside (p .x) ≡ false) × (outside (p .y) ≡ false) × (outside (p .z) ≡ false)
@@ -47,9 +47,9 @@ usable p f b =
     let w = within p b in
     ((whole-of _ (x .0), w .0), (whole-of _ (x .1), w .1), (whole-of _ (xy .1), w .2))
 
--- the square of a difference of at most 10^11
-pub part : {w : Wide} (d : ℕ) → Stands w (d * d) → d ≤ 100000000000 → Part w
-part d h k = record { small = h .small; most = omega (arith, h .is, square-bound d k) }
+-- the product of two differences of at most 10^11
+pub part : {w : Wide} {c d : ℕ} → Stands w (c * d) → c ≤ 100000000000 → d ≤ 100000000000 → Part w
+part h i j = record { small = h .small; most = omega (arith, h .is, mul-le-mul i j) }
 
 -- the sum of the three squares is the definition's
 pub squares-are : (s a : Point) (x y z : ℕ) {n p q r : ℕ} → n ≡ p + q + r → p ≡ x * x → q ≡ y * y → r ≡ z * z

@@ -1,21 +1,21 @@
 -- Where a float lies against ±K: what the tests of the code say of m * 2 ^ e, and what the cast to an integer gives.
 -- Assumes nothing.
 use mathlib.Core.Path.{_≡_, refl, sym, ap, ap₂, _∙_, subst}
-use mathlib.Core.Bool.{Bool, true, false, not, cond, _&&_, _||_, and-true, true≢false}
-use Prim.Native.Nat.{ℕ, suc, _+_, _*_, _-_, _/_, _^_, _≤_, _<_, min}
-use native.Mathlib.Nat.{mul-one, mul-le-mul-right, suc-mul, div-add-mod', le-of-mul-le-mul-right, mul-pos}
+use mathlib.Core.Bool.{Bool, true, false, not, _&&_, _||_, and-true, true≢false}
+use Prim.Native.Nat.{ℕ, _+_, _*_, _-_, _/_, _^_, _≤_, _<_, min}
+use native.Mathlib.Nat.{mul-one, div-add-mod', le-of-mul-le-mul-right, mul-pos}
 use native.Mathlib.Omega.{arith}
-use lib.Dec.{T, leb, ltb, eqb, lt→ltb, le→leb, lit<}
-use lib.IntN.{ℤ, pos, negℤ, natAbs, _-ℤ_}
+use lib.Dec.{leb, ltb, eqb, lit<}
+use lib.IntN.{ℤ, pos, negℤ, natAbs}
 use lib.Pow.{pow-pos}
-use lib.Ieee.{Float, nan, inf, fin, up, down, le, lt, toSigned}
+use lib.Ieee.{Float, nan, inf, fin, up, down, le, toSigned}
 use lib.Ieee.Fits.{down-pos}
 use borrow.Author.Tests.{ltb-true, ltb-false, eqb-true, eqb-false, lt-ltb, le-ltb, eq-eqb, ne-eqb, le-leb, leb-true, leb-false, lt-leb}
 use mir.Syntax.{w64}
 use mir.Val.{toZ, ofZ}
 use mir.Facts.{toZ-ofZ}
 use Rattle.whole.specs.Magnitude.{natAbs-add, natAbs-neg}
-use Rattle.whole.specs.Words.{Within, fits-of}
+use Rattle.whole.specs.Words.{fits-of}
 use Rattle.path.specs.Coordinate.{outside, millimetres}
 use Rattle.path.specs.Path.{difference}
 
@@ -144,36 +144,6 @@ cast-is K h (fin false m e) i =
     let q = quotient-bound (m * up e) (down e) K (down-pos e) i in
     (ap pos (uncapped-less (m * up e / down e) K h q), q)
 
-strictly : (n K d : ℕ) → K < 2 ^ 63 → n ≤ K * d → 0 < d → n * 1 < 9223372036854775808 * d
-strictly n K d h i p =
-    let j : suc K * d ≤ 9223372036854775808 * d = mul-le-mul-right d h in
-    let e : suc K * d ≡ K * d + d = suc-mul K d in
-    omega arith
-
-scaled : (n K d : ℕ) → K < 2 ^ 63 → n ≤ K * d → 0 < d → n ≤ 9223372036854775808 * d
-scaled n K d h i p = omega (arith, strictly n K d h i p)
-
--- what is read back of the cast's bits
-pub read-back : (K : ℕ) → K < 2 ^ 63 → (x : Float) → Inside K x → (r : ℤ) → r ≡ toSigned 63 x → toZ w64 (ofZ w64 r) ≡ millimetres x
-read-back K h x i r e =
-    let m = cast-is K h x i in
-    let p = e ∙ m .0 in
-    toZ-ofZ (fits-of (subst (λ (z : ℤ). natAbs z ≤ K) (sym p) (m .1)) h) ∙ p
-
--- what the cast asks for: it lies within ±2^63
-pub in-range : (K : ℕ) → K < 2 ^ 63 → (x : Float) → Inside K x → T (le (fin true 1 (pos 63)) x) × T (lt x (fin false 1 (pos 63)))
-unfolding lt
-in-range K h nan i = absurd i
-in-range K h (inf s) i = absurd i
-in-range K h (fin true m e) i = (
-  subst T (sym (low-test 1 63 m e)) (le→leb _ _ (scaled (m * up e) K (down e) h i (down-pos e))),
-  subst T (sym (lt-ltb 0 (m * up e * 1 + 9223372036854775808 * down e) (omega (arith, down-pos e)))) tt,
-)
-in-range K h (fin false m e) i = (
-  subst T (sym (low-passed 1 63 (omega arith) m e)) tt,
-  lt→ltb (m * up e * 1) (9223372036854775808 * down e) (strictly (m * up e) K (down e) h i (down-pos e)),
-)
-
 -- ---- the difference of two coordinates within the limit
 
 pub difference-bound : (x y : Float) → outside x ≡ false → outside y ≡ false → difference x y ≤ 100000000000
@@ -187,7 +157,3 @@ difference-bound x y h k =
 pub limited : (x : Float) → outside x ≡ false → {r : ℤ} → r ≡ millimetres x → toZ w64 (ofZ w64 r) ≡ millimetres x
 limited x h e =
     toZ-ofZ (fits-of (subst (λ (z : ℤ). natAbs z ≤ 50000000000) (sym e) (cast-is 50000000000 (lit< tt) x (within-limit x h) .1)) (lit< tt)) ∙ e
-
--- and so is a number within ±2^53
-pub read-within : {z : ℤ} → Within 9007199254740992 z → toZ w64 (ofZ w64 z) ≡ z
-read-within h = toZ-ofZ (fits-of (h .within) (lit< tt))

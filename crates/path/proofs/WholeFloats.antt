@@ -4,19 +4,19 @@ use mathlib.Core.Path.{_≡_, refl, sym, ap, ap₂, _∙_, subst}
 use mathlib.Core.Logic.{_⊎_, inl, inr}
 use mathlib.Core.Bool.{Bool, true, false, not, cond, _&&_, _||_, Bool·beq, and-true, or-true, true≢false}
 use Prim.Native.Nat.{ℕ, zero, suc, _*_, _/_, _%_, _^_, _≤_, _<_}
-use native.Mathlib.Nat.{mul-one, mul-mod-left, mul-div-cancel, zero-mul, mod-one, mul-right-comm, eq-of-mul-eq-mul-right, div-add-mod'}
+use native.Mathlib.Nat.{mul-one, mul-mod-left, mul-div-cancel, zero-mul, mod-one, mul-right-comm, eq-of-mul-eq-mul-right, pow-suc}
 use native.Mathlib.Omega.{arith}
-use lib.Dec.{T, leb, ltb, eqb, ltb→lt, lt→ltb, le→leb, eqb·suc-zero}
+use lib.Dec.{T, leb, ltb, eqb, ltb→lt, eqb·suc-zero}
 use lib.IntN.{ℤ, pos, negsuc, negℤ, natAbs}
 use lib.Pow.{pow-pos}
-use lib.Ieee.{Float, nan, inf, fin, binary64, up, down, lt, eq, ofInt, inFloat, inSigned, fits}
+use lib.Ieee.{Float, nan, inf, fin, binary64, up, down, lt, eq, ofInt, inSigned, fits}
 use lib.Ieee as ieee
 use lib.Ieee.Fits.{and-l, and-r, down-pos}
 use lib.Ieee.Exact.{HasValue}
 use lib.Ieee.Back.{round-whole}
 use borrow.Author.Tests.{eqb-true, eqb-false, eq-eqb, ne-eqb, le-leb, lt-ltb, leb-false}
 use Rattle.path.specs.Coordinate.{whole, outside, millimetres}
-use Rattle.path.proofs.Ranges.{inRange, Inside, quotient-bound, within-limit}
+use Rattle.path.proofs.Ranges.{inRange, quotient-bound, within-limit}
 
 eqb-same : (a b c d : ℕ) → (a ≡ b → c ≡ d) → (c ≡ d → a ≡ b) → eqb a b ≡ eqb c d
 eqb-same a b c d f g = go (eqb c d) refl
@@ -24,10 +24,6 @@ eqb-same a b c d f g = go (eqb c d) refl
     go : (t : Bool) → eqb c d ≡ t → eqb a b ≡ t
     go true e = eq-eqb a b (g (eqb-true c d e))
     go false e = ne-eqb a b (λ h. eqb-false c d e (f h))
-
--- a number is a multiple of d exactly where what its quotient stands for is the number
-multiple : (n d : ℕ) → eqb (n / d * d) n ≡ eqb (n % d) 0
-multiple n d = eqb-same (n / d * d) n (n % d) 0 (λ h. omega (arith, div-add-mod' n d)) (λ h. omega (arith, div-add-mod' n d))
 
 pub and-split : (a b : Bool) → (a && b) ≡ true → (a ≡ true) × (b ≡ true)
 and-split true b h = (refl, h)
@@ -68,7 +64,7 @@ module _ (s : Bool) (m : ℕ) (e : ℤ) (t : Bool) (q : ℕ) where
       go (inl h) = ap (λ (b : Bool). b || eqb (n * up d * down e) 0) h
       go (inr z) = ap (λ (b : Bool). Bool·beq t s || b) (eq-eqb (n * up d * down e) 0 (none z)) ∙ or-true (Bool·beq t s)
 
-  value-eq : (Bool·beq t s ≡ true) ⊎ (q ≡ 0) → (y : Float) → HasValue y t q 1 → eq y (fin s m e) ≡ eqb (q * down e) (m * up e)
+  pub value-eq : (Bool·beq t s ≡ true) ⊎ (q ≡ 0) → (y : Float) → HasValue y t q 1 → eq y (fin s m e) ≡ eqb (q * down e) (m * up e)
   unfolding eq
   value-eq signs nan v = absurd v
   value-eq signs (inf u) v = absurd v
@@ -91,54 +87,27 @@ module _ (s : Bool) (m : ℕ) (e : ℤ) (t : Bool) (q : ℕ) where
       signs false g k =
           inr (nothing q (down e) (down d) (down-pos e) (down-pos d) (sym (sides n d (v .1)) ∙ eqb-true (n * up d * down e) 0 k))
 
--- from 2^53 on there is no fraction left
-large : (s : Bool) (m : ℕ) (e : ℤ) → T (fits binary64 (fin s m e)) → 9007199254740992 * down e < m * up e → whole (fin s m e) ≡ true
+-- from 2^52 on there is no fraction left
+pub large : (s : Bool) (m : ℕ) (e : ℤ) → T (fits binary64 (fin s m e)) → 4503599627370496 * down e ≤ m * up e → whole (fin s m e) ≡ true
 unfolding whole fits
 large s m (pos k) f h = eq-eqb (m * 2 ^ k % 1) 0 (mod-one (m * 2 ^ k))
-large s zero (negsuc k) f h = absurd (omega arith)
+large s zero (negsuc k) f h = absurd (omega (arith, pow-pos (suc k)))
 large s (suc m) (negsuc k) f h =
-    absurd (few (suc m) (2 ^ suc k) (digits (eqb (suc m % 2) 1) _ _ f) (pow-pos (suc k)) h)
+    absurd (few (suc m) (2 ^ k) (digits (eqb (suc m % 2) 1) _ _ f) (pow-pos k) (subst (λ (d : ℕ). 4503599627370496 * d ≤ suc m * 1) (pow-suc 2 k) h))
   where
     digits : (a c d : Bool) → T (a && ltb (suc m) (2 ^ 53) && c && d) → suc m < 9007199254740992
     digits a c d t = ltb→lt (suc m) 9007199254740992 (and-r a (ltb (suc m) (2 ^ 53)) (and-l (a && ltb (suc m) (2 ^ 53)) c (and-l (a && ltb (suc m) (2 ^ 53) && c) d t)))
 
-    few : (n d : ℕ) → n < 9007199254740992 → 0 < d → 9007199254740992 * d < n * 1 → ⊥
+    few : (n d : ℕ) → n < 9007199254740992 → 0 < d → 4503599627370496 * (d * 2) ≤ n * 1 → ⊥
     few n d a b c = omega arith
 
--- within ±2^53 a float is whole where it is the same without its fraction
-pub cast-back : (x : Float) → Inside 9007199254740992 x → T (inFloat binary64 (millimetres x)) × (eq (ofInt binary64 (millimetres x)) x ≡ whole x)
-unfolding millimetres whole inFloat ofInt
-cast-back nan i = absurd i
-cast-back (inf s) i = absurd i
-cast-back (fin false m e) i =
-    let q = quotient-bound (m * up e) (down e) 9007199254740992 (down-pos e) i in (
-      le→leb (m * up e / down e) 9007199254740992 q,
-      value-eq false m e false (m * up e / down e) (inl refl) _ (round-whole binary64 false (m * up e / down e) q) ∙ multiple (m * up e) (down e),
-    )
-cast-back (fin true m e) i =
-    let q = quotient-bound (m * up e) (down e) 9007199254740992 (down-pos e) i in
-    by-zero (m * up e / down e) refl q
-  where
-    by-zero : (q : ℕ) → m * up e / down e ≡ q → q ≤ 9007199254740992
-        → T (inFloat binary64 (negℤ (pos q))) × (eq (ofInt binary64 (negℤ (pos q))) (fin true m e) ≡ eqb (m * up e % down e) 0)
-    by-zero zero h b = (
-      tt,
-      value-eq true m e false 0 (inr refl) _ (round-whole binary64 false 0 b) ∙ ap (λ (c : ℕ). eqb (c * down e) (m * up e)) (sym h) ∙ multiple (m * up e) (down e),
-    )
-    by-zero (suc k) h b = (
-      lt→ltb k 9007199254740992 b,
-      value-eq true m e true (suc k) (inl refl) _ (round-whole binary64 true (suc k) b)
-          ∙ ap (λ (c : ℕ). eqb (c * down e) (m * up e)) (sym h)
-          ∙ multiple (m * up e) (down e),
-    )
-
--- past ±2^53 it is whole where it is finite
-pub far-whole : (x : Float) → T (fits binary64 x) → inRange 9007199254740992 x ≡ false → (lt (inf true) x && lt x (inf false)) ≡ whole x
+-- past ±2^52 it is whole where it is finite
+pub far-whole : (x : Float) → T (fits binary64 x) → inRange 4503599627370496 x ≡ false → (lt (inf true) x && lt x (inf false)) ≡ whole x
 unfolding lt whole
 far-whole nan f h = refl
 far-whole (inf true) f h = refl
 far-whole (inf false) f h = refl
-far-whole (fin s m e) f h = sym (large s m e f (leb-false (m * up e) (9007199254740992 * down e) h))
+far-whole (fin s m e) f h = sym (large s m e f (omega (arith, leb-false (m * up e) (4503599627370496 * down e) h)))
 
 -- ---- a whole number whose float is x is the one that x is
 
@@ -155,7 +124,7 @@ eq-inf (inf s) t u q v = absurd v
 eq-inf (fin s m e) t u q v = refl
 
 -- the number that a whole number's float stands for
-right-value : (s : Bool) (m : ℕ) (e : ℤ) (t : Bool) (q : ℕ) (y : Float) → HasValue y t q 1 → eq y (fin s m e) ≡ true
+pub right-value : (s : Bool) (m : ℕ) (e : ℤ) (t : Bool) (q : ℕ) (y : Float) → HasValue y t q 1 → eq y (fin s m e) ≡ true
     → (whole (fin s m e) ≡ true) × (m * up e / down e ≡ q) × ((t ≡ s) ⊎ (q ≡ 0))
 unfolding whole
 right-value s m e t q y v h =
@@ -174,11 +143,6 @@ below-zero : (s : Bool) (n : ℕ) → (true ≡ s) ⊎ (suc n ≡ 0) → negsuc 
 below-zero true n h = refl
 below-zero false n (inl h) = absurd (true≢false h)
 below-zero false n (inr z) = absurd (omega arith)
-
-pub in-float : (t : ℤ) → natAbs t ≤ 9007199254740992 → T (inFloat binary64 t)
-unfolding inFloat
-in-float (pos n) h = le→leb n 9007199254740992 h
-in-float (negsuc n) h = lt→ltb n 9007199254740992 h
 
 pub right-of : (x : Float) (t : ℤ) → natAbs t ≤ 9007199254740992 → eq (ofInt binary64 t) x ≡ true → (whole x ≡ true) × (t ≡ millimetres x)
 unfolding millimetres ofInt

@@ -1,38 +1,20 @@
 // One coordinate: its tests, and the difference of two.
-use std::num::truncating_f64_to_i64;
 use whole::magnitude;
 ghost use mathlib.Core.Path.{_≡_};
 ghost use mathlib.Core.Bool.{true, false};
 ghost use Prim.Native.Nat.{_≤_};
-ghost use Rattle.whole.specs.Words.{Within};
 ghost use Rattle.path.specs.Coordinate.{whole, outside, millimetres};
 ghost use Rattle.path.specs.Path.{difference};
 
-// A first try at the whole number that a float is: beside 1.5 × 2^52 a float has no digits behind the point, and the last 52 bits of the sum are the
-// number and 2^51. Nothing is promised of it but its size; whoever uses it compares it with the float.
-fn tried(x: f64) -> i64
-    ensures { λ r. ⌜ Within 9007199254740992 r ⌝ }
-{
-    let shifted = x + 6755399441055744.0;
-    if shifted >= 4503599627370496.0 {
-        return (f64::to_bits(shifted) % 4503599627370496) as i64 - 2251799813685248;
-    }
-    0
-}
-
-// Whether the try is the float itself: then it is a whole number. Of a float that fails this nothing is known.
-pub fn is_tried(x: f64) -> bool
-    ensures { λ r. ⌜ (r ≡ true → whole x ≡ true) ⌝ }
-{
-    tried(x) as f64 == x
-}
-
-// Whether a float is a whole number: within ±2^53 where it is the same without its fraction, and past that where it is finite.
+// Whether a float is a whole number. Beside ±2^52 a float has no digits behind the point: within that it is whole where it is the same after
+// 2^52 was added and taken away, and taken away and added. Past that every finite float is.
 pub fn is_whole(x: f64) -> bool
     ensures { λ r. ⌜ r ≡ whole x ⌝ }
 {
-    if (x >= -9007199254740992.0) & (x <= 9007199254740992.0) {
-        return truncating_f64_to_i64(x) as f64 == x;
+    if (x >= -4503599627370496.0) & (x <= 4503599627370496.0) {
+        let above = x + 4503599627370496.0;
+        let below = x - 4503599627370496.0;
+        return (above - 4503599627370496.0 == x) & (below + 4503599627370496.0 == x);
     }
     (x > -1.0 / 0.0) & (x < 1.0 / 0.0)
 }

@@ -3,7 +3,6 @@
 // outside ±5 × 10^10.
 use coordinate::apart;
 use coordinate::is_outside;
-use coordinate::is_tried;
 use coordinate::is_whole;
 use limits::then;
 use limits::when;
@@ -36,28 +35,27 @@ pub enum Measured {
     Refused(u32),
 }
 
-// Whether some coordinate is not a whole number.
+// Whether some coordinate is not a whole number. The first such one ends the search.
 fn has_fraction(p: Point) -> bool
     ensures { λ r. ⌜ r ≡ fractional p ⌝ }
 {
-    !is_whole(p.x) | !is_whole(p.y) | !is_whole(p.z)
+    if !is_whole(p.x) {
+        return true;
+    }
+    if !is_whole(p.y) {
+        return true;
+    }
+    !is_whole(p.z)
 }
 
-// Whether the tries of a point are its coordinates: then all are whole numbers.
-fn all_tried(p: Point) -> bool
-    ensures { λ r. ⌜ (r ≡ true → fractional p ≡ false) ⌝ }
-{
-    is_tried(p.x) & is_tried(p.y) & is_tried(p.z)
-}
-
-// Whether some coordinate of two points is not a whole number. Most points pass by their tries.
+// Whether some coordinate of two points is not a whole number.
 fn have_fraction(satellite: Point, antenna: Point) -> bool
     ensures { λ r. ⌜ r ≡ (fractional satellite || fractional antenna) ⌝ }
 {
-    if all_tried(satellite) & all_tried(antenna) {
-        return false;
+    if has_fraction(satellite) {
+        return true;
     }
-    has_fraction(satellite) | has_fraction(antenna)
+    has_fraction(antenna)
 }
 
 // Whether some coordinate is outside ±5 × 10^10.

@@ -30,10 +30,12 @@ fn speed_plain_path(given: &[u8], lent: &mut [u64]) -> u32 {
     answer
 }
 
-/// Floats from 2^52 on are whole, infinities and what is no number apart.
+/// Beside 2^52 a float has no digits behind the point; from there on floats are whole, infinities and what is no number apart.
 fn is_whole(v: f64) -> bool {
-    if v.abs() < 4_503_599_627_370_496.0 {
-        v as i64 as f64 == v
+    const BESIDE: f64 = 4_503_599_627_370_496.0;
+    let v = v.abs();
+    if v < BESIDE {
+        v + BESIDE - BESIDE == v
     } else {
         v.is_finite()
     }
@@ -64,6 +66,21 @@ fn plain(six: [f64; 6], length: &mut f64) -> u32 {
     0
 }
 
+/// One coordinate that is refused: what it is called, its place, itself and the answer. The first one is refused at once, by both.
+const REFUSED: [(&str, usize, f64, u32); 11] = [
+    ("path with a half, the first", 0, 0.5, 23),
+    ("path with a half, the last", 5, 0.5, 23),
+    ("path with a subnormal, the first", 0, 5e-324, 23),
+    ("path with an infinity, the first", 0, f64::INFINITY, 23),
+    ("path with an infinity, the last", 5, f64::INFINITY, 23),
+    ("path with no number, the first", 0, f64::NAN, 23),
+    ("path with a half outside, the first", 0, 60_000_000_000.5, 23),
+    ("path outside, the first", 0, 60_000_000_000.0, 24),
+    ("path outside, the last", 5, -60_000_000_000.0, 24),
+    ("path far outside, the first", 0, 1e300, 24),
+    ("path far outside, the last", 5, 1e300, 24),
+];
+
 const PATH: Pair<u64> = Pair { input: "path", proved: speed_proved_path, plain: speed_plain_path, lent: 1 };
 
 fn bytes(six: [f64; 6]) -> Vec<u8> {
@@ -85,22 +102,21 @@ pub fn run(count: usize, number: usize, seeded: &mut Seeded) {
     let orbits: Vec<Vec<u8>> = (0..number).map(|_| bytes(as_in_orbit(seeded))).collect();
     let any = |seeded: &mut Seeded| std::array::from_fn(|_| seeded.spread(MOST as i64) as f64);
     let anywhere: Vec<Vec<u8>> = (0..number).map(|_| bytes(any(seeded))).collect();
-    let spoilt = |places: &[(usize, f64)]| -> Vec<Vec<u8>> {
+    for (what, inputs) in [("path of a satellite", &orbits), ("path between any points", &anywhere)] {
+        timed(count, what, inputs, 0);
+    }
+    for (what, place, value, answer) in REFUSED {
         let spoil = |given: &Vec<u8>| {
             let mut six = coordinates(given);
-            places.iter().for_each(|(i, v)| six[*i] = *v);
+            six[place] = value;
             bytes(six)
         };
-        orbits.iter().map(spoil).collect()
-    };
-    for (what, inputs, answer) in [
-        ("path of a satellite", &orbits, 0),
-        ("path between any points", &anywhere, 0),
-        ("path with a half, the last", &spoilt(&[(5, 0.5)]), 23),
-        ("path outside, the last", &spoilt(&[(5, 1e300)]), 24),
-    ] {
-        let pair = Pair { input: what, ..PATH };
-        pair.agree(inputs, Some(answer));
-        pair.whole(count, inputs);
+        timed(count, what, &orbits.iter().map(spoil).collect::<Vec<_>>(), answer);
     }
+}
+
+fn timed(count: usize, what: &'static str, inputs: &[Vec<u8>], answer: u32) {
+    let pair = Pair { input: what, ..PATH };
+    pair.agree(inputs, Some(answer));
+    pair.whole(count, inputs);
 }

@@ -37,10 +37,13 @@ sum-requires : tie.Need-sum-requires
 sum-requires c κs =
     let z = c .before .before .before in
     let y = z .before in
-    let x = y .before in (
-      part (x .apart .result) (c .before .before .product .ensures) (x .apart .ensures .1),
-      part (y .apart2 .result) (c .before .product2 .ensures) (y .apart2 .ensures .1),
-      part (z .apart3 .result) (c .product3 .ensures) (z .apart3 .ensures .1),
+    let x = y .before in
+    let i = x .apart .ensures .1 in
+    let j = y .apart2 .ensures .1 in
+    let k = z .apart3 .ensures .1 in (
+      part (c .before .before .product .ensures) (omega (arith, i, j, k)) (omega (arith, i, j, k)),
+      part (c .before .product2 .ensures) (omega (arith, i, j, k)) (omega (arith, i, j, k)),
+      part (c .product3 .ensures) (omega (arith, i, j, k)) (omega (arith, i, j, k)),
     )
 
 returns : tie.Need-returns
