@@ -16,7 +16,7 @@
 # make install       the programs, the libraries, the header, the manual pages: make install PREFIX=/usr/local DESTDIR=
 # make uninstall     remove what install put there, with the same PREFIX and DESTDIR; folders stay
 # make clean         remove target/, which holds everything that was built
-VERSION := 1.8.0
+VERSION := 1.9.0
 BLOCK ?= examples/sample.blk
 PREFIX ?= /usr/local
 SECONDS ?= 120
@@ -49,8 +49,8 @@ PROGRAM_SOURCES := $(shell find crates -name must-fail -prune -o -path 'crates/t
 # What install puts below the prefix, and uninstall removes.
 PROGRAMS := $(PROGRAM) $(CGGTTS) tools/hireblock
 PAGES := $(wildcard man/*.[1-8])
-DOCUMENTS := docs/REFUSALS.md docs/HIRE-BLOCK.md docs/COMMON-VIEW.md docs/common-view.svg docs/SHARED-OFFSET.md docs/LAST-DIGIT.md docs/last-digit.svg docs/DELAYS.md docs/TRUST.md
-EXAMPLES := examples/receiver.c examples/delays.c examples/sample.txt examples/sample.blk examples/short.txt examples/short.blk examples/worked.txt examples/worked.blk examples/changed.txt examples/changed.blk examples/first.cggtts examples/second.cggtts examples/week.cggtts examples/roof-a.cggtts examples/roof-b.cggtts examples/delays.txt examples/delays.store examples/dated.txt examples/oneday.txt examples/oneday.blk examples/oneday.cggtts
+DOCUMENTS := docs/REFUSALS.md docs/HIRE-BLOCK.md docs/COMMON-VIEW.md docs/common-view.svg docs/SHARED-OFFSET.md docs/LAST-DIGIT.md docs/last-digit.svg docs/DELAYS.md docs/VERSION-01.md docs/TRUST.md
+EXAMPLES := examples/receiver.c examples/delays.c examples/sample.txt examples/sample.blk examples/short.txt examples/short.blk examples/worked.txt examples/worked.blk examples/changed.txt examples/changed.blk examples/first.cggtts examples/second.cggtts examples/week.cggtts examples/roof-a.cggtts examples/roof-b.cggtts examples/delays.txt examples/delays.store examples/dated.txt examples/oneday.txt examples/oneday.blk examples/oneday.cggtts examples/gps.cggtts examples/gps.v01 examples/published.v01
 TWO_TRACKS := $(wildcard examples/shared/*)
 # What follows a track to its last digit; beside the examples, of which it takes the worked track where none is named.
 FOLLOWER := tools/lastdigit tools/lastdigit_prose.py tools/lastdigit_picture.py
@@ -115,6 +115,8 @@ compared:
 	target/view_test
 	$(CC) $(CFLAGS) $(STRICT) -Iinclude tests/c/path_test.c $(ARCHIVE) -o target/path_test
 	target/path_test
+	$(CC) $(CFLAGS) $(STRICT) -Iinclude tests/c/version01_test.c $(ARCHIVE) -o target/version01_test
+	target/version01_test
 	$(CC) $(CFLAGS) $(STRICT) -Iinclude tests/c/limits_test.c $(ARCHIVE) -o target/limits_test
 	target/limits_test
 	$(CC) $(CFLAGS) $(STRICT) -Iinclude tests/c/delays_test.c $(ARCHIVE) -o target/delays_test
@@ -138,6 +140,7 @@ compared:
 	python3 tests/cggtts/test_files.py
 	python3 tests/cggtts/test_offset.py
 	python3 tests/cggtts/test_path.py
+	python3 tests/cggtts/test_version01.py
 	python3 tests/cggtts/test_words.py
 	python3 tests/cggtts/test_delays.py
 	python3 tests/cggtts/test_day.py
@@ -163,6 +166,9 @@ described:
 	tools/week first | cmp - examples/first.cggtts
 	tools/week second | cmp - examples/second.cggtts
 	tools/week both | cmp - examples/week.cggtts
+	tools/week gps | cmp - examples/gps.cggtts
+	tools/week old | cmp - examples/gps.v01
+	tools/week published | cmp - examples/published.v01
 	tools/roof a | cmp - examples/roof-a.cggtts
 	tools/roof b | cmp - examples/roof-b.cggtts
 	tools/roof program $(CGGTTS)

@@ -4,32 +4,38 @@
 #include <stdio.h>
 #include <string.h>
 
-/* An option that names a file or a range: in the same word, a long option with = between, or in the next word. */
-static int read_named(int argc, char **argv, int *i, const char *option, const char **file)
+/* An option with a word behind it, and what that is: in the same word, a long option with = between, or in the next word. */
+static int read_named(int argc, char **argv, int *i, const char *option, const char *what, const char **word)
 {
     const char *behind = argv[*i] + strlen(option);
-    if (*file != NULL) {
+    if (*word != NULL) {
         return wrong_use("%s: %s twice", argv[0], option);
     }
     if (*behind == '\0' && *i + 1 == argc) {
-        return wrong_use("%s: %s without %s", argv[0], option,
-                         strcmp(option, "--range") == 0     ? "LOW:HIGH"
-                             : strcmp(option, "--frc") == 0 ? "OLD=NEW"
-                                                            : "a file");
+        return wrong_use("%s: %s without %s", argv[0], option, what);
     }
-    *file = *behind == '\0' ? argv[++*i] : behind + (option[1] == '-');
+    *word = *behind == '\0' ? argv[++*i] : behind + (option[1] == '-');
     return ACCEPTED;
 }
 
-/* A code and the one that is put in its place: OLD=NEW, three characters each, as they stand in the columns of FRC. */
+/*
+ * A code and the one that is put in its place, OLD=NEW, three characters each, as they stand in the columns of FRC; or the code of
+ * lines of version 01, which have none.
+ */
 static int read_code(int argc, char **argv, int *i, struct arguments *found)
 {
     const char *codes = NULL;
-    if (read_named(argc, argv, i, "--frc", &codes) != ACCEPTED) {
+    if (read_named(argc, argv, i, "--frc", "OLD=NEW or XYZ", &codes) != ACCEPTED) {
         return FAILED;
     }
+    if (strlen(codes) == FRC_WIDTH && is_code(codes)) {
+        int twice = found->frc != NULL;
+        found->frc = codes;
+        return twice ? wrong_use("%s: --frc XYZ twice", argv[0]) : ACCEPTED;
+    }
     if (strlen(codes) != 2 * FRC_WIDTH + 1 || codes[FRC_WIDTH] != '=' || !is_code(codes + FRC_WIDTH + 1)) {
-        return wrong_use("%s: '%s' is not OLD=NEW, three characters each, those of NEW A to Z or 0 to 9", argv[0], codes);
+        return wrong_use("%s: '%s' is neither OLD=NEW nor XYZ, three characters each, those of NEW and XYZ A to Z or 0 to 9", argv[0],
+                         codes);
     }
     if (code_for(found, (const uint8_t *)codes) != NULL) {
         return wrong_use("%s: --frc twice for '%.3s'", argv[0], codes);
@@ -52,6 +58,23 @@ const char *code_for(const struct arguments *given, const uint8_t *code)
     return NULL;
 }
 
+/* HC and FRC for lines of version 01: each is one that a line may have, and neither is given alone. */
+int check_supplied(const char *command, const struct arguments *given, int needed)
+{
+    const char *hc = given->hc, *frc = given->frc;
+    int64_t number = 0;
+    if (hc != NULL && (read_ps(hc, &number) != FITS || number < 0 || number > TRACKLINE_MOST_HC)) {
+        return wrong_use("%s: '%s' is no HC, which is 0 to %d", command, hc, TRACKLINE_MOST_HC);
+    }
+    if (frc != NULL && (strlen(frc) != FRC_WIDTH || !is_code(frc))) {
+        return wrong_use("%s: '%s' is no FRC, which is three of A to Z and 0 to 9", command, frc);
+    }
+    if ((needed || hc != NULL || frc != NULL) && (hc == NULL || frc == NULL)) {
+        return wrong_use("%s: %s is needed, as lines of version 01 have none", command, hc == NULL ? "--hc N" : "--frc XYZ");
+    }
+    return ACCEPTED;
+}
+
 /* Whether a word is this option with what it names in the same word or in the next. */
 static int is_option(const char *word, const char *option)
 {
@@ -72,6 +95,7 @@ static int *noted(const char *word, int allowed, struct arguments *found)
                          {"--skip", WITH_CONVERT, &found->skip},
                          {"--show", WITH_STORE, &found->show},
                          {"--sort", WITH_DAY, &found->sort},
+                         {"--gps", WITH_DOWN, &found->gps},
                          {"--bad", WITH_READ, &found->bad},
                          {"--csv", WITH_READ, &found->csv}};
     for (size_t i = 0; i < sizeof options / sizeof options[0]; i++) {
@@ -93,14 +117,20 @@ static int read_option(int argc, char **argv, int *i, int allowed, struct argume
     if ((allowed & WITH_CONVERT) && is_option(word, "--frc")) {
         return read_code(argc, argv, i, found);
     }
+    if ((allowed & WITH_UP) && is_option(word, "--frc")) {
+        return read_named(argc, argv, i, "--frc", "XYZ", &found->frc);
+    }
+    if ((allowed & (WITH_CONVERT | WITH_UP)) && is_option(word, "--hc")) {
+        return read_named(argc, argv, i, "--hc", "a number", &found->hc);
+    }
     if ((allowed & WITH_OUTPUT) && word[1] == 'o') {
-        return read_named(argc, argv, i, "-o", &found->output);
+        return read_named(argc, argv, i, "-o", "a file", &found->output);
     }
     if ((allowed & WITH_VIEW) && is_option(word, "--svg")) {
-        return read_named(argc, argv, i, "--svg", &found->picture);
+        return read_named(argc, argv, i, "--svg", "a file", &found->picture);
     }
     if ((allowed & WITH_VIEW) && is_option(word, "--range")) {
-        return read_named(argc, argv, i, "--range", &found->range);
+        return read_named(argc, argv, i, "--range", "LOW:HIGH", &found->range);
     }
     return wrong_use("%s: no option '%s'", argv[0], word);
 }
@@ -126,7 +156,7 @@ static int keep_input(const char *command, int allowed, const struct arguments *
     }
     for (size_t i = 0; i < sizeof written / sizeof written[0]; i++) {
         if (written[i] != NULL && is_input(written[i], name)) {
-            return wrong_use("%s: %s is read, and would be overwritten", command, written[i]);
+            return wrong_use("%s: %s is read, and would be overwritten: name another file", command, written[i]);
         }
     }
     return ACCEPTED;

@@ -81,11 +81,11 @@ void remark_on_date(const char *where, uint32_t mjd);
 /*
  * arguments.c: what stands behind a subcommand. Answers ACCEPTED, or FAILED after a message. Allowed may be an option -o, that
  * no file is named, that -o replaces a file that is read, that only the first word is a file and numbers follow, and the options of
- * view, of convert, of read, of store and of day. Nothing else that is read may be written to.
+ * view, of convert, of read, of store, of day, of down and of up. Nothing else that is read may be written to.
  */
 enum {
     WITH_OUTPUT = 1, NO_FILE = 2, REPLACING = 4, WITH_VIEW = 8, WITH_CONVERT = 16, WITH_READ = 64, WITH_NUMBERS = 128,
-    WITH_STORE = 256, WITH_DAY = 1024
+    WITH_STORE = 256, WITH_DAY = 1024, WITH_DOWN = 2048, WITH_UP = 4096
 };
 enum { MOST_CODES = 32, FRC_WIDTH = TRACKLINE_WIDTH_FRC };
 struct arguments {
@@ -96,12 +96,15 @@ struct arguments {
     int bad, csv;                  /* options of read that are given */
     int skip, show;                /* --skip of convert, --show of store is given */
     int sort;                      /* --sort of day is given */
+    int gps;                       /* --gps of down is given */
+    const char *hc, *frc;          /* what lines of version 01 are given, or NULL */
     const char *codes[MOST_CODES]; /* what --frc names, OLD=NEW */
     int codes_count;
     int count;
     char **names;
 };
 int read_arguments(int argc, char **argv, int allowed, struct arguments *found);
+int check_supplied(const char *command, const struct arguments *given, int needed);
 const char *code_for(const struct arguments *given, const uint8_t *code);
 
 /* block.c: the numbers in a hire block. The sizes are asked for first: 15n and n where they are those of n blocks. */
@@ -133,8 +136,9 @@ void explain_farthest(const uint8_t *block, uint32_t number);
 int explain_no_block(const struct bytes *file);
 int explain_no_lines(const struct bytes *file);
 int explain_other_line(const uint8_t *line, size_t length);
+int explain_same_form(const uint8_t *line, size_t length, int old);
 
-/* columns.c: the fields of a data line by their columns, counted from 1, and what a refused line is refused for. */
+/* columns.c: the fields of a data line by their columns, counted from 1, and what a refused line, also of version 01, is refused for. */
 enum form { LETTER, WHOLE, CALENDAR, HEXADECIMAL, TENTHS, CLOCK, CHARACTERS };
 struct field {
     const char *name;
@@ -146,6 +150,7 @@ struct field {
 enum { FIELDS = 22 };
 extern const struct field FIELD[FIELDS];
 void explain_line(const uint8_t *line, size_t length, uint32_t number);
+void explain_old_line(const uint8_t *old, size_t length, uint32_t number);
 
 /* linefiles.c: two line files, and the line that one of them is refused for. Lines are counted from 1. */
 struct line_file {
@@ -217,6 +222,7 @@ struct text {
 };
 int text_at(const struct bytes *file, size_t from, struct text *line);
 size_t text_begin(const struct bytes *file); /* behind a byte order mark */
+int is_empty_line(const struct text *line);
 
 /* headers.c: the header of a published file, found by its form. */
 struct header {
@@ -228,26 +234,43 @@ struct header {
 int find_header(const struct bytes *file, size_t from, struct header *found);
 size_t header_lines(const struct bytes *file, size_t *from);
 int begins_with_header(const struct bytes *file);
+int has_old_header(const struct bytes *file);
 int begins_like_data(const uint8_t *line, size_t length);
 int holds_data(const uint8_t *line, size_t length);
 
 /* published.c: a data line as it is published, and what keeps it from being a line of ours. */
 struct taken {
     uint8_t line[TRACKLINE_LINE_BYTES]; /* as the library makes it */
-    int filled, coded, commented;       /* other fills, another FRC put in, a comment left out */
+    int filled, coded, commented, old;  /* other fills, another FRC put in, a comment left out, of version 01 */
 };
 struct fault {
     size_t column;
     char reason[200];
+    int lacking; /* it is of version 01, and HC and FRC are not given */
 };
 int take_line(const uint8_t *line, size_t length, const struct arguments *given, struct taken *taken, struct fault *fault);
+int has_lone_return(const uint8_t *line, size_t length);
 int is_code(const char *code);
 
-/* advice.c: the commands that help with a file that is refused, below the refusal. */
+/*
+ * advice.c: the commands that help with a file that is refused, below the refusal. The last two answer whether there is one. HC and
+ * FRC for lines of version 01 are those given, or, with NULL, left open.
+ */
 void advise_convert(const char *name, const char *what);
-void advise_header(const char *name);
+void advise_old(const char *name, const char *what, const struct arguments *given);
+void advise_header(const char *name, const struct bytes *file);
 void advise_parted(const char *first, const char *second);
-void advise_line(const struct line_file *file, const uint8_t *line, size_t length);
+int advise_line(const struct line_file *file, const uint8_t *line, size_t length);
+int advise_code(const struct line_file *file, const uint8_t *line, size_t length);
+
+/* remarks.c: lines that were made one by one, of so many bytes each, where they stood, and what a person has to know of them. */
+struct origin {
+    const char *file;
+    size_t line;
+    char frc[FRC_WIDTH]; /* that is dropped, or nothing */
+};
+void remark_on_order(const struct bytes *lines, size_t width, const struct bytes *origins);
+void remark_on_same_keys(const struct bytes *lines, size_t width, const struct bytes *origins);
 
 /* progress.c: how far a long work has come, told where a person waits for it. */
 void begin_progress(void);
@@ -284,5 +307,7 @@ int delays_command(int argc, char **argv);
 int append_command(int argc, char **argv);
 int store_command(int argc, char **argv);
 int day_command(int argc, char **argv);
+int down_command(int argc, char **argv);
+int up_command(int argc, char **argv);
 
 #endif

@@ -1,6 +1,6 @@
 /*
- * The columns of a data line, and which of them a refused line is refused for. The library answers the number alone, so
- * the column is looked for here, for the message only. Columns are counted from 1, as the papers count them.
+ * The columns of a data line, ours or one of version 01, and which of them a refused line is refused for. The library answers
+ * the number alone, so the column is looked for here, for the message only. Columns are counted from 1, as the papers count them.
  */
 #include "cggtts.h"
 
@@ -39,7 +39,14 @@ const struct field FIELD[FIELDS] = {
 /* What each column before CK may hold, as a picture of the line. */
 static const char KINDS[] =
     "L99 FF 99999 999999 9999 999 9999 +9999999999 +99999 +9999999999 +99999 9999 999 9999 +999 9999 +999 99 99 ZZZ ";
-enum { CHECKED = sizeof KINDS - 1 };
+
+/* A form of a line: how many columns stand before CK, which has two. Those of version 01 are ours but for the first, a blank. */
+enum line_form { OURS = sizeof KINDS - 1, VERSION_01 = TRACKLINE_OLD_BYTES - 2 };
+
+static char kind_of(enum line_form form, size_t column)
+{
+    return column == 1 && form == VERSION_01 ? ' ' : KINDS[column - 1];
+}
 
 static const struct kind {
     char kind;
@@ -71,16 +78,26 @@ static const char *held_in(uint8_t byte, char *room)
     }
 }
 
-static void explain_column(const uint8_t *line, size_t column, const char *what)
+/* The field that a column of this form stands in, or before; in a line of version 01 CK stands where ours have FR. */
+static const char *field_name(enum line_form form, size_t column, int *before)
 {
-    char room[8];
-    const char *held = held_in(line[column - 1], room);
-    const struct field *field = FIELD;
-    while (field < FIELD + FIELDS && field->last < column) {
+    const struct field *field = FIELD + (form == VERSION_01);
+    while (field->last < column) {
         field++;
     }
-    const char *before = field < FIELD + FIELDS && column < field->first ? "before " : "";
-    explain("column %zu (%s%s) is %s, not %s", column, before, field < FIELD + FIELDS ? field->name : "comment", held, what);
+    *before = column < field->first;
+    return field->first > (size_t)form ? "CK" : field->name;
+}
+
+static void explain_column(enum line_form form, const uint8_t *line, size_t column, const char *what)
+{
+    char room[8];
+    const char *held = held_in(line[column - 1], room), *name = "comment";
+    int before = 0;
+    if (column <= (size_t)form) {
+        name = field_name(form, column, &before);
+    }
+    explain("column %zu (%s%s) is %s, not %s", column, before ? "before " : "", name, held, what);
 }
 
 /* A minus before a zero in one of the signed fields. */
@@ -96,24 +113,24 @@ static int minus_zero(const uint8_t *line, const struct field *field)
     return zeros == field->last;
 }
 
-static void explain_character(const uint8_t *line, size_t length)
+static void explain_character(enum line_form form, const uint8_t *line, size_t length)
 {
-    for (size_t column = 1; column <= CHECKED; column++) {
-        const char *what = wanted(KINDS[column - 1], line[column - 1]);
+    for (size_t column = 1; column <= (size_t)form; column++) {
+        const char *what = wanted(kind_of(form, column), line[column - 1]);
         if (what != NULL) {
-            explain_column(line, column, what);
+            explain_column(form, line, column, what);
             return;
         }
     }
-    for (const struct field *field = FIELD; field < FIELD + FIELDS - 1; field++) {
+    for (const struct field *field = FIELD; field->last < (size_t)form; field++) {
         if (minus_zero(line, field)) {
             explain("column %zu (%s) is a minus before a zero, which has a plus", field->first, field->name);
             return;
         }
     }
-    for (size_t column = TRACKLINE_LINE_BYTES + 1; column <= length; column++) {
+    for (size_t column = (size_t)form + 3; column <= length; column++) {
         if (line[column - 1] < 0x20 || line[column - 1] > 0x7E) {
-            explain_column(line, column, "a byte from 20 to 7E");
+            explain_column(form, line, column, "a byte from 20 to 7E");
             return;
         }
     }
@@ -125,15 +142,15 @@ static const char *in_quotes(uint8_t byte, char *room)
     return byte == ' ' ? " " : shown(byte, room);
 }
 
-static void explain_check(const uint8_t *line)
+static void explain_check(enum line_form form, const uint8_t *line)
 {
     unsigned sum = 0;
     char first[8], second[8];
-    for (size_t i = 0; i < CHECKED; i++) {
+    for (size_t i = 0; i < (size_t)form; i++) {
         sum += line[i];
     }
-    explain("CK, columns 112 and 113, is \"%s%s\", and the columns before it give %02X",
-            in_quotes(line[CHECKED], first), in_quotes(line[CHECKED + 1], second), sum % 256);
+    explain("CK, columns %d and %d, is \"%s%s\", and the columns before it give %02X", form + 1, form + 2,
+            in_quotes(line[form], first), in_quotes(line[form + 1], second), sum % 256);
 }
 
 /* The number in columns that hold digits. */
@@ -199,26 +216,57 @@ static void explain_clock(const uint8_t *line, const uint8_t *block)
     explain_start(block);
 }
 
+/* What a line of this form is refused for, its labels apart. Answers whether that is it. */
+static int explain_form(enum line_form form, const uint8_t *line, size_t length, uint32_t number)
+{
+    switch (number) {
+    case TRACKLINE_LINE_LENGTH:
+        if (has_lone_return(line, length)) {
+            explain("its lines end with carriage return alone: tr '\\r' '\\n' puts line feeds in their place");
+        } else {
+            explain("it has %zu byte%s", length, length == 1 ? "" : "s");
+        }
+        return 1;
+    case TRACKLINE_CHECKSUM:
+        explain_check(form, line);
+        return 1;
+    case TRACKLINE_CHARACTER:
+        explain_character(form, line, length);
+        return 1;
+    default:
+        return 0;
+    }
+}
+
+/* 7 or 8: 9 does not arise, as enough is lent, and there is no other. */
+static void explain_values(const uint8_t *line, const uint8_t *block, uint32_t number)
+{
+    if (number == TRACKLINE_LABEL) {
+        explain_labels(block);
+        explain_track_length(line);
+    } else {
+        explain_clock(line, block);
+    }
+}
+
 void explain_line(const uint8_t *line, size_t length, uint32_t number)
 {
     uint8_t block[TRACKLINE_AT_INT] = {0};
-    switch (number) {
-    case TRACKLINE_LINE_LENGTH:
-        explain("it has %zu byte%s", length, length == 1 ? "" : "s");
-        break;
-    case TRACKLINE_CHECKSUM:
-        explain_check(line);
-        break;
-    case TRACKLINE_CHARACTER:
-        explain_character(line, length);
-        break;
-    case TRACKLINE_LABEL:
+    if (!explain_form(OURS, line, length, number)) {
         put_labels(line, block);
-        explain_labels(block);
-        explain_track_length(line);
-        break;
-    default: /* 8: 9 does not arise, as all values are lent, and there is no other */
+        explain_values(line, block, number);
+    }
+}
+
+/* A line of version 01, by the labels of a line of ours: what it has not is in its range. */
+void explain_old_line(const uint8_t *old, size_t length, uint32_t number)
+{
+    uint8_t line[TRACKLINE_LINE_BYTES], block[TRACKLINE_AT_INT] = {0};
+    if (!explain_form(VERSION_01, old, length, number)) {
+        memset(line, '0', sizeof line);
+        memcpy(line, old, VERSION_01);
+        line[0] = 'G';
         put_labels(line, block);
-        explain_clock(line, block);
+        explain_values(line, block, number);
     }
 }

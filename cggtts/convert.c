@@ -1,6 +1,7 @@
 /*
  * cggtts convert: one line file of files as laboratories and receivers publish them. Every line that was read is one of a
- * header, empty, taken or named. The library makes the lines that are written and puts them in their order.
+ * header, empty, taken or named; where all that is missing is HC and FRC, the first of a file is named and the others are
+ * counted. The library makes the lines that are written and puts them in their order.
  */
 #include "cggtts.h"
 
@@ -20,6 +21,8 @@ struct conversion {
     struct bytes lines, places;               /* the lines that are taken, with their line ends, and a struct place for each */
     size_t read, header, empty, refused;      /* lines */
     size_t filled, coded, commented, headers; /* lines of other fills, FRC put in, a comment; headers whose CKSUM is not right */
+    size_t old;                               /* lines of version 01 */
+    size_t lacking;                           /* lines of the file that are of version 01, where HC and FRC are not given */
 };
 
 static size_t taken_of(const struct conversion *all)
@@ -45,7 +48,7 @@ static void name_line(const struct conversion *all, struct place place, const st
 static void name_header(struct conversion *all, struct place place, const struct header *header)
 {
     size_t first = place.line, last = first + header->lines - 1;
-    struct fault fault = {1, ""};
+    struct fault fault = {.column = 1};
     if (header->check_line == 0) {
         snprintf(fault.reason, sizeof fault.reason, "the header, lines %zu to %zu, has no CKSUM", first, last);
     } else {
@@ -67,22 +70,13 @@ static void note_header(struct conversion *all, struct place *place, const struc
     place->line += header->lines;
 }
 
-/* Nothing but blanks; some systems end a text with a byte of 1A. */
-static int is_empty_line(const struct text *line)
-{
-    size_t i = 0;
-    while (i < line->length && (line->at[i] == ' ' || line->at[i] == '\t' || line->at[i] == 0x1A)) {
-        i++;
-    }
-    return i == line->length;
-}
-
 /* Puts a line behind those that are taken. */
 static int keep_line(struct conversion *all, struct place place, const struct taken *taken)
 {
     all->filled += (size_t)taken->filled;
     all->coded += (size_t)taken->coded;
     all->commented += (size_t)taken->commented;
+    all->old += (size_t)taken->old;
     int status = append_bytes(&all->lines, taken->line, sizeof taken->line);
     if (status == ACCEPTED) {
         status = append_bytes(&all->lines, "\r\n", 2);
@@ -101,7 +95,10 @@ static int convert_line(struct conversion *all, struct place place, const struct
     }
     if (take_line(line->at, line->length, all->given, &taken, &fault) != ACCEPTED) {
         all->refused++;
-        name_line(all, place, &fault);
+        all->lacking += (size_t)fault.lacking;
+        if (!fault.lacking || all->lacking == 1) {
+            name_line(all, place, &fault);
+        }
         return ACCEPTED;
     }
     return keep_line(all, place, &taken);
@@ -131,7 +128,7 @@ static int convert_text(struct conversion *all, int file, const struct bytes *by
 static int convert_file(struct conversion *all, int file)
 {
     static const uint8_t PACKED[] = {0x1F, 0x8B};
-    static const struct fault FAULT = {1, "a gzip file, which has to be unpacked first"};
+    static const struct fault FAULT = {.column = 1, .reason = "a gzip file, which has to be unpacked first"};
     struct bytes bytes;
     int status = read_file(all->given->names[file], &bytes);
     if (status == ACCEPTED && bytes.length >= sizeof PACKED && memcmp(bytes.at, PACKED, sizeof PACKED) == 0) {
@@ -139,7 +136,11 @@ static int convert_file(struct conversion *all, int file)
         all->read++;
         all->refused++;
     } else if (status == ACCEPTED) {
+        all->lacking = 0;
         status = convert_text(all, file, &bytes);
+        if (all->lacking > 1) {
+            explain("so %s %zu more line%s of this file", all->lacking == 2 ? "is" : "are", all->lacking - 1, all->lacking == 2 ? "" : "s");
+        }
     }
     free_bytes(&bytes);
     return status;
@@ -242,15 +243,18 @@ static int report_conflicts(const struct conversion *all, size_t *found)
 /* What was read, as one sentence; `end` says what became of it. */
 static void sum_up(const struct conversion *all, const char *end)
 {
-    char headers[80] = "";
+    char headers[80] = "", old[80] = "";
     if (all->headers > 0) {
         snprintf(headers, sizeof headers, ", CKSUM wrong or missing in %zu header%s", all->headers, all->headers == 1 ? "" : "s");
+    }
+    if (all->old > 0) {
+        snprintf(old, sizeof old, ", %zu of version 01 with HC and FRC put in", all->old);
     }
     flush_output();
     fprintf(stderr, "cggtts: read %zu line%s: %zu header, %zu empty, %zu data%s; %s; ", all->read, all->read == 1 ? "" : "s", all->header,
             all->empty, all->refused + taken_of(all), headers, end);
-    fprintf(stderr, "of the data lines %zu with other fills, %zu with a comment, %zu with another FRC put in\n", all->filled,
-            all->commented, all->coded);
+    fprintf(stderr, "of the data lines %zu with other fills, %zu with a comment, %zu with another FRC put in%s\n", all->filled,
+            all->commented, all->coded, old);
 }
 
 static int write_lines(const struct conversion *all, const struct bytes *ordered)
@@ -314,7 +318,7 @@ static int write_nothing(const struct conversion *all)
 int convert_command(int argc, char **argv)
 {
     struct arguments given;
-    if (read_arguments(argc, argv, WITH_OUTPUT | WITH_CONVERT, &given) != ACCEPTED) {
+    if (read_arguments(argc, argv, WITH_OUTPUT | WITH_CONVERT, &given) != ACCEPTED || check_supplied(argv[0], &given, 0) != ACCEPTED) {
         return FAILED;
     }
     struct conversion all = {.given = &given};

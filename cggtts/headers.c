@@ -123,6 +123,16 @@ static int is_heading(const struct text *line)
     return words > 3;
 }
 
+/* Whether FRC is among the names of the columns. */
+static int names_code(const struct text *line)
+{
+    size_t at = 0;
+    while (at < line->length && !word_at(line, at, " FRC ")) {
+        at++;
+    }
+    return at < line->length;
+}
+
 /* The line that names the units: hhmmss first, and characters of units alone. */
 static int is_units(const struct text *line)
 {
@@ -234,6 +244,20 @@ size_t header_lines(const struct bytes *file, size_t *from)
         *from = header.fits ? header.next : line.next;
     }
     return lines;
+}
+
+/* Whether the header that a file begins with is that of version 01: by its title, or by columns that have no FRC. */
+int has_old_header(const struct bytes *file)
+{
+    struct text line;
+    if (!text_at(file, text_begin(file), &line)) {
+        return 0;
+    }
+    size_t end = line.length;
+    while (end > 0 && line.at[end - 1] == ' ') {
+        end--;
+    }
+    return is_title(&line) ? end >= 2 && word_at(&line, end - 2, "01") : word_at(&line, 0, "PRN ") && is_heading(&line) && !names_code(&line);
 }
 
 /* Whether a file begins as a published one does, whatever it goes on with. */

@@ -53,6 +53,13 @@ static int is_version_01(const uint8_t *line, size_t length)
     return has_columns(line, length) && (line[0] == ' ' || digits_in(line, 1, 1)) && digits_in(line, 3, 3) && line[100] == ' ';
 }
 
+/* The same behind which MSIO, SMSI and ISG stand. */
+static int is_old_measured(const uint8_t *line, size_t length)
+{
+    static const size_t BETWEEN[] = {106, 111, 115, 0};
+    return length >= 117 && blank_at(line, length, BETWEEN) && digits_in(line, 105, 105) && digits_in(line, 114, 114);
+}
+
 /* The first line of a file, without its line end. */
 static size_t first_line(const struct bytes *file)
 {
@@ -94,7 +101,23 @@ int explain_other_line(const uint8_t *line, size_t length)
         return 1;
     }
     if (is_version_01(line, length)) {
-        explain("it is a line of version 01, which has no letter, FR, HC and FRC: such lines are not taken");
+        explain(is_old_measured(line, length)
+                    ? "it is a line of version 01 with a measured ionosphere (MSIO, SMSI, ISG): such lines are not taken"
+                    : "it is a line of version 01, which has no letter, FR, HC and FRC: 'cggtts convert FILE --hc N --frc XYZ' takes such lines");
+        return 1;
+    }
+    return 0;
+}
+
+/* A line that has the form already which it is to be given. Answers whether it is one. */
+int explain_same_form(const uint8_t *line, size_t length, int old)
+{
+    if (old && is_version_01(line, length)) {
+        explain("it is a line of version 01 already");
+        return 1;
+    }
+    if (!old && length >= TRACKLINE_LINE_BYTES && is_data_line(line, length)) {
+        explain("it is a line of ours already, with the letter %c", line[0]);
         return 1;
     }
     return 0;

@@ -179,7 +179,7 @@ static void explain_file(const struct line_file *file, size_t number, uint32_t a
     size_t tail = file->bytes.length - TRACKLINE_FILE_LINE_BYTES * (number - 1);
     int64_t values[TRACKLINE_VALUES];
     if (begins_with_header(&file->bytes)) {
-        advise_header(file->name);
+        advise_header(file->name, &file->bytes);
         return;
     }
     if (explain_no_lines(&file->bytes) || explain_other_line(line, length_of_text(&file->bytes, number))) {

@@ -1,7 +1,8 @@
 /*
  * A data line as it is published: numbers filled with blanks or zeros, with or without a plus, and a comment behind it. Its CK
- * is tested first, over the characters as they stand; then its values are read, and the library makes the line of them. What
- * keeps a line from that is named by its column, counted from 1.
+ * is tested first, over the characters as they stand; then its values are read, and the library makes the line of them. A line
+ * of version 01 is filled as ours are, and the library makes the line of that. What keeps a line from it is named by its column,
+ * counted from 1.
  */
 #include "cggtts.h"
 
@@ -18,7 +19,7 @@ static int at_fault(struct fault *fault, size_t column, const char *form, ...)
 {
     va_list given;
     va_start(given, form);
-    fault->column = column;
+    *fault = (struct fault){.column = column};
     vsnprintf(fault->reason, sizeof fault->reason, form, given);
     va_end(given);
     return REFUSED;
@@ -44,11 +45,17 @@ static unsigned digit_of(uint8_t byte)
     return isdigit(byte) ? byte - (unsigned)'0' : (unsigned)toupper(byte) - 'A' + 10;
 }
 
-/* Whether the two digits behind so many columns are their sum; small letters are digits too. */
-static int check_fits(const uint8_t *line, size_t length, size_t columns)
+/* Whether the two digits behind so many columns are this sum; small letters are digits too. */
+static int states(const uint8_t *line, size_t length, size_t columns, unsigned sum)
 {
     return length >= columns + 2 && isxdigit(line[columns]) && isxdigit(line[columns + 1])
-        && 16 * digit_of(line[columns]) + digit_of(line[columns + 1]) == sum_of(line, columns);
+        && 16 * digit_of(line[columns]) + digit_of(line[columns + 1]) == sum % 256;
+}
+
+/* Whether they are that of the columns. */
+static int check_fits(const uint8_t *line, size_t length, size_t columns)
+{
+    return length >= columns + 2 && states(line, length, columns, sum_of(line, columns));
 }
 
 /* A line of another form, by its CK. Older versions have no letter in column 1. */
@@ -58,10 +65,42 @@ static int judge_form(const uint8_t *line, size_t length, struct fault *fault)
     if (check_fits(line, length, CHECKED_MEASURED)) {
         return at_fault(fault, 102, "a line of two frequencies (MSIO, SMSI, ISG), which has columns that ours has not");
     }
-    if (old && (check_fits(line, length, CHECKED_01) || check_fits(line, length, CHECKED_01_MEASURED))) {
-        return at_fault(fault, 1, "a line of version 01, which has no letter, FR, HC and FRC");
+    if (old && check_fits(line, length, CHECKED_01_MEASURED)) {
+        return at_fault(fault, 102, "a line of version 01 with a measured ionosphere (MSIO, SMSI, ISG), which has columns that ours has not");
+    }
+    if (old && check_fits(line, length, CHECKED_01)) {
+        return at_fault(fault, 1, line[0] == '1' ? "1 stands where a line of version 01 has a blank"
+                                                 : "CK is right as that of version 01 and as that of version 02: a person has to tell which");
     }
     return ACCEPTED;
+}
+
+/* Whether a line is one of version 01 by its CK, and of no other form that has no letter either. */
+static int is_old(const uint8_t *line, size_t length)
+{
+    return length > 0 && line[0] == ' ' && check_fits(line, length, CHECKED_01) && !check_fits(line, length, CHECKED)
+        && !check_fits(line, length, CHECKED_01_MEASURED) && !check_fits(line, length, CHECKED_MEASURED);
+}
+
+/* Whether the columns behind the first may be those of one: it is too short for another form, or has none of that form's blanks. */
+static int has_old_columns(const uint8_t *line, size_t length)
+{
+    return length >= TRACKLINE_OLD_BYTES && line[CHECKED_01 - 1] == ' '
+        && (length < TRACKLINE_LINE_BYTES || line[103] != ' ' || line[106] != ' ' || line[110] != ' ');
+}
+
+/* Whether it may be one whose CK is not right. */
+static int looks_old(const uint8_t *line, size_t length)
+{
+    return has_old_columns(line, length) && line[0] == ' ';
+}
+
+/* Whether it is one but for a letter in column 1, which CK sums as it stands or as the blank that it was. */
+static int has_letter_for_blank(const uint8_t *line, size_t length)
+{
+    return has_old_columns(line, length) && isalpha(line[0])
+        && (check_fits(line, length, CHECKED_01)
+            || states(line, length, CHECKED_01, sum_of(line, CHECKED_01) + 256 + ' ' - line[0]));
 }
 
 /* Whether blanks stand where they part MSIO, SMSI, ISG, FR, HC and FRC of a line of two frequencies. */
@@ -78,7 +117,7 @@ static int looks_measured(const uint8_t *line, size_t length)
 static const char LONE_RETURN[] = "carriage return alone ends no line: tr '\\r' '\\n' puts line feeds in their place";
 
 /* Whether a data line begins behind a carriage return, as where that alone ends lines. */
-static int has_lone_return(const uint8_t *line, size_t length)
+int has_lone_return(const uint8_t *line, size_t length)
 {
     const uint8_t *end = memchr(line, '\r', length);
     return end != NULL && holds_data(end, length - (size_t)(end - line));
@@ -94,15 +133,23 @@ static int judge_check(const uint8_t *line, size_t length, struct fault *fault)
     if (!begins_like_data(line, length)) {
         return at_fault(fault, 1, "%s", has_lone_return(line, length) ? LONE_RETURN : "neither a header's line nor a data line");
     }
-    if (length < TRACKLINE_LINE_BYTES) {
+    if (has_letter_for_blank(line, length)) {
+        return at_fault(fault, 1, "%c stands where a line of version 01 has a blank", line[0]);
+    }
+    if (length < TRACKLINE_OLD_BYTES && line[0] == ' ') {
+        return at_fault(fault, length + 1, "the line ends here, and a data line of version 01 has %d columns", TRACKLINE_OLD_BYTES);
+    }
+    size_t checked = looks_old(line, length) ? CHECKED_01 : CHECKED;
+    if (length < checked + 2) {
         return at_fault(fault, length + 1, "the line ends here, and a data line has %d columns", TRACKLINE_LINE_BYTES);
     }
     if (looks_measured(line, length)) {
         return at_fault(fault, CHECKED_MEASURED + 1, "a line of two frequencies (MSIO, SMSI, ISG), whose CK is not right either");
     }
-    return at_fault(fault, CHECKED + 1,
-                    "CK is \"%s%s\", and the columns before it give %02X: the line was changed after it was written",
-                    seen(line[CHECKED], first), seen(line[CHECKED + 1], second), sum_of(line, CHECKED));
+    return at_fault(fault, checked + 1,
+                    "CK%s is \"%s%s\", and the columns before it give %02X: the line was changed after it was written",
+                    checked == CHECKED ? "" : " of version 01", seen(line[checked], first), seen(line[checked + 1], second),
+                    sum_of(line, checked));
 }
 
 /* Whether the first column of a field is for a sign. */
@@ -258,11 +305,11 @@ static int read_field(const uint8_t *line, const struct field *field, int64_t *v
     }
 }
 
-/* The values of all fields but FRC, and the blank behind each. */
-static int read_values(const uint8_t *line, int64_t *values, struct fault *fault)
+/* The values of fields from one to before another but FRC, and the blank behind each. */
+static int read_values(const uint8_t *line, const struct field *field, const struct field *end, int64_t *values, struct fault *fault)
 {
     char room[8];
-    for (const struct field *field = FIELD; field < FIELD + FIELDS - 1; field++) {
+    for (; field < end; field++) {
         if (field->form != LETTER && line[field->last] != ' ') {
             return at_fault(fault, field->last + 1, "%s stands where a blank parts %s from what follows",
                             shown(line[field->last], room), field->name);
@@ -361,25 +408,24 @@ static int make_line(const int64_t *values, uint8_t *line, struct fault *fault)
     return answer == TRACKLINE_ACCEPTED ? ACCEPTED : judge_refusal(values, answer, fault);
 }
 
-/* What stands behind CK: nothing, or a comment, which ends at column 140 and has no data line in it. */
-static int judge_comment(const uint8_t *line, size_t length, struct fault *fault)
+/* What stands behind so many columns: nothing, or a comment, which ends at the last that there may be and has no data line in it. */
+static int judge_comment(const uint8_t *line, size_t length, size_t columns, size_t longest, struct fault *fault)
 {
-    const uint8_t *comment = line + TRACKLINE_LINE_BYTES;
-    size_t rest = length - TRACKLINE_LINE_BYTES;
+    const uint8_t *comment = line + columns;
+    size_t rest = length - columns;
     if (holds_data(comment, rest)) {
-        return at_fault(fault, TRACKLINE_LINE_BYTES + 1, "%s",
-                        has_lone_return(comment, rest) ? LONE_RETURN : "another data line begins behind CK");
+        return at_fault(fault, columns + 1, "%s", has_lone_return(comment, rest) ? LONE_RETURN : "another data line begins behind CK");
     }
-    if (length > TRACKLINE_LONGEST_LINE) {
-        return at_fault(fault, TRACKLINE_LONGEST_LINE + 1, "the line goes on, and a comment ends at column %d",
-                        TRACKLINE_LONGEST_LINE);
+    if (length > longest) {
+        return at_fault(fault, longest + 1, "the line goes on, and a comment ends at column %zu", longest);
     }
     return ACCEPTED;
 }
 
-static size_t without_blanks(const uint8_t *line, size_t length)
+/* The length of a line without the blanks behind its columns. */
+static size_t without_blanks(const uint8_t *line, size_t length, size_t columns)
 {
-    while (length > TRACKLINE_LINE_BYTES && line[length - 1] == ' ') {
+    while (length > columns && line[length - 1] == ' ') {
         length--;
     }
     return length;
@@ -391,18 +437,86 @@ static int is_filled(const uint8_t *line, const uint8_t *made)
     return memcmp(line, made, CHECKED - 1 - FRC_WIDTH) != 0 || islower(line[CHECKED]) || islower(line[CHECKED + 1]);
 }
 
+/* A value as it stands in the columns of its field. */
+static void fill_field(uint8_t *line, const struct field *field, int64_t value)
+{
+    int width = (int)(field->last - field->first + 1);
+    char text[40];
+    if (field->form == HEXADECIMAL) {
+        snprintf(text, sizeof text, "%02" PRIX64, (uint64_t)value);
+    } else if (field->form == CLOCK) {
+        snprintf(text, sizeof text, "%02" PRId64 "%02" PRId64 "%02" PRId64, value / 3600, value / 60 % 60, value % 60);
+    } else {
+        snprintf(text, sizeof text, is_signed(field) ? "%+0*" PRId64 : "%0*" PRId64, width, value);
+    }
+    memcpy(line + field->first - 1, text, (size_t)width);
+}
+
+/* The line of version 01 that has these values, filled as our lines are. */
+static void fill_old(const int64_t *values, const struct field *end, uint8_t *old)
+{
+    char check[3];
+    memset(old, ' ', TRACKLINE_OLD_BYTES);
+    for (const struct field *field = FIELD + 1; field < end; field++) {
+        fill_field(old, field, values[field->place]);
+    }
+    snprintf(check, sizeof check, "%02X", sum_of(old, CHECKED_01));
+    memcpy(old + CHECKED_01, check, 2);
+}
+
+/* What a line of version 01 has not, as it is given; HC is within its limits. */
+static int supply(const struct arguments *given, int64_t *values, struct fault *fault)
+{
+    if (given->hc == NULL || given->frc == NULL) {
+        at_fault(fault, 1, "a line of version 01, which has no HC and FRC: --hc N and --frc XYZ put them in; HC is 0 where it is not known");
+        fault->lacking = 1;
+        return REFUSED;
+    }
+    read_ps(given->hc, &values[TRACKLINE_VALUE_HC]);
+    values[TRACKLINE_VALUE_CONSTELLATION] = 'G';
+    return ACCEPTED;
+}
+
+/* One line of version 01, which the library takes up. */
+static int take_old(const uint8_t *line, size_t length, const struct arguments *given, struct taken *taken, struct fault *fault)
+{
+    int64_t values[TRACKLINE_VALUES] = {0};
+    uint8_t old[TRACKLINE_OLD_BYTES];
+    const struct field *end = field_at(CHECKED_01 + 1);
+    length = without_blanks(line, length, sizeof old);
+    if (supply(given, values, fault) != ACCEPTED || read_values(line, FIELD + 1, end, values, fault) != ACCEPTED
+        || judge_values(values, fault) != ACCEPTED || judge_comment(line, length, sizeof old, TRACKLINE_LONGEST_OLD, fault) != ACCEPTED) {
+        return REFUSED;
+    }
+    if (values[TRACKLINE_VALUE_TRKL] < 0) { /* its columns hold digits alone */
+        return judge_refusal(values, TRACKLINE_LABEL, fault);
+    }
+    const uint8_t *frc = (const uint8_t *)given->frc;
+    fill_old(values, end, old);
+    uint32_t answer = trackline_up(old, sizeof old, (uint8_t)values[TRACKLINE_VALUE_HC], frc[0], frc[1], frc[2], taken->line,
+                                   sizeof taken->line);
+    taken->old = 1;
+    taken->filled = memcmp(line, old, CHECKED_01) != 0 || islower(line[CHECKED_01]) || islower(line[CHECKED_01 + 1]);
+    taken->commented = length > sizeof old;
+    return answer == TRACKLINE_ACCEPTED ? ACCEPTED : judge_refusal(values, answer, fault);
+}
+
 /* One line, without its line end. */
 int take_line(const uint8_t *line, size_t length, const struct arguments *given, struct taken *taken, struct fault *fault)
 {
     int64_t values[TRACKLINE_VALUES] = {0};
     struct fault other;
     memset(taken, 0, sizeof *taken);
-    length = without_blanks(line, length);
+    if (is_old(line, length)) {
+        return take_old(line, length, given, taken, fault);
+    }
+    length = without_blanks(line, length, TRACKLINE_LINE_BYTES);
     if (!check_fits(line, length, CHECKED)) {
         return judge_check(line, length, fault);
     }
-    if (read_values(line, values, fault) != ACCEPTED || read_code(line, given, values, taken, fault) != ACCEPTED
-        || make_line(values, taken->line, fault) != ACCEPTED || judge_comment(line, length, fault) != ACCEPTED) {
+    if (read_values(line, FIELD, FIELD + FIELDS - 1, values, fault) != ACCEPTED
+        || read_code(line, given, values, taken, fault) != ACCEPTED || make_line(values, taken->line, fault) != ACCEPTED
+        || judge_comment(line, length, TRACKLINE_LINE_BYTES, TRACKLINE_LONGEST_LINE, fault) != ACCEPTED) {
         *fault = judge_form(line, length, &other) != ACCEPTED ? other : *fault;
         return REFUSED;
     }

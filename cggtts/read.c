@@ -130,7 +130,7 @@ static size_t pass_header(const char *name, const struct bytes *file, size_t *nu
     } else {
         explain("it is the first of a header's lines, up to line %zu", *number);
     }
-    advise_header(name);
+    advise_header(name, file);
     return from;
 }
 

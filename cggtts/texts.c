@@ -10,6 +10,16 @@ size_t text_begin(const struct bytes *file)
     return file->length >= sizeof MARK && memcmp(file->at, MARK, sizeof MARK) == 0 ? sizeof MARK : 0;
 }
 
+/* Nothing but blanks; some systems end a text with a byte of 1A. */
+int is_empty_line(const struct text *line)
+{
+    size_t i = 0;
+    while (i < line->length && (line->at[i] == ' ' || line->at[i] == '\t' || line->at[i] == 0x1A)) {
+        i++;
+    }
+    return i == line->length;
+}
+
 /* The line that begins at a byte. Answers whether there is one. */
 int text_at(const struct bytes *file, size_t from, struct text *line)
 {

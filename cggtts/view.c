@@ -95,7 +95,7 @@ static void report_long(const struct line_file *file)
         explain("it has %zu bytes, %zu lines and %zu byte%s", file->bytes.length, lines, rest, rest == 1 ? "" : "s");
     }
     if (begins_with_header(&file->bytes)) {
-        advise_header(file->name);
+        advise_header(file->name, &file->bytes);
     } else {
         explain_no_lines(&file->bytes);
     }

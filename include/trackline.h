@@ -1,15 +1,15 @@
 /*
- * trackline: one CGGTTS data line of 113 columns from a satellite track of 1 to 13 minutes, what stands in such a line,
- * one file of lines from two, the common view of two, delays kept by date, a file of lines from many tracks, and the
- * length of the path between a satellite and an antenna.
+ * trackline: one CGGTTS data line of 113 columns from a satellite track of 1 to 13 minutes, and what stands in such a line.
+ * Also one file of lines from two, the common view of two, and a file of lines from many tracks. Also delays kept by date,
+ * the length of the path between a satellite and an antenna, and lines of version 01 from ours and back.
  *
  * Each function but trackline_comment answers 0 when it accepts and the number of its refusal otherwise. A slice is a
  * pointer and a length; NULL with length 0 is an empty slice. A length counts elements: bytes of a block, a line, a file
  * or a store, but numbers of lent values, of a lent report or of lent delays, which sizeof does not count. A function
- * that accepts writes the first 113 bytes of the lent line, with no byte of zero after them, the first 23 of the lent
- * values, the first *written bytes of the lent file or store, or the first 4 numbers of the lent report or delays; one
- * that refuses writes nothing. What is written to must not overlap anything else of the call. Nothing is kept between
- * calls, so that threads may call at once on lines of their own.
+ * that accepts writes the first 113 bytes of the lent line, or 103 of version 01, with no byte of zero after them. Of
+ * others it writes the first 23 of the lent values, the first *written bytes of the lent file or store, or the first 4
+ * numbers of the lent report or delays. One that refuses writes nothing. What is written to must not overlap anything
+ * else of the call. Nothing is kept between calls, so that threads may call at once on lines of their own.
  *
  * With a length above 0 a pointer has to point to so many elements: NULL or a wild pointer is not noticed, and is read or
  * written. Bytes may stand anywhere; int64_t, size_t and double have to be aligned as C aligns them, to 8 bytes.
@@ -30,14 +30,18 @@ extern "C" {
 #endif
 
 /* The version of the library that this header is of. */
-#define TRACKLINE_VERSION "1.8.0"
+#define TRACKLINE_VERSION "1.9.0"
 #define TRACKLINE_VERSION_MAJOR 1
-#define TRACKLINE_VERSION_MINOR 8
+#define TRACKLINE_VERSION_MINOR 9
 #define TRACKLINE_VERSION_PATCH 0
 
 /* Columns of a line, and bytes of a line with the longest comment behind them. */
 #define TRACKLINE_LINE_BYTES 113
 #define TRACKLINE_LONGEST_LINE 140
+
+/* The same of a line of version 01. */
+#define TRACKLINE_OLD_BYTES 103
+#define TRACKLINE_LONGEST_OLD 128
 
 /*
  * The hire block: little-endian; hireblock(5) tells it whole. AT is the first byte, counted from 0, and WIDTH how many
@@ -156,10 +160,10 @@ extern "C" {
     X(6, TRACKLINE_SCATTER, "DSG is below 0 or has more than four digits")                                             \
     X(7, TRACKLINE_LABEL, "a label is out of its range, or the track length is not 15 n, n from 4 to 52")              \
     X(8, TRACKLINE_START, "no track of that day starts at that second")                                                \
-    X(9, TRACKLINE_LENT, "lent is a line under 113 bytes, values under 23, a report or delays under 4, or too short a store or file of a day") \
+    X(9, TRACKLINE_LENT, "lent is a line under 113 bytes (version 01: 103), values under 23, a report or delays under 4, or too short a store or file of a day") \
     X(10, TRACKLINE_CORRECTED, "a corrected value is beyond its limit")                                                \
     X(11, TRACKLINE_LENGTH, "the block is under 4 bytes or not as long as its sizes make it")                          \
-    X(12, TRACKLINE_LINE_LENGTH, "the line is not 113 to 140 bytes long, or a file's last line is under 115")          \
+    X(12, TRACKLINE_LINE_LENGTH, "the line is not 113 to 140 bytes long (version 01: 103 to 128), or a file's last line is under 115") \
     X(13, TRACKLINE_CHARACTER, "a character is not allowed in its column or line end")                                 \
     X(14, TRACKLINE_CHECKSUM, "CK is not the two capital digits of the sum of the columns before it")                  \
     X(15, TRACKLINE_DIFFER, "two lines have the same MJD, start, letter and satellite, and differ")                    \
@@ -171,7 +175,8 @@ extern "C" {
     X(21, TRACKLINE_NOT_YET, "no entry of the store starts as early as that date")                                     \
     X(22, TRACKLINE_NOT_LATER, "the date is not later than the store's last, or the store has 1000 entries")           \
     X(23, TRACKLINE_NOT_WHOLE, "a coordinate is not a whole number of millimetres")                                    \
-    X(24, TRACKLINE_COORDINATE, "a coordinate is outside -50000000000 to 50000000000 mm")
+    X(24, TRACKLINE_COORDINATE, "a coordinate is outside -50000000000 to 50000000000 mm")                              \
+    X(25, TRACKLINE_NOT_GPS, "the line's letter is not G, and version 01 has GPS alone")
 
 #define TRACKLINE_NUMBER(number, name, text) , name = number
 enum trackline_refusal {
@@ -274,6 +279,33 @@ uint32_t trackline_read(const uint8_t *line, size_t line_len, int64_t *values, s
  * is then empty. It is the rest of the line from there, up to 27 bytes of 20 to 7E hexadecimal.
  */
 size_t trackline_comment(const uint8_t *line, size_t line_len);
+
+/*
+ * A line of version 01, the GGTTS form that some laboratories still read, has 103 columns. 1 is a blank, 2 to 101 are those of
+ * our line with their fills. 102 and 103 are CK, the sum of columns 1 to 101 modulo 256 in two capital hexadecimal digits. A
+ * comment of up to 25 bytes of 20 to 7E hexadecimal may stand behind them. It has no letter, FR, HC and FRC. Neither of the two
+ * functions takes or writes a line end. share/doc/trackline/VERSION-01.md is a page on it.
+ *
+ * Down: a GPS line becomes such a line, without FR, HC, FRC and its comment. trackline_read gives HC and FRC, where they are to
+ * be had again. Tried in this order: what trackline_read tries of a line, 12, 14, 13, 7, 8; then 25 for a letter other than G;
+ * then 9 if fewer than TRACKLINE_OLD_BYTES bytes are lent.
+ */
+uint32_t trackline_down(const uint8_t *line, size_t line_len, uint8_t *old, size_t old_len);
+
+/*
+ * Up: a line of version 01 becomes one of 113 columns, with the letter G, FR 0 and the hc and frc1 to frc3 given; its comment is
+ * left out. Down and up again, with the HC and FRC that were dropped, restores the 113 columns.
+ *
+ * Tried in this order:
+ * 12 if old_len is not 103 to 128; 14 for another CK;
+ * 13 for a column 1 that is not blank, a character not allowed in its column, a minus before a zero or another comment byte;
+ * 7 for a label out of its range, IOE being that of G, or a track length that is not 15 n, n from 4 to 52;
+ * 7 also for an hc above 99 or a character of FRC other than A to Z and 0 to 9;
+ * 8 as for trackline_read; 9 if fewer than TRACKLINE_LINE_BYTES bytes are lent.
+ * Numbers filled with blanks, as published files have them, are 13: cggtts convert takes these.
+ */
+uint32_t trackline_up(const uint8_t *old, size_t old_len, uint8_t hc, uint8_t frc1, uint8_t frc2, uint8_t frc3, uint8_t *line,
+                      size_t line_len);
 
 /*
  * A line file has 115 bytes a line: 113 columns, carriage return, line feed. Its lines ascend strictly by four keys: MJD,

@@ -31,7 +31,7 @@ CGGTTS=$prefix/bin/cggtts python3 tests/cggtts/test_cggtts.py >"$scratch/log" 2>
     cat "$scratch/log" >&2
     fail 'the installed cggtts'
 }
-for test in merge view words parted convert files offset delays day path; do
+for test in merge view words parted convert files offset delays day path version01; do
     CGGTTS=$prefix/bin/cggtts python3 tests/cggtts/test_$test.py >"$scratch/log" 2>&1 || {
         cat "$scratch/log" >&2
         fail "the installed cggtts: test_$test.py"
@@ -90,6 +90,7 @@ cmp docs/REFUSALS.md "$prefix/share/doc/trackline/REFUSALS.md"
 cmp docs/TRUST.md "$prefix/share/doc/trackline/TRUST.md"
 cmp docs/HIRE-BLOCK.md "$prefix/share/doc/trackline/HIRE-BLOCK.md"
 cmp docs/DELAYS.md "$prefix/share/doc/trackline/DELAYS.md"
+cmp docs/VERSION-01.md "$prefix/share/doc/trackline/VERSION-01.md"
 
 # the installed paper's commands on delays, as its table and its run have them, among the installed examples
 (
@@ -107,6 +108,42 @@ cmp docs/DELAYS.md "$prefix/share/doc/trackline/DELAYS.md"
     sed -n '/^    \$ cggtts/,/^$/ s/^    \([^$].*\)/\1/p' "$paper" | cmp - "$scratch/report"
     grep -F -f <(sed -n '/^    58849/,/^$/ s/^    //p' "$paper" | grep .) delays.txt | wc -l | grep -qx 5
 ) & wait $! || fail "the commands in DELAYS.md"
+
+# the installed paper's commands on version 01, among the installed examples
+(
+    cp -r "$prefix/share/trackline/examples" "$scratch/old"
+    cd "$scratch/old"
+    sed -n 's/^    \$ \(cggtts\|cmp\) /\1 /p' "$prefix/share/doc/trackline/VERSION-01.md" >"$scratch/commands"
+    [ "$(wc -l <"$scratch/commands")" -eq 9 ]
+    PATH=$prefix/bin:$PATH bash -eu "$scratch/commands" 2>"$scratch/report"
+    sed -n 's/^    cggtts: /cggtts: /p' "$prefix/share/doc/trackline/VERSION-01.md" >"$scratch/told"
+    [ "$(wc -l <"$scratch/told")" -eq 1 ]
+    grep -qxF -f "$scratch/told" "$scratch/report"
+) & wait $! || fail "the commands in VERSION-01.md"
+
+# the example of trackline(3), with a line of the examples
+(
+    cd "$scratch/old"
+    sed -n '/^#include <trackline.h>$/,/^\.fi$/ p' "$prefix/share/man/man3/trackline.3" | sed '$d' >there.c
+    cat >>there.c <<'END'
+#include <stdio.h>
+#include <string.h>
+
+int main(void)
+{
+    uint8_t line[TRACKLINE_LINE_BYTES], restored[TRACKLINE_LINE_BYTES], old[TRACKLINE_OLD_BYTES];
+    if (fread(line, 1, sizeof line, stdin) != sizeof line)
+        return 2;
+    memcpy(restored, line, sizeof line);
+    if (there_and_back(restored, old) != TRACKLINE_ACCEPTED || memcmp(restored, line, sizeof line) != 0)
+        return 1;
+    return fwrite(old, 1, sizeof old, stdout) != sizeof old;
+}
+END
+    "$cc" -std=c11 -Wall -Wextra -Werror -I"$prefix/include" there.c "$prefix/lib/libtrackline.a" -o there
+    grep ^G week.cggtts | head -1 | ./there >there.v01
+    head -c 103 week.v01 | cmp - there.v01
+) & wait $! || fail "the example of trackline(3)"
 
 # each command of the README's "From C", as it is written, in a home of its own
 sed -n '/^## From C/,/^## For files/p' README.md | sed -n '/make install/,$ s/^    //p' >"$scratch/commands"
@@ -160,8 +197,8 @@ for paper in "$prefix"/share/doc/trackline/*.md; do
     ! grep -n '](\.\./' "$paper" || fail "$(basename "$paper") links to the sources"
 done
 ! grep -n 'docs/' "$prefix/include/trackline.h" || fail 'the header names a path of the sources'
-papers=$(sed -n 's|.* \(share/doc/[A-Za-z/-]*\.md\).*|\1|p' "$prefix/include/trackline.h")
-[ "$(wc -w <<<"$papers")" -eq 2 ] || fail "the header names these papers: $papers"
+papers=$(sed -n 's|.* \(share/doc/[A-Za-z0-9/-]*\.md\).*|\1|p' "$prefix/include/trackline.h")
+[ "$(wc -w <<<"$papers")" -eq 3 ] || fail "the header names these papers: $papers"
 for paper in $papers; do
     [ -f "$prefix/$paper" ] || fail "the header names $paper, which is not installed"
 done
@@ -182,7 +219,7 @@ pkg-config --exact-version "$(sed -n 's/^VERSION := //p' Makefile)" trackline ||
 
 # what the shared library exports and needs
 exports=$(nm -D --defined-only "$prefix/lib/libtrackline.so" | awk '{print $3}' | sort | xargs)
-[ "$exports" = 'trackline_append trackline_block trackline_comment trackline_day trackline_delays trackline_line trackline_merge trackline_path trackline_read trackline_start trackline_view' ] || fail "the shared library exports: $exports"
+[ "$exports" = 'trackline_append trackline_block trackline_comment trackline_day trackline_delays trackline_down trackline_line trackline_merge trackline_path trackline_read trackline_start trackline_up trackline_view' ] || fail "the shared library exports: $exports"
 needs=$(ldd "$prefix/lib/libtrackline.so" | awk '{print $1}' | grep -vE '^(linux-vdso|libc|/lib.*/ld-linux|statically)' || true)
 [ -z "$needs" ] || fail "the shared library needs: $needs"
 

@@ -116,6 +116,16 @@ pub unsafe extern "C" fn trackline_path(xs: f64, ys: f64, zs: f64, xa: f64, ya: 
     if let Ok(found) = answer { *length = found; }
     answer.err().unwrap_or(0)
 }
+#[no_mangle]
+pub unsafe extern "C" fn trackline_down(line: *const u8, line_len: usize, old: *mut u8, old_len: usize) -> u32 {
+    reference::down(bytes(line, line_len), lent(old, old_len))
+}
+#[no_mangle]
+pub unsafe extern "C" fn trackline_up(
+    old: *const u8, old_len: usize, hc: u8, frc1: u8, frc2: u8, frc3: u8, line: *mut u8, line_len: usize,
+) -> u32 {
+    reference::up(bytes(old, old_len), hc, [frc1, frc2, frc3], lent(line, line_len))
+}
 '''
 DAY_KEYS = 'if before.is_some_and(|before| before >= keys) {'
 DAY_BLOCK = 'let refusal = block(bytes, &mut line[..LINE_BYTES]);'
@@ -190,6 +200,23 @@ ROOT = 'Ok(root(sum) as f64)'
 SUBNORMAL = '0 => (fraction, -1074),'
 TOO_LARGE = 'if power > 70 {\n            i128::MAX'
 LENGTH_WRITTEN = 'if let Ok(found) = answer { *length = found; }'
+DOWN_READ = 'let (labels, _) = read(line)?;'
+DOWN_LETTER = "if labels.constellation != b'G' {"
+DOWN_TEXT = 'Ok(with_check([b" ", &line[1..SHARED]].concat()))'
+UP_LENGTH = 'if !(OLD_BYTES..=LONGEST_OLD).contains(&old.len()) {'
+UP_CHECK = 'if with_check(columns[..SHARED].to_vec()) != columns {'
+UP_CHARACTERS = "if columns[0] != b' ' || !characters_fit(&filled, comment) {"
+UP_SUPPLIED = 'let labels = Labels { hc, frc, ..labels(&filled) };'
+UP_LABELS = 'if !labels.in_range() || !numbers(&filled).length_fits() {'
+UP_START = 'if !starts(&filled, &labels) {'
+UP_BEHIND = 'format!("00 {hc:02} ").as_bytes(), &frc, b" "]'
+UP_TEXT = 'Ok(with_check([b"G", shared, %s.concat()))' % UP_BEHIND
+SUPPLIED_FITS = 'hc <= 99 && frc.iter().all(|c| c.is_ascii_uppercase() || c.is_ascii_digit())'
+PUT_REFUSAL = '        Err(refusal) => return refusal,\n    };\n    if lent.len() < text.len() {'
+PUT_ROOM = 'if lent.len() < text.len() {'
+PUT_TEXT = 'lent[..text.len()].copy_from_slice(&text);'
+GO_DOWN = '    put(lowered(line), lent)'
+GO_UP = '    put(raised(old, hc, frc), lent)'
 # name, then file, text and what to write for it, as often as needed
 MUTANTS = [
     # what the paper calls plausible and wrong
@@ -883,6 +910,114 @@ MUTANTS = [
     ('no length written', 'EXPORTS', LENGTH_WRITTEN, 'let _ = length;'),
     ('no length of 0 written', 'EXPORTS', LENGTH_WRITTEN, LENGTH_WRITTEN.replace('Ok(found)', 'Ok(found @ 1.0..)')),
     ('a number behind the length', 'EXPORTS', LENGTH_WRITTEN, LENGTH_WRITTEN.replace(' }', ' *length.add(1) = found; }')),
+    # down to version 01
+    ('down: R goes down', 'version01.rs', DOWN_LETTER, "if labels.constellation != b'G' && labels.constellation != b'R' {"),
+    ('down: J goes down', 'version01.rs', DOWN_LETTER, "if labels.constellation != b'G' && labels.constellation != b'J' {"),
+    ('down: every letter goes down', 'version01.rs', DOWN_LETTER, DOWN_LETTER.replace("b'G'", 'labels.constellation')),
+    ('down: letter kept', 'version01.rs', DOWN_TEXT, DOWN_TEXT.replace('b" ", &line[1..', '&line[..1], &line[1..')),
+    ('down: a zero in column 1', 'version01.rs', DOWN_TEXT, DOWN_TEXT.replace('b" "', 'b"0"')),
+    ('down: CK of 103 columns', 'version01.rs', DOWN_TEXT, 'let mut old = with_check([b" ", &line[1..103]].concat()); old.drain(101..103); Ok(old)'),
+    ('down: CK of 100 columns', 'version01.rs', DOWN_TEXT, 'let mut old = with_check([b" ", &line[1..100]].concat()); old.insert(100, b\' \'); Ok(old)'),
+    ('down: CK of columns 2 to 101', 'version01.rs', DOWN_TEXT, 'let mut old = with_check(line[1..SHARED].to_vec()); old.insert(0, b\' \'); Ok(old)'),
+    ('down: CK with the letter', 'version01.rs', DOWN_TEXT, 'let mut old = with_check(line[..SHARED].to_vec()); old[0] = b\' \'; Ok(old)'),
+    ('down: CK as it stood', 'version01.rs', DOWN_TEXT, 'Ok([b" ", &line[1..SHARED], &line[111..113]].concat())'),
+    ('down: CK in small letters', 'version01.rs', DOWN_TEXT, 'let mut old = with_check([b" ", &line[1..SHARED]].concat()); old.make_ascii_lowercase(); old[4] = line[4]; old[5] = line[5]; Ok(old)'),
+    ('down: comment kept', 'version01.rs', DOWN_TEXT, 'let mut old = with_check([b" ", &line[1..SHARED]].concat()); old.extend(&line[113..]); Ok(old)'),
+    ('down: FR, HC and FRC kept', 'version01.rs', DOWN_TEXT, 'Ok(with_check([b" ", &line[1..111]].concat()))'),
+    ('down: the air left out', 'version01.rs', DOWN_TEXT, DOWN_TEXT.replace('&line[1..SHARED]', '&line[1..81], &[b\' \'; 20]')),
+    ('down: comments refused', 'version01.rs', DOWN_READ, 'if line.len() > 113 { return Err(12); }\n    ' + DOWN_READ),
+    ('down: comment not judged', 'version01.rs', DOWN_READ, 'let (labels, _) = read(&line[..line.len().min(113)])?;'),
+    ('down: 25 before the reader', 'version01.rs', DOWN_READ, 'if line.first() != Some(&b\'G\') { return Err(25); }\n    ' + DOWN_READ),
+    ('down: 25 before 8', 'version01.rs', DOWN_READ,
+     "let (labels, _) = match read(line) { Err(8) if line[0] != b'G' => return Err(25), other => other? };"),
+    ('down: 25 before 7', 'version01.rs', DOWN_READ,
+     "let (labels, _) = match read(line) { Err(7) if line[0] != b'G' => return Err(25), other => other? };"),
+    ('down: 13 for 25', 'version01.rs', 'Err(25)', 'Err(13)'),
+    ('down: 7 for 25', 'version01.rs', 'Err(25)', 'Err(7)'),
+    ('down: 9 before 25', 'version01.rs', GO_DOWN, '    if lent.len() < 103 && lowered(line) == Err(25) { return 9; }\n' + GO_DOWN),
+    ('down: 9 before 8', 'version01.rs', GO_DOWN, '    if lent.len() < 103 && lowered(line) == Err(8) { return 9; }\n' + GO_DOWN),
+    ('down: 9 first', 'version01.rs', GO_DOWN, '    if lent.len() < 103 { return 9; }\n' + GO_DOWN),
+    ('down: room of 113 asked for', 'version01.rs', GO_DOWN, '    if lent.len() < 113 && lowered(line).is_ok() { return 9; }\n' + GO_DOWN),
+    ('down: 9 for the room it takes', 'version01.rs', PUT_ROOM, 'if lent.len() <= text.len() {'),
+    ('down: a cut line written', 'version01.rs', PUT_ROOM, 'if lent.len() == 102 { lent.copy_from_slice(&text[..102]); return 0; }\n    ' + PUT_ROOM),
+    ('down: a 104th byte', 'version01.rs', PUT_TEXT, PUT_TEXT + ' if text.len() == 103 && lent.len() > 103 { lent[103] = 0; }'),
+    ('down: a line end', 'version01.rs', PUT_TEXT, PUT_TEXT + ' if text.len() == 103 && lent.len() > 104 { lent[103] = 13; lent[104] = 10; }'),
+    ('down: the rest cleared', 'version01.rs', PUT_TEXT, PUT_TEXT + ' if text.len() == 103 { lent[103..].fill(b\' \'); }'),
+    ('down: nothing written', 'version01.rs', PUT_TEXT, 'if text.len() == 113 { lent[..text.len()].copy_from_slice(&text); }'),
+    ('down: written on 25', 'version01.rs', PUT_REFUSAL, PUT_REFUSAL.replace('return refusal', '{ if refusal == 25 && !lent.is_empty() { lent[0] = b\' \'; } return refusal; }')),
+    ('down: written on 9', 'version01.rs', PUT_ROOM, PUT_ROOM + ' if text.len() == 103 && !lent.is_empty() { lent[0] = b\' \'; }'),
+    ('down: a byte past the lent line', 'EXPORTS', '    reference::down(', '    if old_len == 103 { *old.add(103) = 7; }\n    reference::down('),
+    ('down: a byte before the lent line', 'EXPORTS', '    reference::down(', '    if old_len == 104 { *old.sub(1) = 7; }\n    reference::down('),
+    # up from version 01: lengths, CK and characters
+    ('up: 27 comment bytes taken', 'version01.rs', 'usize = 128', 'usize = 130'),
+    ('up: 26 comment bytes taken', 'version01.rs', 'usize = 128', 'usize = 129'),
+    ('up: 24 comment bytes taken', 'version01.rs', 'usize = 128', 'usize = 127'),
+    ('up: no comment taken', 'version01.rs', UP_LENGTH, 'if old.len() != OLD_BYTES {'),
+    ('up: CK not looked at', 'version01.rs', UP_CHECK, UP_CHECK.replace('!= columns', '!= columns && false')),
+    ('up: CK of 103 columns', 'version01.rs', UP_CHECK, 'if with_check(columns.to_vec())[103..] != columns[101..] {'),
+    ('up: CK of columns 2 to 101', 'version01.rs', UP_CHECK, 'if with_check(columns[1..SHARED].to_vec())[100..] != columns[101..] {'),
+    ('up: CK with the letter G', 'version01.rs', UP_CHECK, 'if with_check([b"G", &columns[1..SHARED]].concat())[101..] != columns[101..] {'),
+    ('up: CK in small letters', 'version01.rs', UP_CHECK, 'if with_check(columns[..SHARED].to_vec())[101..] != columns[101..].to_ascii_uppercase() {'),
+    ('up: CK by its first digit', 'version01.rs', UP_CHECK, 'if with_check(columns[..SHARED].to_vec())[101] != columns[101] {'),
+    ('up: column 1 not looked at', 'version01.rs', UP_CHARACTERS, 'if !characters_fit(&filled, comment) {'),
+    ('up: a G in column 1 taken', 'version01.rs', UP_CHARACTERS, UP_CHARACTERS.replace("columns[0] != b' '", "!b\" G\".contains(&columns[0])")),
+    ('up: a digit in column 1 taken', 'version01.rs', UP_CHARACTERS, UP_CHARACTERS.replace("columns[0] != b' '", "!b\" 01\".contains(&columns[0])")),
+    ('up: comment not looked at', 'version01.rs', UP_CHARACTERS, UP_CHARACTERS.replace('comment)', 'b"")')),
+    ('up: last comment byte not looked at', 'version01.rs', UP_CHARACTERS, UP_CHARACTERS.replace('comment)', '&comment[..comment.len().min(24)])')),
+    ('up: first comment byte not looked at', 'version01.rs', UP_CHARACTERS, UP_CHARACTERS.replace('comment)', '&comment[comment.len().min(1)..])')),
+    ('up: a satellite of one digit', 'version01.rs', UP_CHARACTERS, "let mut filled = filled; if filled[1] == b' ' { filled[1] = b'0'; }\n    " + UP_CHARACTERS),
+    ('up: column 101 not looked at', 'version01.rs', UP_CHARACTERS, "let mut filled = filled; filled[100] = b' ';\n    " + UP_CHARACTERS),
+    # what is supplied, labels and start
+    ('up: HC above 99 taken', 'version01.rs', UP_SUPPLIED, 'let labels = Labels { hc: 0, frc, ..labels(&filled) };'),
+    ('up: HC above 99 cut to two digits', 'version01.rs', UP_SUPPLIED, 'let hc = hc % 100;\n    ' + UP_SUPPLIED),
+    ('up: HC of 100 taken as 99', 'version01.rs', UP_SUPPLIED, 'let hc = if hc == 100 { 99 } else { hc };\n    ' + UP_SUPPLIED),
+    ('up: HC 99 refused', 'version01.rs', UP_SUPPLIED, 'if hc == 99 { return Err(7); }\n    ' + UP_SUPPLIED),
+    ('up: FRC not judged', 'version01.rs', UP_SUPPLIED, 'let labels = Labels { hc, ..labels(&filled) };'),
+    ('up: last of FRC not judged', 'version01.rs', UP_SUPPLIED, "let labels = Labels { hc, frc: [frc[0], frc[1], b'C'], ..labels(&filled) };"),
+    ('up: small letters in FRC made capital', 'version01.rs', UP_SUPPLIED, 'let frc = frc.map(|c| c.to_ascii_uppercase());\n    ' + UP_SUPPLIED),
+    ('up: 13 for a supplied FRC', 'version01.rs', UP_SUPPLIED, 'if !(%s) && hc <= 99 { return Err(13); }\n    ' % SUPPLIED_FITS + UP_SUPPLIED),
+    ('up: what is supplied before 13', 'version01.rs', UP_CHARACTERS, 'if !(%s) { return Err(7); }\n    ' % SUPPLIED_FITS + UP_CHARACTERS),
+    ('up: what is supplied before 12', 'version01.rs', UP_LENGTH, 'if !(%s) { return Err(7); }\n    ' % SUPPLIED_FITS + UP_LENGTH),
+    ('up: what is supplied after the start', 'version01.rs', UP_SUPPLIED, 'let labels = labels(&filled);', 'version01.rs', UP_TEXT,
+     'if !(%s) { return Err(7); }\n    ' % SUPPLIED_FITS + UP_TEXT),
+    ('up: IOE of E', 'version01.rs', UP_SUPPLIED, UP_SUPPLIED.replace('hc, frc', "constellation: b'E', hc, frc")),
+    ('up: IOE of C', 'version01.rs', UP_SUPPLIED, UP_SUPPLIED.replace('hc, frc', "constellation: b'C', hc, frc")),
+    ('up: labels not judged', 'version01.rs', UP_LABELS, UP_LABELS.replace('!labels.in_range()', '!(labels.mjd >= 50722 && %s)' % SUPPLIED_FITS)),
+    ('up: track length not judged', 'version01.rs', UP_LABELS, 'if !labels.in_range() {'),
+    ('up: full tracks alone', 'version01.rs', UP_LABELS, 'if !labels.in_range() || numbers(&filled).trkl != 780 {'),
+    ('up: start not judged', 'version01.rs', UP_START, 'if !starts(&filled, &labels) && false {'),
+    ('up: 24:02:00 taken', 'version01.rs', UP_START, 'if crate::start(labels.mjd, labels.start % 86400) != 0 {'),
+    ('up: 8 before 7', 'version01.rs', UP_LABELS, 'if labels.start >= 86400 { return Err(8); }\n    ' + UP_LABELS),
+    ('up: 7 before 13', 'version01.rs', UP_CHARACTERS, 'if &columns[1..3] == b"00" { return Err(7); }\n    ' + UP_CHARACTERS),
+    ('up: 13 before 14', 'version01.rs', UP_CHECK, "if columns[0] != b' ' { return Err(13); }\n    " + UP_CHECK),
+    ('up: 14 for 13', 'version01.rs', "return Err(13);", "return Err(14);"),
+    # what is written
+    ('up: FR 1', 'version01.rs', UP_BEHIND, UP_BEHIND.replace('"00 ', '"01 ')),
+    ('up: FR by the HC', 'version01.rs', UP_BEHIND, UP_BEHIND.replace('"00 ', '"{hc:02} ')),
+    ('up: HC 0 always', 'version01.rs', UP_BEHIND, UP_BEHIND.replace('{hc:02}', '00')),
+    ('up: HC in hexadecimal', 'version01.rs', UP_BEHIND, UP_BEHIND.replace('{hc:02}', '{hc:02X}')),
+    ('up: HC filled with a blank', 'version01.rs', UP_BEHIND, UP_BEHIND.replace('{hc:02}', '{hc:2}')),
+    ('up: FRC backwards', 'version01.rs', UP_BEHIND, UP_BEHIND.replace('&frc', '&[frc[2], frc[1], frc[0]]')),
+    ('up: L1C always', 'version01.rs', UP_BEHIND, UP_BEHIND.replace('&frc', 'b"L1C"')),
+    ('up: letter E', 'version01.rs', UP_TEXT, UP_TEXT.replace('b"G"', 'b"E"')),
+    ('up: column 1 kept', 'version01.rs', UP_TEXT, UP_TEXT.replace('b"G"', 'b" "')),
+    ('up: CK as it stood', 'version01.rs', UP_TEXT, 'Ok([b"G", shared, %s.concat())' % UP_BEHIND.replace('b" "]', 'b" ", &columns[101..]]')),
+    ('up: comment kept', 'version01.rs', UP_TEXT, 'let mut line = with_check([b"G", shared, %s.concat()); line.extend(comment); Ok(line)' % UP_BEHIND),
+    ('up: comment kept where there is room', 'version01.rs', GO_UP, '    let answer = put(raised(old, hc, frc), lent);\n'
+     '    if answer == 0 && old.len() > 103 && lent.len() >= 10 + old.len() { lent[113..10 + old.len()].copy_from_slice(&old[103..]); }\n    answer'),
+    ('up: 9 before 8', 'version01.rs', GO_UP, '    if lent.len() < 113 && raised(old, hc, frc) == Err(8) { return 9; }\n' + GO_UP),
+    ('up: 9 before 7', 'version01.rs', GO_UP, '    if lent.len() < 113 && raised(old, hc, frc) == Err(7) { return 9; }\n' + GO_UP),
+    ('up: 9 first', 'version01.rs', GO_UP, '    if lent.len() < 113 { return 9; }\n' + GO_UP),
+    ('up: room of 103 enough', 'version01.rs', PUT_ROOM, 'if (103..113).contains(&lent.len()) { let n = lent.len(); lent.copy_from_slice(&text[..n]); return 0; }\n    ' + PUT_ROOM),
+    ('up: 9 at 113', 'version01.rs', PUT_ROOM, 'if lent.len() < text.len() + text.len() / 113 {'),
+    ('up: a 114th byte', 'version01.rs', PUT_TEXT, PUT_TEXT + ' if text.len() == 113 && lent.len() > 113 { lent[113] = 0; }'),
+    ('up: the rest cleared', 'version01.rs', PUT_TEXT, PUT_TEXT + ' if text.len() == 113 { lent[113..].fill(b\' \'); }'),
+    ('up: nothing written', 'version01.rs', PUT_TEXT, 'if text.len() == 103 { lent[..text.len()].copy_from_slice(&text); }'),
+    ('up: written on a refusal', 'version01.rs', GO_UP, "    if raised(old, hc, frc).is_err() && !lent.is_empty() { lent[0] = b'G'; }\n" + GO_UP),
+    ('up: written on 9', 'version01.rs', PUT_ROOM, PUT_ROOM + " if text.len() == 113 && !lent.is_empty() { lent[0] = b'G'; }"),
+    ('up: a byte past the lent line', 'EXPORTS', '    reference::up(', '    if line_len == 113 { *line.add(113) = 7; }\n    reference::up('),
+    ('up: a byte before the lent line', 'EXPORTS', '    reference::up(', '    if line_len == 114 { *line.sub(1) = 7; }\n    reference::up('),
+    ('up: characters of FRC exchanged in the call', 'EXPORTS', '[frc1, frc2, frc3], lent(line', '[frc1, frc3, frc2], lent(line'),
 ]
 # the same, put into both
 TWINS = [
@@ -921,6 +1056,26 @@ TWINS = [
     ('a length of minus zero, twice', 'path.rs', ROOT, 'Ok(if sum == 0 { -0.0 } else { root(sum) as f64 })'),
     ('23 and 24 exchanged, twice', 'path.rs', 'ok_or(23u32)', 'ok_or(24u32)', 'path.rs', 'return Err(24);', 'return Err(23);'),
     ('subnormal floats taken for 0, twice', 'path.rs', SUBNORMAL, '0 => (0, -1074),'),
+    # the columns of either form, and which fault decides, are known
+    ('down: letter kept, twice', 'version01.rs', DOWN_TEXT, DOWN_TEXT.replace('b" ", &line[1..', '&line[..1], &line[1..')),
+    ('down: R goes down, twice', 'version01.rs', DOWN_LETTER, "if labels.constellation != b'G' && labels.constellation != b'R' {"),
+    ('down: CK of 103 columns, twice', 'version01.rs', DOWN_TEXT, 'let mut old = with_check([b" ", &line[1..103]].concat()); old.drain(101..103); Ok(old)'),
+    ('down: 9 before 25, twice', 'version01.rs', GO_DOWN, '    if lent.len() < 103 && lowered(line) == Err(25) { return 9; }\n' + GO_DOWN),
+    ('down: 25 before 8, twice', 'version01.rs', DOWN_READ,
+     "let (labels, _) = match read(line) { Err(8) if line[0] != b'G' => return Err(25), other => other? };"),
+    ('up: 27 comment bytes taken, twice', 'version01.rs', 'usize = 128', 'usize = 130'),
+    ('up: comment not looked at, twice', 'version01.rs', UP_CHARACTERS, UP_CHARACTERS.replace('comment)', 'b"")')),
+    ('up: column 1 not looked at, twice', 'version01.rs', UP_CHARACTERS, 'if !characters_fit(&filled, comment) {'),
+    ('up: CK of 103 columns, twice', 'version01.rs', UP_CHECK, 'if with_check(columns.to_vec())[103..] != columns[101..] {'),
+    ('up: HC above 99 cut to two digits, twice', 'version01.rs', UP_SUPPLIED, 'let hc = hc % 100;\n    ' + UP_SUPPLIED),
+    ('up: FRC not judged, twice', 'version01.rs', UP_SUPPLIED, 'let labels = Labels { hc, ..labels(&filled) };'),
+    ('up: 13 for a supplied FRC, twice', 'version01.rs', UP_SUPPLIED, 'if !(%s) && hc <= 99 { return Err(13); }\n    ' % SUPPLIED_FITS + UP_SUPPLIED),
+    ('up: what is supplied after the start, twice', 'version01.rs', UP_SUPPLIED, 'let labels = labels(&filled);', 'version01.rs', UP_TEXT,
+     'if !(%s) { return Err(7); }\n    ' % SUPPLIED_FITS + UP_TEXT),
+    ('up: IOE of E, twice', 'version01.rs', UP_SUPPLIED, UP_SUPPLIED.replace('hc, frc', "constellation: b'E', hc, frc")),
+    ('up: track length not judged, twice', 'version01.rs', UP_LABELS, 'if !labels.in_range() {'),
+    ('up: FR 1, twice', 'version01.rs', UP_BEHIND, UP_BEHIND.replace('"00 ', '"01 ')),
+    ('up: 9 before 8, twice', 'version01.rs', GO_UP, '    if lent.len() < 113 && raised(old, hc, frc) == Err(8) { return 9; }\n' + GO_UP),
 ]
 
 

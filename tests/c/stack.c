@@ -55,6 +55,19 @@ static uint32_t call_comment(void)
     return trackline_comment(commented, sizeof commented - 1) != TRACKLINE_LINE_BYTES;
 }
 
+static uint32_t call_down(void)
+{
+    static uint8_t old[TRACKLINE_OLD_BYTES];
+    return trackline_down(commented, sizeof commented - 1, old, sizeof old);
+}
+
+static uint32_t call_up(void)
+{
+    static const uint8_t old[] = " 05 FF 50722 000200 0780 450 1800 +0000000010 +00000 +0000000010 +00000 "
+                                 "0000 007 0000 +000 0000 +000 1F with a comment behind it";
+    return trackline_up(old, sizeof old - 1, 0, 'L', '1', 'C', line, sizeof line);
+}
+
 /* Two lines each, of which one is in both. */
 #define ENDED(satellite, ck)                                                                                  \
     satellite " FF 50722 000200 0780 450 1800 +0000000010 +00000 +0000000010 +00000 0000 007 0000 +000 0000 " \
@@ -119,6 +132,7 @@ static struct measured {
     {"trackline_block", call_block, 16000, 0}, {"trackline_line", call_line, 1000, 0}, {"trackline_start", call_start, 1000, 0},
     {"trackline_path", call_path, 1000, 0},
     {"trackline_read", call_read, 1000, 0}, {"trackline_comment", call_comment, 1000, 0},
+    {"trackline_down", call_down, 1000, 0}, {"trackline_up", call_up, 1000, 0},
     {"trackline_merge", call_merge, 2000, 0}, {"trackline_view", call_view, 2000, 0},
     {"trackline_delays", call_delays, 1000, 0}, {"trackline_append", call_append, 1000, 0},
     {"trackline_day", call_day, 500000, 0}, {"trackline_day of one block", call_day_of_one, 500000, 0}};

@@ -15,14 +15,14 @@ ROOT = pathlib.Path(__file__).resolve().parents[2]
 MEASURED = r'stack: (trackline_[\w ]+?) takes (at most )?(\d+) bytes, promised (\d+)\n'
 # the figures that a document gives, and the functions that each is of, in order
 DOCUMENTS = (
-    ('man/trackline.3', r'that gave ([\d,]+) bytes for trackline_block, ([\d,]+) for trackline_day, ([\d,]+) for trackline_merge, ([\d,]+) for trackline_view, '
-     r'([\d,]+) for trackline_line, ([\d,]+) for trackline_read and trackline_comment, and at most ([\d,]+) for '
+    ('man/trackline.3', r'that gave ([\d,]+) bytes for trackline_block, ([\d,]+) for trackline_day, ([\d,]+) for trackline_merge and ([\d,]+) for trackline_view\. '
+     r'It gave ([\d,]+) for trackline_line, ([\d,]+) for trackline_read, trackline_comment and trackline_down, ([\d,]+) for trackline_up, and at most ([\d,]+) for '
      r'trackline_start, trackline_path, trackline_delays and trackline_append\.',
-     (('block',), ('day', 'day of one block'), ('merge',), ('view',), ('line',), ('read', 'comment'), ('start', 'path', 'delays', 'append')), 1),
+     (('block',), ('day', 'day of one block'), ('merge',), ('view',), ('line',), ('read', 'comment', 'down'), ('up',), ('start', 'path', 'delays', 'append')), 1),
     ('docs/TRUST.md', r'`trackline_block` takes about ([\d.]+) kB', (('block',),), 1000),
     ('docs/TRUST.md', r'`trackline_day` about ([\d.]+) kB', (('day', 'day of one block'),), 1000),
 )
-PROMISED = r'takes up to ([\d,]+) bytes .+? trackline_day up to ([\d,]+), .+? trackline_merge and trackline_view up to ([\d,]+), .+? up to ([\d,]+)\.'
+PROMISED = r'takes up to ([\d,]+) bytes .+? trackline_day up to ([\d,]+), .+? trackline_merge and trackline_view up to ([\d,]+)\. Each other function takes up to ([\d,]+)\.'
 
 
 def number(text):
@@ -39,7 +39,7 @@ def main(program):
     printed = subprocess.run([program], stdout=subprocess.PIPE, text=True, cwd=ROOT)
     print(printed.stdout, end='')
     found = {name[10:]: (int(figure), int(most)) for name, _, figure, most in re.findall(MEASURED, printed.stdout)}
-    if len(found) != 12 or printed.returncode:
+    if len(found) != 14 or printed.returncode:
         print('stack: FAILED: the stack was not measured, or is above what is promised', file=sys.stderr)
         return 1
     faults = []

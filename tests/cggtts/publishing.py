@@ -68,10 +68,10 @@ def limits_of(name, letter):
     return {'IOE': IOE[letter], 'FR': (1, 24) if letter == 'R' else (0, 0)}.get(name) or LIMITS.get(name, (-9999, 999999))
 
 
-def values_in(line, codes):
+def values_in(line, codes, fields=FIELDS):
     """The values of a line's fields by their names, or None where one can't be had."""
     found = {}
-    for name, first, last in FIELDS:
+    for name, first, last in fields:
         text = line[first - 1:last]
         if name == 'CL':
             found[name] = int(text, 16) if re.fullmatch('[ 0-9A-Fa-f][0-9A-Fa-f]', text) else None
@@ -106,11 +106,28 @@ def ours(letter, found):
 BEGINS = re.compile(r'[A-Za-z0-9 ][A-Za-z0-9 ][0-9] [A-Za-z0-9 ][0-9A-Fa-f] [0-9]{5}')
 
 
-def taken(line, codes=None):
+def check_fits(line, columns):
+    """Whether the two digits behind so many columns are their sum."""
+    check = line[columns:columns + 2]
+    return re.fullmatch('[0-9A-Fa-f]{2}', check) is not None and int(check, 16) == sum(line[:columns].encode('latin-1')) % 256
+
+
+def taken_up(line, supplied):
+    """The same of a line of version 01, with this HC and FRC."""
+    line = line[:103] + line[103:].rstrip(' ')
+    found = values_in(line, {}, FIELDS[:17]) if len(line) <= 128 and not BEGINS.search(line[103:]) else None
+    if not found:
+        return None
+    found.update(FR=0, HC=supplied[0], FRC=supplied[1])
+    return ours('G', found) if in_limits('G', found) else None
+
+
+def taken(line, codes=None, supplied=None):
     """The line of ours that a published line, without its line end, is taken for, or None."""
+    if line[:1] == ' ' and check_fits(line, 101) and not any(check_fits(line, columns) for columns in (111, 115, 125)):
+        return taken_up(line, supplied) if supplied else None
     line = line[:113] + line[113:].rstrip(' ')
-    check = line[111:113]
-    if not re.fullmatch('[0-9A-Fa-f]{2}', check) or int(check, 16) != sum(line[:111].encode('latin-1')) % 256:
+    if not check_fits(line, 111):
         return None
     if line[0] not in 'GRECJ' or len(line) > 140 or BEGINS.search(line[113:]):
         return None

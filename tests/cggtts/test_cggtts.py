@@ -42,13 +42,14 @@ MEANINGS = {1: "the block's two sizes are not 15 n and n, n from 4 to 52",
             7: 'a label is out of its range, or the track length is not 15 n, n from 4 to 52',
             8: 'no track of that day starts at that second',
             11: 'the block is under 4 bytes or not as long as its sizes make it',
-            12: "the line is not 113 to 140 bytes long, or a file's last line is under 115",
+            12: "the line is not 113 to 140 bytes long (version 01: 103 to 128), or a file's last line is under 115",
             13: 'a character is not allowed in its column or line end',
             14: 'CK is not the two capital digits of the sum of the columns before it',
             15: 'two lines have the same MJD, start, letter and satellite, and differ',
             16: 'the lines do not ascend by MJD, start, letter and satellite',
             18: 'no two lines, one of each file, have the same MJD, start, letter, satellite and TRKL',
-            19: 'a file is longer than 1150000 bytes, which are 10000 lines'}
+            19: 'a file is longer than 1150000 bytes, which are 10000 lines',
+            25: "the line's letter is not G, and version 01 has GPS alone"}
 # each column in 10^10 ps where it makes A and B largest
 TOPS = {'geometry': -20, 'relativity': 1, 'ionosphere': -1, 'troposphere': -1, 'clock': 1}
 OWN = ' (worked out by cggtts, not by the library)'
@@ -236,7 +237,7 @@ class LineToFile(Scratch):
         path, link = self.kept('a.blk', block()), self.folder / 'link'
         link.symlink_to('a.blk')
         for out in (path, link):
-            told = 'cggtts: line: %s is read, and would be overwritten; try cggtts --help\n' % out
+            told = 'cggtts: line: %s is read, and would be overwritten: name another file; try cggtts --help\n' % out
             self.assertEqual(run('line', '-o', out, path), (2, b'', told))
             self.assertEqual(run('line', SAMPLE, path, '-o', out), (2, b'', told))
             with path.open('rb') as read:

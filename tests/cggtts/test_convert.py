@@ -15,7 +15,8 @@ from test_cggtts import MEANINGS, PROGRAM, ROOT, Scratch, run
 from test_merge import A, B, D, E, F, LINES, NO_HEADER, advised, by_keys, ended
 
 SUMMARY = re.compile(r'cggtts: read (\d+) lines?: (\d+) header, (\d+) empty, (\d+) data(?:, CKSUM wrong or missing in (\d+) headers?)?; (.*); '
-                     r'of the data lines (\d+) with other fills, (\d+) with a comment, (\d+) with another FRC put in')
+                     r'of the data lines (\d+) with other fills, (\d+) with a comment, (\d+) with another FRC put in'
+                     r'(?:, (\d+) of version 01 with HC and FRC put in)?')
 WRITTEN = re.compile(r'(\d+) written, (\d+) equal to a written one, (\d+) left out')
 # SAT to SMDI, FR, HC and FRC of a line
 VALUES = (5, 'FF', 57000, 600, 780, 494, 2568, -103408, 28, -35, 7, 8, 38, 106, -11, 57, -9, 0, 0, 'L1C')
@@ -38,9 +39,9 @@ def counts(errors):
     """The numbers of the closing sentence by their names; what is written is missing where nothing is."""
     rows = [SUMMARY.fullmatch(row) for row in errors.splitlines()]
     match, = [row for row in rows if row]
-    read, head, empty, data, wrong, end, fills, comments, codes = match.groups()
+    read, head, empty, data, wrong, end, fills, comments, codes, old = match.groups()
     found = {'read': int(read), 'header': int(head), 'empty': int(empty), 'data': int(data), 'wrong': int(wrong or 0),
-             'fills': int(fills), 'comments': int(comments), 'codes': int(codes)}
+             'fills': int(fills), 'comments': int(comments), 'codes': int(codes), 'old': int(old or 0)}
     written = WRITTEN.fullmatch(end)
     if written:
         found.update(zip(('written', 'equal', 'left'), map(int, written.groups())))
@@ -68,7 +69,7 @@ class Converted(Scratch):
         status, output, errors = run('convert', '-', *options, data=data)
         self.assertEqual((status, output, named(errors)), (0, lines, []))
         found, _ = counts(errors)
-        zero = dict.fromkeys(('header', 'empty', 'wrong', 'fills', 'comments', 'codes', 'equal', 'left'), 0)
+        zero = dict.fromkeys(('header', 'empty', 'wrong', 'fills', 'comments', 'codes', 'old', 'equal', 'left'), 0)
         self.assertEqual(found, {**zero, 'read': found['read'], 'data': found['data'], 'written': lines.count(b'\n'), **wanted})
         self.assertEqual(found['read'], found['header'] + found['empty'] + found['data'])
         self.assertEqual(found['data'], found['written'] + found['equal'] + found['left'])
@@ -210,19 +211,8 @@ class Named(Scratch):
             self.told(102, 'a line of two frequencies (MSIO, SMSI, ISG), which has columns that ours has not', with_check(columns) + ' noted')
             self.told(126, 'a line of two frequencies (MSIO, SMSI, ISG), whose CK is not right either', columns + '??')
 
-    def test_version_01(self):
-        """The lines that document 003 prints, whose printed CK are right for their columns; and older ones of 02."""
-        reason = 'a line of version 01, which has no letter, FR, HC and FRC'
-        rows = {name: row for name, row in published().items() if name.startswith('003.')}
-        self.assertGreater(len(rows), 20)
-        for row in rows.values():
-            satellite, *texts, _, _, _, check = row
-            columns = columns_of(' ', [satellite, *texts])[:101]
-            self.assertEqual('%02X' % (sum(columns.encode()) % 256), check.replace('O', '0'))
-            if 'O' not in check:
-                self.assertEqual(self.reason_of(columns + check + 'noted'), reason)
-        self.told(1, reason, with_check(columns))
-        self.told(1, reason, with_check(columns + ' 480  -37  18 ') + 'hello')
+    def test_version_02(self):
+        """Older ones of 02; those of version 01 have a test of their own."""
         for letter in ' 1':
             self.told(1, 'a line of version 02, which has no letter of a constellation', self.changed(1, letter))
 
@@ -392,8 +382,13 @@ class Named(Scratch):
 
 class Use(Scratch):
     def test_wrong_use(self):
-        form = "'%s' is not OLD=NEW, three characters each, those of NEW A to Z or 0 to 9"
-        for arguments, reason in (((), 'no file'), (('-o', 'x'), 'no file'), (('a', '--frc'), '--frc without OLD=NEW'),
+        form = "'%s' is neither OLD=NEW nor XYZ, three characters each, those of NEW and XYZ A to Z or 0 to 9"
+        for arguments, reason in (((), 'no file'), (('-o', 'x'), 'no file'), (('a', '--frc'), '--frc without OLD=NEW or XYZ'),
+                                  (('a', '--frc', 'l1c'), form % 'l1c'), (('a', '--frc', 'L1'), form % 'L1'),
+                                  (('a', '--frc', 'L1C', '--frc=L1P'), '--frc XYZ twice'), (('a', '--hc'), '--hc without a number'),
+                                  (('a', '--hc', '1', '--hc=1'), '--hc twice'), (('a', '--hc', '100'), "'100' is no HC, which is 0 to 99"),
+                                  (('a', '--hc', '-1'), "'-1' is no HC, which is 0 to 99"), (('a', '--hc='), "'' is no HC, which is 0 to 99"),
+                                  (('a', '--hc', '1x'), "'1x' is no HC, which is 0 to 99"),
                                   (('a', '--frc', 'E1=E1C'), form % 'E1=E1C'), (('a', '--frc', ' E1=e1c'), form % ' E1=e1c'),
                                   (('a', '--frc', ' E1-E1C'), form % ' E1-E1C'), (('a', '--frc', ' E1=E1CC'), form % ' E1=E1CC'),
                                   (('a', '--frc= E1=E1C', '--frc= E1=E1D'), "--frc twice for ' E1'"),
@@ -403,12 +398,12 @@ class Use(Scratch):
         for command in ('line', 'read', 'merge', 'view'):
             for option in ('--skip', '--frc'):
                 self.assertEqual(run(command, 'a', option), (2, b'', "cggtts: %s: no option '%s'; try cggtts --help\n" % (command, option)))
-        self.assertIn(b'cggtts convert FILE.. [-o LINES] [--skip] [--frc OLD=NEW]..', run('convert', '--help')[1])
+        self.assertIn(b'cggtts convert FILE.. [-o LINES] [--skip] [--frc OLD=NEW].. [--hc N --frc XYZ]', run('convert', '--help')[1])
 
     def test_what_is_read_is_not_written_to(self):
         """Header and comments would be lost with the original."""
         path = self.kept('file', A)
-        self.assertEqual(run('convert', path, '-o', path), (2, b'', 'cggtts: convert: %s is read, and would be overwritten; try cggtts --help\n' % path))
+        self.assertEqual(run('convert', path, '-o', path), (2, b'', 'cggtts: convert: %s is read, and would be overwritten: name another file; try cggtts --help\n' % path))
         with path.open('ab') as behind:
             self.assertEqual(run('convert', path, stdout=behind), (2, None, 'cggtts: %s: is also standard output\n' % path))
         self.assertEqual(path.read_bytes(), A)
@@ -469,9 +464,11 @@ class Read(Scratch):
 class Generated(Scratch):
     """Ten thousand files with all kinds of damage: every data line is written or named, and the counts add up."""
 
-    FILES, RUNS, CODES = 100, 100, {' E1': 'E1C', 'B1i': 'B1I'}
-    KEYS = [(mjd, minute, letter, satellite) for mjd in (57000, 57001) for minute in sorted((2 + 16 * i - 4 * (mjd - 50722)) % 1436 for i in range(89))
-            for letter in 'CEGJR' for satellite in (1, 5, 10, 23, 99)]
+    FILES, RUNS, CODES, SUPPLIED = 100, 100, {' E1': 'E1C', 'B1i': 'B1I'}, (7, 'L1P')
+    # no two letters have a satellite in common, as lines of version 01 have no letter
+    KEYS = [(mjd, minute, letter, satellite + place) for mjd in (57000, 57001)
+            for minute in sorted((2 + 16 * i - 4 * (mjd - 50722)) % 1436 for i in range(89))
+            for place, letter in enumerate('CEGJR') for satellite in (1, 6, 11, 40, 95)]
 
     def line(self, pick, key):
         """A data line of these keys, with fills, values and a code by chance."""
@@ -494,9 +491,19 @@ class Generated(Scratch):
             lambda: line[:place], lambda: line[place:], lambda: line[:place] + other + line[place + 1:], lambda: line[:place] + line[place + 1:],
             lambda: line[:place] + other + line[place:], lambda: with_check((line[:place] + other + line[place + 1:])[:111]),
             lambda: with_check(line[:81] + '9999' + line[85:111]), lambda: line[:111] + line[111:].lower(), lambda: ' ' + line,
-            lambda: with_check(line[:111] + ' ' * 14), lambda: with_check(' ' + line[1:101]), lambda: line.replace(' ', '\t'),
+            lambda: with_check(line[:111] + ' ' * 14), lambda: self.old(pick, line), lambda: self.old(pick, line), lambda: line.replace(' ', '\t'),
             lambda: with_check(line[:34] + line[34:111].replace('0', ' ', 1)), lambda: with_check(line[:111].replace('+', ' ')),
             lambda: line[:40] + line[41] + line[40] + line[42:]))()
+
+    def old(self, pick, line):
+        """The line in the form of version 01, which may have a fault or a comment."""
+        columns = ' ' + line[1:101]
+        place = pick.randrange(1, len(columns))
+        return pick.choice((
+            lambda: with_check(columns), lambda: with_check(columns) + pick.choice((' noted', 'x' * 25, 'x' * 26, ' ' * 30, '\xe9')),
+            lambda: with_check(columns).lower(), lambda: with_check('1' + columns[1:]), lambda: with_check(columns + ' 480  -37  18 '),
+            lambda: with_check(columns[:place] + pick.choice(' 0+-9A\t') + columns[place + 1:]), lambda: with_check(columns)[:-1],
+            lambda: columns + '??', lambda: with_check(columns) + with_check(columns)))()
 
     def header_lines(self, pick):
         """A header, which may be right, or cut, or lack a line, or have one too many, or none."""
@@ -525,7 +532,7 @@ class Generated(Scratch):
     def expected(self, text):
         """The lines of ours that stand in a file, each with its number, by the reader of these tests."""
         lines = text.removeprefix(b'\xef\xbb\xbf').decode('latin-1').split('\n')
-        found = ((number, taken(line.removesuffix('\r'), self.CODES)) for number, line in enumerate(lines, 1))
+        found = ((number, taken(line.removesuffix('\r'), self.CODES, self.SUPPLIED)) for number, line in enumerate(lines, 1))
         return {number: line for number, line in found if line}
 
     def check(self, files, status, output, errors):
@@ -552,7 +559,7 @@ class Generated(Scratch):
 
     def test_ten_thousand_files(self):
         pick, sums = random.Random(26), {}
-        options = ['--skip', *('--frc=%s=%s' % pair for pair in self.CODES.items())]
+        options = ['--skip', '--hc=%d' % self.SUPPLIED[0], '--frc', self.SUPPLIED[1], *('--frc=%s=%s' % pair for pair in self.CODES.items())]
         for _ in range(self.RUNS):
             keys = iter(pick.sample(self.KEYS, 5 * self.FILES))
             files = {}

@@ -313,7 +313,7 @@ class WrongUse(Scratch):
         for words, said in ((['day'], 'cggtts: day: no file; try cggtts --help\n'),
                             (['day', path, '--pairs'], "cggtts: day: no option '--pairs'; try cggtts --help\n"),
                             (['line', path, '--sort'], "cggtts: line: no option '--sort'; try cggtts --help\n"),
-                            (['day', path, '-o', path], 'cggtts: day: %s is read, and would be overwritten; try cggtts --help\n' % path),
+                            (['day', path, '-o', path], 'cggtts: day: %s is read, and would be overwritten: name another file; try cggtts --help\n' % path),
                             (['day', 'no/such.blk', path], 'cggtts: no/such.blk: No such file or directory\n')):
             self.assertEqual(run(*words), (2, b'', said))
         self.assertEqual((self.folder / 'day').read_bytes(), A)

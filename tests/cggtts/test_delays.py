@@ -357,7 +357,7 @@ version 1
     def test_wrong_use(self):
         text = self.kept('text', b'60000 1 2 3 4\n')
         for words, reason in (((), 'no file'), ((text,), 'no -o and the store to be written'), ((text, text), "'%s' is one word too many" % text),
-                              ((text, '-o', text), '%s is read, and would be overwritten' % text), ((text, '--hide'), "no option '--hide'")):
+                              ((text, '-o', text), '%s is read, and would be overwritten: name another file' % text), ((text, '--hide'), "no option '--hide'")):
             self.assertEqual(run('store', *words), (2, b'', 'cggtts: store: %s; try cggtts --help\n' % reason))
         self.assertEqual(text.read_bytes(), b'60000 1 2 3 4\n')
 

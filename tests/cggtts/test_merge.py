@@ -311,8 +311,10 @@ class Refused(Scratch):
             self.refused(12, 'first:1', head, b'', advice=NO_HEADER)
         self.refused(14, 'second:1', A, b'SAT CL  MJD  STTIME TRKL\r\n' + A + B, advice=NO_HEADER)
         self.refused(12, 'first:1', b'SA', b'', 'it has 2 bytes, and a line of a file has 115 with its line end')
-        for head in (b'CGGTTS     GENERIC DATA FORMAT VERSION = 2E\r\nREV DATE = 2014-02-20\r\n', b'GGTTS GPS DATA FORMAT VERSION = 01\r\n'):
-            self.refused(14, 'first:1', head + A + B, b'', advice=NO_HEADER)
+        self.refused(14, 'first:1', b'CGGTTS     GENERIC DATA FORMAT VERSION = 2E\r\nREV DATE = 2014-02-20\r\n' + A + B, b'', advice=NO_HEADER)
+        self.refused(14, 'first:1', b'GGTTS GPS DATA FORMAT VERSION = 01\r\n' + A + B, b'',
+                     'the file begins with a header of version 01, and a line file has data lines of ours alone; this makes a line file of it:',
+                     '  cggtts convert %s --hc N --frc XYZ -o LINES' % (self.folder / 'first'))
 
     def test_line_feeds_alone(self):
         self.refused(13, 'first:1', (A + B).replace(b'\r', b''), b'',

@@ -438,12 +438,12 @@ class ToFile(Scratch):
         (one, other), link = self.roof(), self.folder / 'link'
         link.symlink_to('one')
         for picture in (one, other, link):
-            told = 'cggtts: view: %s is read, and would be overwritten; try cggtts --help\n' % picture
+            told = 'cggtts: view: %s is read, and would be overwritten: name another file; try cggtts --help\n' % picture
             self.assertEqual(run('view', one, other, '--svg', picture), (2, b'', told))
         with one.open('rb') as read:
             done = subprocess.run([PROGRAM, 'view', '-', other, '--svg', one], stdin=read, capture_output=True, check=False)
         self.assertEqual((done.returncode, done.stdout), (2, b''))
-        self.assertEqual(done.stderr.decode(), 'cggtts: view: %s is read, and would be overwritten; try cggtts --help\n' % one)
+        self.assertEqual(done.stderr.decode(), 'cggtts: view: %s is read, and would be overwritten: name another file; try cggtts --help\n' % one)
         self.assertEqual([one.read_bytes(), other.read_bytes()], ROOF)
 
     def test_standard_output(self):

@@ -348,7 +348,8 @@ class Kinds(Scratch):
     BLOCK = "it is a hire block, which 'cggtts check' and 'cggtts line' take"
     LINES = "it has data lines, which 'cggtts read' takes, and is no hire block"
     MEASURED = 'it has a measured ionosphere (MSIO, SMSI, ISG), as lines of two frequencies have: such lines are not taken'
-    OLD = 'it is a line of version 01, which has no letter, FR, HC and FRC: such lines are not taken'
+    OLD = "it is a line of version 01, which has no letter, FR, HC and FRC: 'cggtts convert FILE --hc N --frc XYZ' takes such lines"
+    OLD_MEASURED = 'it is a line of version 01 with a measured ionosphere (MSIO, SMSI, ISG): such lines are not taken'
 
     def test_given_as_a_block(self):
         for data, told in ((ROOF[0], self.LINES), (ROOF[0].replace(b'\r', b''), self.LINES), (gzip.compress(WORKED_BLOCK), self.PACKED),
@@ -375,7 +376,7 @@ class Kinds(Scratch):
 
     def test_lines_of_other_forms(self):
         self.assertEqual([len(checked(text)) for text in (TWO_FREQUENCIES, *VERSION_01.values())], [127, 103, 117])
-        for text, told in ((TWO_FREQUENCIES, self.MEASURED), *((text, self.OLD) for text in VERSION_01.values())):
+        for text, told in ((TWO_FREQUENCIES, self.MEASURED), (VERSION_01['without'], self.OLD), (VERSION_01['measured'], self.OLD_MEASURED)):
             for end in (b'\n', b'\r\n', b' a remark\n'):
                 lines = (checked(text) + end) * 3
                 path = self.kept('a', lines)

@@ -17,7 +17,7 @@
 #include "trackline.h"
 
 enum { LEAST_BLOCKS = 4, MOST_BLOCKS = 52, LONGEST_BLOCK = 16384, LONGEST_LINE = 4096, EDITS = 64 };
-enum { COLUMNS = 113, LONGEST_READ = 200, VALUES = 23, REPORT = 4, MOST_VALUES = 512 };
+enum { COLUMNS = 113, OLD_COLUMNS = 103, LONGEST_READ = 200, VALUES = 23, REPORT = 4, MOST_VALUES = 512 };
 enum { INT_AT = 26, MEASUREMENTS_AT = 58 };
 
 /* What trackline_line is given; the numbers in their fixed order. */
@@ -42,6 +42,8 @@ uint32_t reference_delays(const uint8_t *store, size_t store_len, uint32_t mjd, 
 uint32_t reference_append(const uint8_t *store, size_t store_len, uint32_t mjd, const int64_t *set, uint8_t *longer,
                           size_t longer_len, size_t *written);
 uint32_t reference_day(const uint8_t *blocks, size_t blocks_len, uint8_t *file, size_t file_len, size_t *written, size_t *block);
+uint32_t reference_down(const uint8_t *line, size_t line_len, uint8_t *old, size_t old_len);
+uint32_t reference_up(const uint8_t *old, size_t old_len, uint8_t hc, const uint8_t *frc, uint8_t *line, size_t line_len);
 int LLVMFuzzerInitialize(int *argc, char ***argv);
 int LLVMFuzzerTestOneInput(const uint8_t *data, size_t size);
 
@@ -131,11 +133,11 @@ static size_t offset(const struct guarded *g, size_t length, int front)
 
 /* ---- what was reached ---- */
 
-enum function { BLOCK, LINE, START, READ, MERGE, VIEW, DELAYS, APPEND, DAY, PATH, FUNCTIONS };
-enum { ANSWERS = 25 };
+enum function { BLOCK, LINE, START, READ, MERGE, VIEW, DELAYS, APPEND, DAY, PATH, DOWN, UP, FUNCTIONS };
+enum { ANSWERS = 26 };
 static const char *const NAMES[FUNCTIONS] = {"trackline_block", "trackline_line", "trackline_start", "trackline_read",
                                              "trackline_merge", "trackline_view", "trackline_delays", "trackline_append",
-                                             "trackline_day", "trackline_path"};
+                                             "trackline_day", "trackline_path", "trackline_down", "trackline_up"};
 static uint64_t reached[FUNCTIONS][ANSWERS];
 
 static void report(void)
@@ -169,10 +171,10 @@ struct lines {
     size_t length;
 };
 
-/* A lent line of some length, with the same bytes for both. */
-static struct lines lend(struct bytes *b)
+/* A lent line of some length, most often as much as is enough, with the same bytes for both. */
+static struct lines lend_about(size_t enough, struct bytes *b)
 {
-    static const size_t lengths[] = {113, 113, 113, 114, 112, 0, LONGEST_LINE};
+    const size_t lengths[] = {enough, enough, enough, enough + 1, enough - 1, 0, LONGEST_LINE};
     size_t kind = take(b, 1);
     size_t which = kind % 8;
     size_t length = which < 7 ? lengths[which] : take(b, 1);
@@ -185,6 +187,11 @@ static struct lines lend(struct bytes *b)
         l.got = NULL;
     }
     return l;
+}
+
+static struct lines lend(struct bytes *b)
+{
+    return lend_about(COLUMNS, b);
 }
 
 static void settle(struct lines l)
@@ -547,15 +554,21 @@ static void call_read(const uint8_t *line, size_t length, struct bytes *b)
     }
 }
 
-static void repair(uint8_t *line)
+/* Puts CK right, the last two of so many columns. */
+static void repair_last(uint8_t *line, size_t columns)
 {
     static const char digits[] = "0123456789ABCDEF";
     uint8_t sum = 0;
-    for (size_t i = 0; i < COLUMNS - 2; i++) {
+    for (size_t i = 0; i < columns - 2; i++) {
         sum = (uint8_t)(sum + line[i]);
     }
-    line[COLUMNS - 2] = (uint8_t)digits[sum >> 4];
-    line[COLUMNS - 1] = (uint8_t)digits[sum & 15];
+    line[columns - 2] = (uint8_t)digits[sum >> 4];
+    line[columns - 1] = (uint8_t)digits[sum & 15];
+}
+
+static void repair(uint8_t *line)
+{
+    repair_last(line, COLUMNS);
 }
 
 /* A line that the plain Rust implementation writes. */
@@ -573,7 +586,7 @@ static void written(uint8_t *line, struct bytes *b)
 }
 
 /* A start of the line's day by the clock, or by one that shows a minute from 60, a second of 60 or an hour from 24. */
-static void set_clock(uint8_t *line, struct bytes *b)
+static void set_clock(uint8_t *line, size_t columns, struct bytes *b)
 {
     char clock[32];
     uint32_t mjd = 0;
@@ -594,11 +607,11 @@ static void set_clock(uint8_t *line, struct bytes *b)
     hour += kind & 4 ? 24 : 0;
     snprintf(clock, sizeof clock, "%02u%02u%02u", hour, minute, second);
     memcpy(line + 13, clock, 6);
-    repair(line);
+    repair_last(line, columns);
 }
 
-/* One change to a line; gives its length. */
-static size_t edit_line(uint8_t *line, size_t length, struct bytes *b)
+/* One change to a line of so many columns; gives its length. */
+static size_t edit_line(uint8_t *line, size_t columns, size_t length, struct bytes *b)
 {
     static const char texts[][8] = {"00", "240000", "006200", "000160", "0045", "0060", "0790", "0795", "-000",
                                     "-00000", " 0", "a", "+", "-"};
@@ -607,12 +620,12 @@ static size_t edit_line(uint8_t *line, size_t length, struct bytes *b)
     switch (take(b, 1) % 8) {
     case 0: line[at] = (uint8_t)take(b, 1); break;
     case 1: line[at] = (uint8_t)"0123456789"[below(b, 10)]; break;
-    case 2: memcpy(line + at % (COLUMNS - 8), text, strlen(text)); break;
-    case 3: line[COLUMNS - 2 + at % 2] |= 0x20; break;
-    case 4: length = COLUMNS + at % 32; break;
+    case 2: memcpy(line + at % (columns - 8), text, strlen(text)); break;
+    case 3: line[columns - 2 + at % 2] |= 0x20; break;
+    case 4: length = columns + at % 32; break;
     case 5: length = at; break;
-    case 6: set_clock(line, b); break;
-    default: repair(line);
+    case 6: set_clock(line, columns, b); break;
+    default: repair_last(line, columns);
     }
     return length;
 }
@@ -626,7 +639,7 @@ static void edited_line(struct bytes *b)
     written(line, b);
     size_t length = COLUMNS + take(b, 1) % 28;
     for (int i = 0; i < EDITS && b->left > 0; i++) {
-        length = edit_line(line, length, b);
+        length = edit_line(line, COLUMNS, length, b);
     }
     call_read(line, length, &lent);
 }
@@ -636,6 +649,57 @@ static void raw_line(struct bytes *b)
     struct bytes lent = {b->at, b->left < 4 ? b->left : 4};
     take(b, 4);
     call_read(b->at, b->left < LONGEST_READ ? b->left : LONGEST_READ, &lent);
+}
+
+/* ---- lines of version 01 ---- */
+
+/* A character of FRC, or now and then any byte. */
+static uint8_t a_code(struct bytes *b)
+{
+    uint8_t byte = (uint8_t)take(b, 1);
+    return byte < 216 ? (uint8_t)"ABCDEFGHIJKLMNOPQRSTUVWXYZ0123456789"[byte % 36] : byte;
+}
+
+static void call_down(const uint8_t *line, size_t length, struct bytes *b)
+{
+    const uint8_t *given = give(line, length, b);
+    struct lines l = lend_about(OLD_COLUMNS, b);
+    uint32_t wanted = reference_down(line, length, l.wanted, l.length);
+    judge(DOWN, trackline_down(given, length, l.got, l.length), wanted);
+    settle(l);
+}
+
+static void call_up(const uint8_t *old, size_t length, struct bytes *b)
+{
+    const uint8_t *given = give(old, length, b);
+    struct lines l = lend(b);
+    uint8_t hc = (uint8_t)take(b, 1) % 128, frc[3] = {a_code(b), a_code(b), a_code(b)};
+    uint32_t wanted = reference_up(old, length, hc, frc, l.wanted, l.length);
+    judge(UP, trackline_up(given, length, hc, frc[0], frc[1], frc[2], l.got, l.length), wanted);
+    settle(l);
+}
+
+/* A line that is written, mostly of GPS, of either form, with some changes. */
+static void edited_way(enum function f, struct bytes *b)
+{
+    uint8_t line[LONGEST_READ];
+    size_t columns = f == DOWN ? COLUMNS : OLD_COLUMNS;
+    struct bytes asked = {b->at, b->left < 8 ? b->left : 8};
+    take(b, 8);
+    memset(line, '.', sizeof line);
+    written(line, b);
+    size_t kind = take(b, 1), length = columns + kind % 26;
+    if (f == UP) {
+        line[0] = ' ';
+        memset(line + columns, '.', sizeof line - columns);
+    } else if (kind >= 64) {
+        line[0] = 'G';
+    }
+    repair_last(line, columns);
+    for (int i = 0; i < EDITS && b->left > 0; i++) {
+        length = edit_line(line, columns, length, b);
+    }
+    (f == DOWN ? call_down : call_up)(line, length, &asked);
 }
 
 /* ---- two line files ---- */
@@ -736,8 +800,8 @@ static void edit_file(struct file *file, struct bytes *b)
     case 2: line[below(b, ENDED)] = (uint8_t)take(b, 1); break;
     case 3: line[below(b, COLUMNS - 2)] = (uint8_t)"0123456789GRECJ"[below(b, 15)]; repair(line); break;
     case 4: line[COLUMNS + below(b, 2)] = (uint8_t)take(b, 1); break;
-    case 5: set_clock(line, b); break;
-    case 6: edit_line(line, COLUMNS, b); break;
+    case 5: set_clock(line, COLUMNS, b); break;
+    case 6: edit_line(line, COLUMNS, COLUMNS, b); break;
     default: file->length = below(b, LONGEST_FILE + 1);
     }
 }
@@ -1023,7 +1087,7 @@ int LLVMFuzzerInitialize(int *argc, char ***argv)
 int LLVMFuzzerTestOneInput(const uint8_t *data, size_t size)
 {
     struct bytes b = {data, size};
-    switch (take(&b, 1) % 24) {
+    switch (take(&b, 1) % 28) {
     case 0: raw_block(&b); break;
     case 1: start(&b); break;
     case 2:
@@ -1044,6 +1108,10 @@ int LLVMFuzzerTestOneInput(const uint8_t *data, size_t size)
     case 21: edited_set(&b); break;
     case 22:
     case 23: path(&b); break;
+    case 24:
+    case 25: edited_way(DOWN, &b); break;
+    case 26:
+    case 27: edited_way(UP, &b); break;
     default: edited_block(&b);
     }
     return 0;

@@ -11,6 +11,7 @@ import importlib.util
 import pathlib
 import subprocess
 import sys
+import tempfile
 import unittest
 
 ROOT = pathlib.Path(__file__).resolve().parents[2]
@@ -285,6 +286,64 @@ class Paths(unittest.TestCase):
     def test_24(self):
         self.assertEqual(self.answer([10 * mm for mm in self.POINTS]), 24)
         self.assertEqual(self.with_word(999999999999), {24})
+
+
+class Version01(unittest.TestCase):
+    EXAMPLES = ROOT / 'examples'
+
+    def answers(self, *words, data=b''):
+        """The numbers that lines are refused with, by their lines; none where all are accepted."""
+        told = subprocess.run([CGGTTS, *words], input=data, stdout=subprocess.DEVNULL, stderr=subprocess.PIPE, check=False)
+        rows = [row.split(': ') for row in told.stderr.decode().splitlines() if ': refused ' in row]
+        self.assertEqual(told.returncode, 1 if rows else 0)
+        return {int(row[0].rsplit(':', 1)[1]): int(row[1].split()[1]) for row in rows}
+
+    def up(self, data, hc='0', frc='L1C'):
+        return self.answers('up', '-', '--hc', hc, '--frc', frc, data=data)
+
+    def down(self, data):
+        return self.answers('down', '-', data=data)
+
+    def made(self, *words, data=b''):
+        return subprocess.run([CGGTTS, *words], input=data, stdout=subprocess.PIPE, stderr=subprocess.DEVNULL, check=True).stdout
+
+    def test_25(self):
+        lines = (self.EXAMPLES / 'week.cggtts').read_bytes().splitlines(keepends=True)[:30]
+        others = [number for number, line in enumerate(lines, 1) if not line.startswith(b'G')]
+        self.assertEqual(self.answers('down', '-', data=b''.join(lines)), dict.fromkeys(others[:20], 25))
+        self.assertEqual(self.answers('down', '--gps', '-', data=b''.join(lines)), {})
+
+    def test_the_wrong_way(self):
+        ours, old = ((self.EXAMPLES / name).read_bytes() for name in ('gps.cggtts', 'gps.v01'))
+        self.assertEqual(set(self.up(ours).values()), {14})
+        self.assertEqual(set(self.answers('down', '-', data=old).values()), {12})
+        for length, way, number in ((15, self.up, 14), (16, self.up, 12), (9, self.down, 12), (10, self.down, 14)):
+            data = (ours[:113] if way == self.up else old[:103]) + b'x' * length
+            self.assertEqual(way(data), {1: number}, length)
+
+    def test_15(self):
+        """One HC for all lines does not restore those that had others: such a file is viewed with them, and not merged."""
+        lines = [line for line in (self.EXAMPLES / 'week.cggtts').read_bytes().splitlines(keepends=True) if line.startswith(b'G')]
+        ours, restored = b''.join(lines), self.made('up', '-', '--hc', '0', '--frc', 'L1C', data=self.made('down', '-', data=b''.join(lines)))
+        with tempfile.TemporaryDirectory() as folder:
+            path = pathlib.Path(folder) / 'restored'
+            path.write_bytes(restored)
+            self.assertEqual(set(self.answers('merge', '-', path, data=ours).values()), {15})
+            self.assertEqual(subprocess.run([CGGTTS, 'view', '-', path], input=ours, stdout=subprocess.DEVNULL, check=False).returncode, 0)
+
+    def test_blanks(self):
+        lines = (self.EXAMPLES / 'published.v01').read_bytes().splitlines(keepends=True)[19:]
+        self.assertEqual(set(self.up(b''.join(lines)).values()), {13})
+        self.assertEqual(self.answers('convert', '-', '--hc', '0', '--frc', 'L1C', data=b''.join(lines)), {})
+
+    def test_what_is_given(self):
+        """Out of its range it is wrong use, before any file is read."""
+        old = (self.EXAMPLES / 'gps.v01').read_bytes()
+        self.assertEqual(self.up(old, '99', 'Z0A'), {})
+        for command in ('up', 'convert'):
+            for hc, frc in (('100', 'L1C'), ('0', 'l1c')):
+                told = subprocess.run([CGGTTS, command, '-', '--hc', hc, '--frc', frc], input=old, capture_output=True, check=False)
+                self.assertEqual((told.returncode, told.stdout), (2, b''))
 
 
 class Starts(unittest.TestCase):

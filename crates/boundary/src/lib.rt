@@ -1,6 +1,6 @@
 // Every function that C calls, with numbers and slices of them, and nothing else: the start test, Line, Block, the reader, merge, common view,
-// delays by date, a day at once and Path. Each is one call, and its contract is that call's; what the reader, common view or a lookup hands back
-// goes to a lent row, a length or an index to a lent place.
+// delays by date, a day at once, Path, and lines down to version 01 and up. Each is one call, and its contract is that call's; what the reader,
+// common view or a lookup hands back goes to a lent row, a length or an index to a lent place.
 // include/trackline.h declares them; the archive is made of this crate.
 ghost use mathlib.Core.Path.{_≡_};
 ghost use Prim.Native.Nat.{suc};
@@ -18,6 +18,7 @@ ghost use Rattle.merging.specs.Merge.{mergedFile, mergeNumber, mergeAfter};
 ghost use Rattle.delays.specs.Store.{version, count, storeLength};
 ghost use Rattle.delays.specs.Append.{appendNumber, appendAfter};
 ghost use Rattle.day.specs.Day.{dayFile, dayNumber, dayBlock, dayAfter, LinesOfDay, AccurateDay};
+ghost use Rattle.version01.specs.Convert.{downAnswer, downAfter, upAnswer, upAfter};
 ghost use Rattle.boundary.specs.Values.{placeAfter, placeRefused, readAnswer, readAfter, viewAnswer, viewAfter, delaysAnswer, delaysAfter};
 ghost use Rattle.path.specs.Path.{pathNumber, lengthOf};
 use day::Written;
@@ -283,4 +284,29 @@ pub extern "C" fn trackline_path(
     };
     *length = millimetres;
     0
+}
+
+// A line in the form of version 01 goes to the first 103 bytes of the lent line.
+#[no_mangle]
+pub extern "C" fn trackline_down(line: &[u8], old: &mut [u8]) -> u32
+    ensures answer { λ r. ⌜ r ≡ downAnswer (now (line .entry)) (length (now (old .entry))) ⌝ }
+    ensures written { λ _. ⌜ now (old .exit) ≡ downAfter (now (line .entry)) (now (old .entry)) ⌝ }
+{
+    version01::down(line, old)
+}
+
+// A line of version 01 in our form, with the HC and the FRC that are supplied, goes to the first 113 bytes of the lent line.
+#[no_mangle]
+pub extern "C" fn trackline_up(
+    old: &[u8],
+    hc: u8,
+    frc1: u8,
+    frc2: u8,
+    frc3: u8,
+    line: &mut [u8],
+) -> u32
+    ensures answer { λ r. ⌜ r ≡ upAnswer hc frc1 frc2 frc3 (now (old .entry)) (length (now (line .entry))) ⌝ }
+    ensures written { λ _. ⌜ now (line .exit) ≡ upAfter hc frc1 frc2 frc3 (now (old .entry)) (now (line .entry)) ⌝ }
+{
+    version01::up(old, hc, frc1, frc2, frc3, line)
 }

@@ -1,4 +1,4 @@
--- What the characters of a line are refused for (document 02, Job 1, refusals 12, 14 and 13), in the order of the refusals.
+-- What the characters of a line are refused for (document 02, Jobs 1 and 12, refusals 12, 14 and 13), in the order of the refusals.
 -- Assumes nothing.
 use Prim.Native.Nat.{ℕ, _+_}
 use mathlib.Core.Bool.{not, _||_}

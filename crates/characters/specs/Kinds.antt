@@ -5,7 +5,7 @@ use Prim.Native.Char.{code}
 use mathlib.Core.Bool.{Bool, true, false, _&&_, _||_}
 use mathlib.Core.List.{List, [], _∷_}
 use lib.Dec.{leb, eqb}
-use lib.ListN.{take}
+use lib.ListN.{take, drop}
 use Rattle.fields.specs.Text.{bytesOf, hexDigit, checksum}
 use Rattle.labels.specs.Labels.{codeFits}
 use Rattle.columns.specs.Columns.{byteIn}
@@ -34,6 +34,13 @@ allows kind b =
 --               G05 FF 50722 000200 0780 450 1800 +0000000010 +00000 +0000000010 +00000 0000 007 0000 +000 0000 +000 00 00 L1C 26
 unfoldable pub kinds : List ℕ
 kinds = bytesOf "L99 FF 99999 999999 9999 999 9999 +9999999999 +99999 +9999999999 +99999 9999 999 9999 +999 9999 +999 99 99 ZZZ "
+
+-- The kinds of columns 2 to 101, which a version 01 line has too (document 02, Job 12), and of its columns 1 to 101: the first is blank.
+abbrev pub sharedKinds : List ℕ
+sharedKinds = take 100 (drop 1 kinds)
+
+unfoldable pub oldKinds : List ℕ
+oldKinds = code " " ∷ sharedKinds
 
 -- Each column of these kinds is there and holds what it may hold.
 unfoldable pub allowed : (kinds line : List ℕ) → Bool

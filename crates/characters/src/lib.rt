@@ -1,17 +1,21 @@
-// What the characters of a line are refused for (document 02, Job 1): its length (12), CK (14), and a character that is not allowed in its
-// column or in the comment (13). It takes any bytes. What stands in a line whose characters are accepted is read by crate reading.
+// What the characters of a line are refused for (document 02, Jobs 1 and 12): its length (12), CK (14), and a character that is not allowed
+// in its column or in the comment (13). It takes any bytes. A line is one of ours or an old one, of version 01. What stands in a line whose
+// characters are accepted is read by crate reading.
 ghost use mathlib.Core.Path.{_≡_};
-ghost use Prim.Native.Nat.{_≤_};
+ghost use Prim.Native.Nat.{_+_, _≤_};
 ghost use lib.ListN.{length};
-ghost use Rattle.columns.specs.Text.{lineLength};
-ghost use Rattle.characters.specs.Kinds.{within, letterFits, allows, kinds, allowed, printable, checked};
+ghost use Rattle.characters.specs.Kinds.{within, letterFits, allows, kinds, oldKinds, allowed, printable, checked};
 ghost use Rattle.characters.specs.Characters.{charactersNumber};
 use limits::then;
 use limits::when;
 
-const LINE_LENGTH: usize = 113;
-
+// How long a line may be with its comment.
 const LONGEST: usize = 140;
+
+const OLD_LONGEST: usize = 128;
+
+// The columns of an old line before CK.
+const OLD_COLUMNS: usize = 101;
 
 // The kinds of the columns before CK: L a constellation letter, 9 a digit, F a hexadecimal digit, + a sign, Z a character of FRC, and a
 // space for itself.
@@ -66,25 +70,44 @@ fn comment_fits(text: &[u8]) -> bool
     fit
 }
 
-// Whether CK is the checksum of the columns before it, in capital digits.
-fn checked(line: &[u8]) -> bool
-    requires { ⌜ lineLength ≤ length (now line) ⌝ }
-    ensures { λ r. ⌜ r ≡ checked 111 (now (line .entry)) ⌝ }
+// Whether CK stands behind so many columns and is their checksum, in capital digits.
+fn checked(columns: usize, line: &[u8]) -> bool
+    requires { ⌜ columns + 2 ≤ length (now line) ⌝ }
+    ensures { λ r. ⌜ r ≡ checked columns (now (line .entry)) ⌝ }
 {
-    let sum = fields::checksum(&line[..111]);
-    (line[111] == fields::hex_digit(sum / 16)) & (line[112] == fields::hex_digit(sum))
+    let sum = fields::checksum(&line[..columns]);
+    (line[columns] == fields::hex_digit(sum / 16)) & (line[columns + 1] == fields::hex_digit(sum))
 }
 
-// 12, 14 and 13, but for what the values of the fields tell.
+// 12, 14 and 13, but for what the values of the fields tell, of a line whose columns before CK are of these kinds.
+fn form_refusal(kinds: &[u8], longest: usize, line: &[u8]) -> u32
+    ensures { λ r. ⌜ r ≡ charactersNumber (length (now (kinds .entry))) longest (now (kinds .entry)) (now (line .entry)) ⌝ }
+{
+    let columns = kinds.len();
+    if (line.len() < columns + 2) | (longest < line.len()) {
+        return 12;
+    }
+    if !checked(columns, line) {
+        return 14;
+    }
+    let fit = when(13, !columns_fit(kinds, line));
+    let comment = when(13, !comment_fits(&line[columns + 2..]));
+    then(fit, comment)
+}
+
+// The same of a line of ours.
 pub fn refusal(line: &[u8]) -> u32
     ensures { λ r. ⌜ r ≡ charactersNumber 111 140 kinds (now (line .entry)) ⌝ }
 {
-    if (line.len() < LINE_LENGTH) | (LONGEST < line.len()) {
-        return 12;
-    }
-    let check = when(14, !checked(line));
     let kinds = KINDS;
-    let columns = when(13, !columns_fit(&kinds, line));
-    let comment = when(13, !comment_fits(&line[LINE_LENGTH..]));
-    then(check, then(columns, comment))
+    form_refusal(&kinds, LONGEST, line)
+}
+
+// The same of an old line, whose first column is blank.
+pub fn old_refusal(old: &[u8]) -> u32
+    ensures { λ r. ⌜ r ≡ charactersNumber 101 128 oldKinds (now (old .entry)) ⌝ }
+{
+    let mut kinds = KINDS;
+    kinds[0] = b' ';
+    form_refusal(&kinds[..OLD_COLUMNS], OLD_LONGEST, old)
 }

@@ -35,21 +35,26 @@ readNumbers line =
       trkl = pos (readDecimal (field 21 24 line));
     }
 
--- The labels, the start in seconds of the day.
-unfoldable pub readLabels : List ℕ → Labels
-readLabels line =
+-- The labels in columns 2 to 101, the start in seconds of the day, with the letter, FR, HC and FRC given.
+unfoldable pub labelsWith : (constellation fr hc frc1 frc2 frc3 : ℕ) → List ℕ → Labels
+labelsWith constellation fr hc frc1 frc2 frc3 line =
     record {
-      constellation = byteIn 1 line;
+      constellation = constellation;
       satellite = readDecimal (field 2 3 line);
       cl = readHexadecimal (field 5 6 line);
-      fr = readDecimal (field 102 103 line);
-      hc = readDecimal (field 105 106 line);
-      frc1 = byteIn 108 line;
-      frc2 = byteIn 109 line;
-      frc3 = byteIn 110 line;
+      fr = fr;
+      hc = hc;
+      frc1 = frc1;
+      frc2 = frc2;
+      frc3 = frc3;
       mjd = readDecimal (field 8 12 line);
       start = 3600 * readDecimal (field 14 15 line) + 60 * readDecimal (field 16 17 line) + readDecimal (field 18 19 line);
       elv = readDecimal (field 26 28 line);
       azth = readDecimal (field 30 33 line);
       ioe = readDecimal (field 78 80 line);
     }
+
+-- All labels.
+unfoldable pub readLabels : List ℕ → Labels
+readLabels line =
+    labelsWith (byteIn 1 line) (readDecimal (field 102 103 line)) (readDecimal (field 105 106 line)) (byteIn 108 line) (byteIn 109 line) (byteIn 110 line) line

@@ -61,6 +61,10 @@ unfoldable pub spaced : List (List ℕ) → List ℕ
 spaced [] = []
 spaced (c ∷ cs) = c ++ code " " ∷ spaced cs
 
+-- Columns with CK, their checksum, behind them.
+abbrev pub withCheck : List ℕ → List ℕ
+withCheck columns = columns ++ hexadecimal (checksum columns)
+
 -- All 113 columns, 112-113 being CK.
 unfoldable pub lineText : Labels → Numbers → List ℕ
-lineText l n = spaced (columns l n) ++ hexadecimal (checksum (spaced (columns l n)))
+lineText l n = withCheck (spaced (columns l n))

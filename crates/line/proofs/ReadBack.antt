@@ -22,7 +22,7 @@ use Rattle.labels.specs.Labels.{constellationFits, codeFits, labelsFit}
 use Rattle.labels.proofs.Lengths.{length-within}
 use Rattle.line.specs.Line.{lineAnswer, lineAfter}
 use Rattle.columns.specs.Text.{lineLength, clock, trackColumns, clockColumns, delayColumns, columns, spaced, lineText}
-use Rattle.columns.specs.Columns.{byteIn, field, readNumbers, readLabels}
+use Rattle.columns.specs.Columns.{byteIn, field, readNumbers, labelsWith, readLabels}
 use Rattle.columns.proofs.Widths.{widths, offset, columns-sized, column-at}
 use Rattle.line.proofs.Accepted.{Accepted, accepted, after-is}
 
@@ -204,7 +204,7 @@ module _ (l : Labels) (n : Numbers) (rest : List ℕ) where
       omega (arith, hour, minute, second, clock-sum (l .start))
 
 pub labels-back : (l : Labels) (n : Numbers) (bytes : ℕ) (rest : List ℕ) → Accepted l n bytes → l .cl < 256 → readLabels (lineText l n ++ rest) ≡ l
-unfolding readLabels byteIn field columns trackColumns clockColumns delayColumns
+unfolding readLabels labelsWith byteIn field columns trackColumns clockColumns delayColumns
 labels-back l n bytes rest a cl =
     λ i. record {
       constellation = byte-back l n rest 0 0 (omega arith) (omega arith) i;

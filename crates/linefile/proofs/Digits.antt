@@ -13,10 +13,10 @@ use lib.Seq.{drop-cons, getD-take}
 use Rattle.fields.specs.Read.{digitsAfter, readDecimal}
 use Rattle.columns.specs.Text.{lineLength}
 use Rattle.characters.specs.Kinds.{allows, allowed}
-use Rattle.reading.specs.Fields.{digits}
+use Rattle.reading.specs.Fields.{digits, Holds}
 use Rattle.reading.specs.Read.{readNumber}
 use Rattle.characters.proofs.Allowed.{digit-range}
-use Rattle.reading.proofs.Columns.{Columns, columns-of}
+use Rattle.reading.proofs.Columns.{Columns, columns-of, own-columns, shared}
 use Rattle.reading.proofs.Refusals.{accepted}
 use Rattle.limits.proofs.Laws.{then-zero, both}
 use Rattle.linefile.specs.Files.{columnsOf, lineNumber}
@@ -70,7 +70,10 @@ module _ (line : List ℕ) (e : Accepted line) where
   read-zero = then-zero _ _ e .0
 
   pub columns : Columns (columnsOf line)
-  columns = columns-of (columnsOf line) (accepted (columnsOf line) read-zero .0 .columns)
+  columns = columns-of (columnsOf line) (shared (columnsOf line) (accepted (columnsOf line) read-zero .0 .columns))
+
+  pub letter-holds : Holds 1 (76 ∷ []) (columnsOf line)
+  letter-holds = own-columns (columnsOf line) (accepted (columnsOf line) read-zero .0 .columns) .letter
 
   pub columns-long : lineLength ≤ length (columnsOf line)
   columns-long = accepted (columnsOf line) read-zero .0 .least

@@ -10,7 +10,7 @@ use lib.ListN.{getD}
 use lib.Seq.{getD-take}
 use borrow.Author.Tests.{lt-ltb, le-ltb, eqb-true}
 use Rattle.fields.specs.Read.{readDecimal}
-use Rattle.columns.specs.Columns.{byteIn, field, readLabels}
+use Rattle.columns.specs.Columns.{byteIn, field, labelsWith, readLabels}
 use Rattle.characters.specs.Kinds.{letterFits}
 use Rattle.limits.proofs.Laws.{either}
 use Rattle.characters.proofs.Allowed.{letter-is}
@@ -19,7 +19,7 @@ use Rattle.linefile.specs.Files.{columnsOf, keysOf, keys, before}
 use Rattle.linefile.specs.Walk.{twoDigits, rank}
 use Rattle.linefile.proofs.Keys.{Heads, less, equal, more, heads, before-below, before-above, before-level, before-irrefl}
 use Rattle.linefile.proofs.Ascending.{Accepted}
-use Rattle.linefile.proofs.Digits.{rawAfter, excess, row, columns, digits-raw}
+use Rattle.linefile.proofs.Digits.{letter-holds, rawAfter, excess, row, columns, digits-raw}
 
 -- the letter is that of a constellation
 letter-bound : (b : ℕ) → letterFits b ≡ true → b < 256
@@ -85,7 +85,7 @@ module _ (x : List ℕ) (e : Accepted x) where
   mjd-is = omega (arith, digits-raw x e 5 7 (lit≤ tt) (columns x e .mjd .holds))
 
   start-is : 3600 * twoDigits 13 x + 60 * twoDigits 15 x + twoDigits 17 x ≡ readLabels (columnsOf x) .start + 1933008
-  unfolding readLabels field rawAfter excess row
+  unfolding readLabels labelsWith field rawAfter excess row
   start-is =
       omega (
         arith,
@@ -99,16 +99,16 @@ module _ (x : List ℕ) (e : Accepted x) where
   satellite-is = omega (arith, digits-raw x e 2 1 (lit≤ tt) (columns x e .satellite .holds))
 
   rank-is : rank x ≡ value (readLabels (columnsOf x) .mjd) (readLabels (columnsOf x) .start) (readLabels (columnsOf x) .constellation) (readLabels (columnsOf x) .satellite)
-  unfolding rank readLabels byteIn field
+  unfolding rank readLabels labelsWith byteIn field
   rank-is =
       λ i. ((mjd-is i * 4000000 + start-is i) * 256 + letter-is-first i) * 1000 + satellite-is i
 
   inside : Inside (readLabels (columnsOf x) .start) (readLabels (columnsOf x) .constellation) (readLabels (columnsOf x) .satellite)
-  unfolding readLabels byteIn
+  unfolding readLabels labelsWith byteIn
   inside =
       record {
         start = omega (arith, field-bound (columns x e .hour), field-bound (columns x e .minute), field-bound (columns x e .second));
-        letter = letter-bound _ (sym (letter-is _) ∙ holds-at 1 (76 ∷ []) (columnsOf x) (columns x e .letter) 0 (lit< tt));
+        letter = letter-bound _ (sym (letter-is _) ∙ holds-at 1 (76 ∷ []) (columnsOf x) (letter-holds x e) 0 (lit< tt));
         satellite = field-bound (columns x e .satellite);
       }
 

@@ -4,30 +4,31 @@
 use mathlib.Core.Path.{_≡_, refl, sym, ap, ap₂, _∙_}
 use mathlib.Core.Bool.{false, _||_}
 use mathlib.Core.List.{List, [], _∷_, _++_}
-use Prim.Native.Nat.{ℕ, _/_, _≤_}
+use Prim.Native.Nat.{ℕ, _≤_}
 use native.Mathlib.Omega.{arith}
-use lib.Dec.{ltb, eqb}
+use lib.Dec.{ltb}
 use lib.ListN.{length, take, drop, getD}
 use lib.Seq.{take-add, drop-drop}
-use borrow.Author.Tests.{ltb-false, le-ltb, eqb-true}
+use borrow.Author.Tests.{ltb-false, le-ltb}
 use Rattle.limits.specs.Refusal.{_when_, _then_}
-use Rattle.limits.proofs.Laws.{or-false, both}
-use Rattle.fields.specs.Text.{bytesOf, hexDigit, hexadecimal, checksum}
+use Rattle.limits.proofs.Laws.{or-false}
+use Rattle.fields.specs.Text.{bytesOf}
 use Rattle.fields.specs.Read.{readDecimal, readSigned}
 use Rattle.labels.specs.declared.Labels.{Labels}
 use Rattle.limits.specs.declared.Numbers.{Numbers}
 use Rattle.labels.specs.Content.{contentRule}
-use Rattle.columns.specs.Text.{lineLength, clock, trackColumns, clockColumns, delayColumns, columns, spaced, lineText}
-use Rattle.columns.specs.Columns.{byteIn, field, readLabels, readNumbers}
+use Rattle.columns.specs.Text.{lineLength, clock, trackColumns, clockColumns, delayColumns, columns, spaced, withCheck, lineText}
+use Rattle.columns.specs.Columns.{byteIn, field, labelsWith, readLabels, readNumbers}
 use Rattle.line.specs.Line.{lineAnswer, lineAfter}
 use Rattle.line.proofs.Accepted.{after-is}
-use Rattle.characters.specs.Kinds.{kinds, allowed, checked}
+use Rattle.characters.specs.Kinds.{kinds, allowed}
 use Rattle.reading.specs.Read.{isMinusZero, minusZero, clockBeyond, readNumber}
 use Rattle.reading.specs.Fields.{digits, hexDigits}
 use Rattle.characters.proofs.Spelled.{Spelled}
-use Rattle.reading.proofs.Columns.{Columns, columns-of}
+use Rattle.characters.proofs.Check.{next-byte, closed-by-check}
+use Rattle.reading.proofs.Columns.{Columns, columns-of, own-columns, shared}
 use Rattle.reading.proofs.Refusals.{Valued, accepted, content-is}
-use Rattle.reading.proofs.Spelling.{next-byte, two-bytes, three-bytes, spell-decimal, spell-signed, spell-class, clock-is, texts, texts-spaced}
+use Rattle.reading.proofs.Spelling.{three-bytes, spell-decimal, spell-signed, spell-class, clock-is, texts, texts-spaced}
 
 -- The kinds of the columns, field by field.
 abbrev pub fieldKinds : List (List ℕ)
@@ -81,13 +82,13 @@ clock-within line e =
 
 module _ (line : List ℕ) (s : Spelled line) (v : Valued line) where
   in-columns : Columns line
-  in-columns = columns-of line (s .columns)
+  in-columns = columns-of line (shared line (s .columns))
 
   long : lineLength ≤ length line
   long = s .least
 
   spell-time : clock (readLabels line .start) ≡ take 6 (drop 13 line)
-  unfolding readLabels
+  unfolding readLabels labelsWith
   spell-time =
       let w = clock-within line (v .clock) in
       clock-is (readDecimal (field 14 15 line)) (readDecimal (field 16 17 line)) (readDecimal (field 18 19 line)) (w .0) (w .1)
@@ -96,9 +97,10 @@ module _ (line : List ℕ) (s : Spelled line) (v : Valued line) where
 
   -- each column is written as it stands
   columns-spelled : columns (readLabels line) (readNumbers line) ≡ texts fieldKinds 0 line
-  unfolding columns trackColumns clockColumns delayColumns readLabels readNumbers byteIn field
+  unfolding columns trackColumns clockColumns delayColumns readLabels labelsWith readNumbers byteIn field
   columns-spelled =
       let c = in-columns in
+      let own = own-columns line (s .columns) in
       let refsv = no-minus 35 45 _ line (v .minus) in
       let srsv = no-minus 47 52 _ line (refsv .1) in
       let refsys = no-minus 54 64 _ line (srsv .1) in
@@ -122,8 +124,8 @@ module _ (line : List ℕ) (s : Spelled line) (v : Valued line) where
       ∷ spell-signed (c .smdt) (smdt .0) i
       ∷ spell-decimal (c .mdio) i
       ∷ spell-signed (c .smdi) (smdi .0) i
-      ∷ spell-decimal (c .fr) i
-      ∷ spell-decimal (c .hc) i
+      ∷ spell-decimal (own .fr) i
+      ∷ spell-decimal (own .hc) i
       ∷ sym (three-bytes 107 line (omega arith)) i
       ∷ []
 
@@ -134,22 +136,13 @@ module _ (line : List ℕ) (s : Spelled line) (v : Valued line) where
       ∙ texts-spaced fieldKinds 0 line (ap (λ (k : List ℕ). allowed k line) (sym kinds-spaced) ∙ s .columns)
       ∙ ap (λ (k : List ℕ). take (length k) line) (sym kinds-spaced)
 
-  check-is : hexadecimal (checksum (take 111 line)) ≡ take 2 (drop 111 line)
-  unfolding hexadecimal checked byteIn
-  check-is =
-      let e = both (eqb (getD line 111 0) (hexDigit (checksum (take 111 line) / 16))) _ (s .check) in
-      ap₂ (λ (a b : ℕ). a ∷ b ∷ []) (sym (eqb-true _ _ (e .0))) (sym (eqb-true _ _ (e .1))) ∙ sym (two-bytes 111 line (omega arith))
-
   text-is : lineText (readLabels line) (readNumbers line) ≡ take lineLength line
   unfolding lineText
-  text-is =
-      ap (λ (t : List ℕ). t ++ hexadecimal (checksum t)) columns-are
-      ∙ ap (λ (t : List ℕ). take 111 line ++ t) check-is
-      ∙ sym (take-add 111 2 line)
+  text-is = ap withCheck columns-are ∙ sym (closed-by-check 111 line (s .check) long)
 
   content-zero : contentRule (readLabels line) (readNumbers line) ≡ 0
   unfolding _when_ _then_
-  content-zero = content-is line (s .columns) ∙ simp (v .labels, v .trkl, v .start)
+  content-zero = content-is line (shared line (s .columns)) (readLabels line) ∙ simp (v .labels, v .trkl, v .start)
 
 -- Line answers 0 to content that is not refused, where there is room
 pub answer-zero : (l : Labels) (n : Numbers) (room : ℕ) → contentRule l n ≡ 0 → lineLength ≤ room → lineAnswer l n room ≡ 0

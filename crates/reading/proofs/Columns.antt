@@ -8,12 +8,12 @@ use native.Mathlib.Nat.{pow-le-pow-right, lt-of-lt-of-le, le-refl, le-trans}
 use native.Mathlib.Omega.{arith}
 use lib.Dec.{T, leb, le→leb, lit<, lit≤}
 use lib.ListN.{length, take, drop, getD, length-replicate, length-drop}
-use lib.Seq.{length-take-le, drop-cons, getD-drop}
+use lib.Seq.{length-take-le, drop-cons, drop-drop, getD-drop}
 use Rattle.fields.specs.Read.{readDecimal}
 use Rattle.columns.specs.Columns.{field}
 use Rattle.fields.specs.Text.{bytesOf}
-use Rattle.characters.specs.Kinds.{allows, kinds, allowed}
-use Rattle.reading.specs.Fields.{digits, hexDigits, Holds, Digits, Signed}
+use Rattle.characters.specs.Kinds.{allows, kinds, sharedKinds, oldKinds, allowed}
+use Rattle.reading.specs.Fields.{digits, hexDigits, Holds, Shared, Digits, Signed}
 use Rattle.characters.proofs.Allowed.{allowed-length, allowed-at, allowed-drop, allowed-take, allowed-cut}
 use Rattle.reading.proofs.Decimals.{read-bound}
 
@@ -92,39 +92,53 @@ signed-field {most} {first} {last} {line} s =
     next : (first : ℕ) → 1 ≤ first → suc (first - 1) ≡ first + 1 - 1
     next first h = omega arith
 
--- ---- the fields of the 111 columns
+-- ---- the fields of columns of known kinds
 
-module _ (line : List ℕ) (e : allowed kinds line ≡ true) where
+module _ (from : ℕ) (ks line : List ℕ) (e : Holds from ks line) where
   -- columns of these kinds
-  holds-in : (column width : ℕ) (these : List ℕ) → take width (drop (column - 1) kinds) ≡ these → Holds column these line
-  holds-in column width these k =
-      ap (λ (t : List ℕ). allowed t (drop (column - 1) line)) (sym k)
-      ∙ allowed-take (drop (column - 1) kinds) (drop (column - 1) line) (allowed-drop kinds line e (column - 1)) width
-
-  digits-in : (most first last : ℕ) → T (leb 1 first) → T (leb first last) → T (leb (last + 1 - first) most)
-      → take (last + 1 - first) (drop (first - 1) kinds) ≡ digits (last + 1 - first) → Digits most first last line
-  digits-in most first last c o f k =
-      record { counted = lit≤ c; ordered = lit≤ o; few = lit≤ f; holds = holds-in first (last + 1 - first) (digits (last + 1 - first)) k }
-
-  signed-in : (most first last : ℕ) → T (leb 1 first) → T (leb (first + 1) last) → T (leb (last + 1 - (first + 1)) most)
-      → take 1 (drop (first - 1) kinds) ≡ 43 ∷ [] → take (last + 1 - (first + 1)) (drop (first + 1 - 1) kinds) ≡ digits (last + 1 - (first + 1))
-      → Signed most first last line
-  signed-in most first last c o f s k =
-      record { counted = lit≤ c; sign = holds-in first 1 (43 ∷ []) s; digits = digits-in most (first + 1) last (next first c) o f k }
+  holds-in : (column width : ℕ) (these : List ℕ) → T (leb 1 from) → T (leb from column) → take width (drop (column - from) ks) ≡ these
+      → Holds column these line
+  holds-in column width these f l k =
+      ap₂ allowed (sym k) (ap (λ (n : ℕ). drop n line) (sym (place from column (lit≤ f) (lit≤ l))) ∙ sym (drop-drop (column - from) (from - 1) line))
+      ∙ allowed-take (drop (column - from) ks) _ (allowed-drop ks (drop (from - 1) line) e (column - from)) width
     where
-      next : (first : ℕ) → T (leb 1 first) → T (leb 1 (first + 1))
-      next first t = le→leb 1 (first + 1) (later first (lit≤ t))
-        where
-          later : (first : ℕ) → 1 ≤ first → 1 ≤ first + 1
-          later first h = omega arith
+      place : (from column : ℕ) → 1 ≤ from → from ≤ column → from - 1 + (column - from) ≡ column - 1
+      place from column h k = omega arith
 
-  pub column-count : 111 ≤ length line
-  unfolding kinds bytesOf
-  column-count = allowed-length kinds line e
+  digits-in : (most first last : ℕ) → T (leb 1 from) → T (leb from first) → T (leb first last) → T (leb (last + 1 - first) most)
+      → take (last + 1 - first) (drop (first - from) ks) ≡ digits (last + 1 - first) → Digits most first last line
+  digits-in most first last b c o f k =
+      record {
+        counted = le-trans (lit≤ b) (lit≤ c);
+        ordered = lit≤ o;
+        few = lit≤ f;
+        holds = holds-in first (last + 1 - first) (digits (last + 1 - first)) b c k;
+      }
 
--- What the columns of a line are made of.
+  signed-in : (most first last : ℕ) → T (leb 1 from) → T (leb from first) → T (leb (first + 1) last) → T (leb (last + 1 - (first + 1)) most)
+      → take 1 (drop (first - from) ks) ≡ 43 ∷ [] → take (last + 1 - (first + 1)) (drop (first + 1 - from) ks) ≡ digits (last + 1 - (first + 1))
+      → Signed most first last line
+  signed-in most first last b c o f s k =
+      record {
+        counted = le-trans (lit≤ b) (lit≤ c);
+        sign = holds-in first 1 (43 ∷ []) b c s;
+        digits = digits-in most (first + 1) last b (le→leb from (first + 1) (later from first (lit≤ c))) o f k;
+      }
+    where
+      later : (from first : ℕ) → from ≤ first → from ≤ first + 1
+      later from first h = omega arith
+
+-- ---- columns 2 to 101, which both forms share
+
+pub shared-count : (line : List ℕ) → Shared line → 101 ≤ length line
+unfolding kinds bytesOf
+shared-count line e = reach (length line) (holds-length 2 sharedKinds line e)
+  where
+    reach : (n : ℕ) → 100 ≤ n - 1 → 101 ≤ n
+    reach n h = omega arith
+
+-- What these columns are made of.
 pub record Columns (line : List ℕ) : Type 0 where
-  pub letter : Holds 1 (76 ∷ []) line
   pub satellite : Digits 2 2 3 line
   pub class : Holds 5 (hexDigits 2) line
   pub mjd : Digits 5 8 12 line
@@ -144,40 +158,63 @@ pub record Columns (line : List ℕ) : Type 0 where
   pub smdt : Signed 3 87 90 line
   pub mdio : Digits 4 92 95 line
   pub smdi : Signed 3 97 100 line
+
+pub columns-of : (line : List ℕ) → Shared line → Columns line
+unfolding kinds bytesOf
+columns-of line e =
+    let these = sharedKinds in
+    record {
+      satellite = digits-in 2 these line e 2 2 3 tt tt tt tt refl;
+      class = holds-in 2 these line e 5 2 _ tt tt refl;
+      mjd = digits-in 2 these line e 5 8 12 tt tt tt tt refl;
+      hour = digits-in 2 these line e 2 14 15 tt tt tt tt refl;
+      minute = digits-in 2 these line e 2 16 17 tt tt tt tt refl;
+      second = digits-in 2 these line e 2 18 19 tt tt tt tt refl;
+      trkl = digits-in 2 these line e 4 21 24 tt tt tt tt refl;
+      elv = digits-in 2 these line e 3 26 28 tt tt tt tt refl;
+      azth = digits-in 2 these line e 4 30 33 tt tt tt tt refl;
+      refsv = signed-in 2 these line e 10 35 45 tt tt tt tt refl refl;
+      srsv = signed-in 2 these line e 5 47 52 tt tt tt tt refl refl;
+      refsys = signed-in 2 these line e 10 54 64 tt tt tt tt refl refl;
+      srsys = signed-in 2 these line e 5 66 71 tt tt tt tt refl refl;
+      dsg = digits-in 2 these line e 4 73 76 tt tt tt tt refl;
+      ioe = digits-in 2 these line e 3 78 80 tt tt tt tt refl;
+      mdtr = digits-in 2 these line e 4 82 85 tt tt tt tt refl;
+      smdt = signed-in 2 these line e 3 87 90 tt tt tt tt refl refl;
+      mdio = digits-in 2 these line e 4 92 95 tt tt tt tt refl;
+      smdi = signed-in 2 these line e 3 97 100 tt tt tt tt refl refl;
+    }
+
+-- ---- the other columns of a line of ours
+
+pub record OwnColumns (line : List ℕ) : Type 0 where
+  pub letter : Holds 1 (76 ∷ []) line
   pub fr : Digits 2 102 103 line
   pub hc : Digits 2 105 106 line
   pub frc : Holds 108 (90 ∷ 90 ∷ 90 ∷ []) line
 
-pub columns-of : (line : List ℕ) → allowed kinds line ≡ true → Columns line
+pub own-columns : (line : List ℕ) → allowed kinds line ≡ true → OwnColumns line
 unfolding kinds bytesOf
-columns-of line e =
+own-columns line e =
     record {
-      letter = holds-in line e 1 1 _ refl;
-      satellite = digits-in line e 2 2 3 tt tt tt refl;
-      class = holds-in line e 5 2 _ refl;
-      mjd = digits-in line e 5 8 12 tt tt tt refl;
-      hour = digits-in line e 2 14 15 tt tt tt refl;
-      minute = digits-in line e 2 16 17 tt tt tt refl;
-      second = digits-in line e 2 18 19 tt tt tt refl;
-      trkl = digits-in line e 4 21 24 tt tt tt refl;
-      elv = digits-in line e 3 26 28 tt tt tt refl;
-      azth = digits-in line e 4 30 33 tt tt tt refl;
-      refsv = signed-in line e 10 35 45 tt tt tt refl refl;
-      srsv = signed-in line e 5 47 52 tt tt tt refl refl;
-      refsys = signed-in line e 10 54 64 tt tt tt refl refl;
-      srsys = signed-in line e 5 66 71 tt tt tt refl refl;
-      dsg = digits-in line e 4 73 76 tt tt tt refl;
-      ioe = digits-in line e 3 78 80 tt tt tt refl;
-      mdtr = digits-in line e 4 82 85 tt tt tt refl;
-      smdt = signed-in line e 3 87 90 tt tt tt refl refl;
-      mdio = digits-in line e 4 92 95 tt tt tt refl;
-      smdi = signed-in line e 3 97 100 tt tt tt refl refl;
-      fr = digits-in line e 2 102 103 tt tt tt refl;
-      hc = digits-in line e 2 105 106 tt tt tt refl;
-      frc = holds-in line e 108 3 _ refl;
+      letter = holds-in 1 kinds line e 1 1 _ tt tt refl;
+      fr = digits-in 1 kinds line e 2 102 103 tt tt tt tt refl;
+      hc = digits-in 1 kinds line e 2 105 106 tt tt tt tt refl;
+      frc = holds-in 1 kinds line e 108 3 _ tt tt refl;
     }
 
+pub shared : (line : List ℕ) → allowed kinds line ≡ true → Shared line
+shared line e = allowed-take (drop 1 kinds) (drop 1 line) (allowed-drop kinds line e 1) 100
+
+pub old-shared : (old : List ℕ) → allowed oldKinds old ≡ true → Shared old
+unfolding oldKinds
+old-shared old e = allowed-drop oldKinds old e 1
+
+pub column-count : (line : List ℕ) → allowed kinds line ≡ true → 111 ≤ length line
+unfolding kinds bytesOf
+column-count line e = allowed-length kinds line e
+
 -- the parts of the time have two digits each
-pub time-bounds : (line : List ℕ) → allowed kinds line ≡ true
+pub time-bounds : (line : List ℕ) → Shared line
     → (readDecimal (field 14 15 line) < 100) × (readDecimal (field 16 17 line) < 100) × (readDecimal (field 18 19 line) < 100)
 time-bounds line e = let c = columns-of line e in (field-bound (c .hour), field-bound (c .minute), field-bound (c .second))

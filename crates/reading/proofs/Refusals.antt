@@ -20,26 +20,30 @@ use Rattle.limits.specs.declared.Numbers.{Numbers}
 use Rattle.labels.specs.Labels.{labelsFit, trackLengthFits}
 use Rattle.labels.specs.Content.{contentRule}
 use Rattle.columns.specs.Columns.{field, readLabels, readNumbers}
-use Rattle.characters.specs.Kinds.{kinds, allowed}
+use Rattle.characters.specs.Kinds.{kinds}
 use Rattle.characters.specs.Characters.{charactersNumber}
 use Rattle.characters.proofs.Spelled.{Spelled, spelled, spelled-zero}
 use Rattle.reading.specs.Read.{signedFields, minusZero, clockBeyond, valuesNumber, readNumber, noLabels, noNumbers, readRule}
-use Rattle.reading.specs.Fields.{Digits, Signed}
+use Rattle.reading.specs.Fields.{Shared, Digits, Signed}
 use Rattle.reading.proofs.Columns.{columns-of, field-bound, signed-field}
 use Rattle.reading.proofs.Signs.{read-magnitude}
 
 -- ---- what a row that is 0 tells, and what makes it 0
 
-pub record Valued (line : List ℕ) : Type 0 where
+pub record ValuedAs (l : Labels) (n : Numbers) (line : List ℕ) : Type 0 where
   pub minus : minusZero signedFields line ≡ false
-  pub labels : labelsFit (readLabels line) ≡ true
-  pub trkl : trackLengthFits (readNumbers line .trkl) ≡ true
-  pub start : startRule (readLabels line .mjd) (readLabels line .start) ≡ 0
+  pub labels : labelsFit l ≡ true
+  pub trkl : trackLengthFits (n .trkl) ≡ true
+  pub start : startRule (l .mjd) (l .start) ≡ 0
   pub clock : clockBeyond line ≡ false
 
-pub valued : (line : List ℕ) → valuesNumber line ≡ 0 → Valued line
+-- a line with the labels and numbers in its own columns
+abbrev pub Valued : List ℕ → Type 0
+Valued line = ValuedAs (readLabels line) (readNumbers line) line
+
+pub valued : (l : Labels) (n : Numbers) (line : List ℕ) → valuesNumber l n line ≡ 0 → ValuedAs l n line
 unfolding valuesNumber
-valued line e =
+valued l n line e =
     let minus = then-zero _ _ e in
     let seven = then-zero _ _ (minus .1) in
     let trkl = then-zero _ _ (seven .1) in
@@ -52,17 +56,17 @@ valued line e =
       clock = when-zero 7 _ (eight .1);
     }
 
-pub valued-zero : (line : List ℕ) → Valued line → valuesNumber line ≡ 0
+pub valued-zero : (l : Labels) (n : Numbers) (line : List ℕ) → ValuedAs l n line → valuesNumber l n line ≡ 0
 unfolding valuesNumber _when_ _then_
-valued-zero line v = simp (v .minus, v .labels, v .trkl, v .start, v .clock)
+valued-zero l n line v = simp (v .minus, v .labels, v .trkl, v .start, v .clock)
 
 pub accepted : (line : List ℕ) → readNumber line ≡ 0 → Spelled line × Valued line
 unfolding readNumber
-accepted line e = let z = then-zero _ _ e in (spelled line (z .0), valued line (z .1))
+accepted line e = let z = then-zero _ _ e in (spelled line (z .0), valued (readLabels line) (readNumbers line) line (z .1))
 
 pub accepted-zero : (line : List ℕ) → Spelled line → Valued line → readNumber line ≡ 0
 unfolding readNumber _then_
-accepted-zero line s v = simp (spelled-zero line s, valued-zero line v)
+accepted-zero line s v = simp (spelled-zero line s, valued-zero (readLabels line) (readNumbers line) line v)
 
 then-none : (number : ℕ) → number then 0 ≡ number
 unfolding _then_
@@ -100,7 +104,7 @@ decimal-inside limit {most} {first} {last} {line} d e =
     below : {n : ℕ} → n < 10 ^ most → n ≤ limit
     below h = omega (arith, e)
 
-module _ (line : List ℕ) (e : allowed kinds line ≡ true) where
+module _ (line : List ℕ) (e : Shared line) where
   pub limits-zero : limitsRule (readNumbers line) ≡ 0
   unfolding limitsRule readNumbers _when_ _then_
   limits-zero =
@@ -122,34 +126,37 @@ module _ (line : List ℕ) (e : allowed kinds line ≡ true) where
 
   -- ---- what is left of Line's refusals of the content
 
-  pub content-is : contentRule (readLabels line) (readNumbers line)
-      ≡ 7 when not (labelsFit (readLabels line))
+  pub content-is : (l : Labels) → contentRule l (readNumbers line)
+      ≡ 7 when not (labelsFit l)
       then 7 when not (trackLengthFits (readNumbers line .trkl))
-      then startRule (readLabels line .mjd) (readLabels line .start)
+      then startRule (l .mjd) (l .start)
   unfolding contentRule
-  content-is = simp (limits-zero, dsg-zero, then-none, when-either, then-assoc)
+  content-is l = simp (limits-zero, dsg-zero, then-none, when-either, then-assoc)
 
   -- the row that the code goes by
-  pub values-row : 13 when minusZero signedFields line then contentRule (readLabels line) (readNumbers line) then 8 when clockBeyond line
-      ≡ valuesNumber line
+  pub values-row : (l : Labels) → 13 when minusZero signedFields line then contentRule l (readNumbers line) then 8 when clockBeyond line
+      ≡ valuesNumber l (readNumbers line) line
   unfolding valuesNumber
-  values-row = simp (content-is, then-assoc)
+  values-row l = simp (content-is, then-assoc)
 
 -- ---- the reply
 
 module _ (line : List ℕ) where
+  abbrev ownValues : ℕ
+  ownValues = valuesNumber (readLabels line) (readNumbers line) line
+
   pub reply-characters : {number : ℕ} → number ≡ charactersNumber 111 140 kinds line → 0 < number
       → record { number = number; values = (noLabels, noNumbers) } ≡ readRule line
   unfolding readRule readNumber
   reply-characters {number} e h =
-      sym (ap (λ (n : ℕ). reply (noLabels, noNumbers) n (readLabels line, readNumbers line)) (ap (λ (n : ℕ). n then valuesNumber line) (sym e) ∙ then-refused number (valuesNumber line) h)
+      sym (ap (λ (n : ℕ). reply (noLabels, noNumbers) n (readLabels line, readNumbers line)) (ap (λ (n : ℕ). n then ownValues) (sym e) ∙ then-refused number ownValues h)
       ∙ reply-refused _ _ h)
 
-  pub reply-values : {number : ℕ} → charactersNumber 111 140 kinds line ≡ 0 → number ≡ valuesNumber line → 0 < number
+  pub reply-values : {number : ℕ} → charactersNumber 111 140 kinds line ≡ 0 → number ≡ ownValues → 0 < number
       → record { number = number; values = (noLabels, noNumbers) } ≡ readRule line
   unfolding readRule readNumber
   reply-values {number} z e h =
-      sym (ap (λ (n : ℕ). reply (noLabels, noNumbers) n (readLabels line, readNumbers line)) (then-passed _ (valuesNumber line) z ∙ sym e)
+      sym (ap (λ (n : ℕ). reply (noLabels, noNumbers) n (readLabels line, readNumbers line)) (then-passed _ ownValues z ∙ sym e)
       ∙ reply-refused _ _ h)
 
   pub reply-line : {labels : Labels} {numbers : Numbers} → readNumber line ≡ 0 → labels ≡ readLabels line → numbers ≡ readNumbers line

@@ -10,7 +10,7 @@ use native.Mathlib.Omega.{arith}
 use lib.Dec.{eqb, lit<}
 use lib.IntN.{pos, negℤ}
 use lib.ListN.{length, take, drop, getD, length-append}
-use lib.Seq.{drop-cons, drop-drop, take-add, drop-append-seam}
+use lib.Seq.{drop-drop, take-add, drop-append-seam}
 use borrow.Author.Tests.{eqb-true}
 use Rattle.fields.specs.Text.{decimal, sign, signed, hexadecimal}
 use Rattle.fields.specs.Read.{readDecimal, readSigned, readHexadecimal}
@@ -21,18 +21,13 @@ use Rattle.reading.specs.Read.{isMinusZero}
 use Rattle.reading.specs.Fields.{digits, hexDigits, Holds, Digits, Signed}
 use Rattle.limits.proofs.Laws.{both, either}
 use Rattle.characters.proofs.Allowed.{sign-is, space-is, allowed-drop}
+use Rattle.characters.proofs.Check.{next-byte, two-bytes}
 use Rattle.reading.proofs.Decimals.{write-decimal}
 use Rattle.reading.proofs.Hexadecimals.{write-hexadecimal}
 use Rattle.reading.proofs.Signs.{minus-read, plus-read}
 use Rattle.reading.proofs.Columns.{holds-at, holds-length, signed-field}
 
 -- ---- single bytes of a line
-
-pub next-byte : (n at : ℕ) (line : List ℕ) → at < length line → take (suc n) (drop at line) ≡ getD line at 0 ∷ take n (drop (suc at) line)
-next-byte n at line h = ap (take (suc n)) (drop-cons line at 0 h)
-
-pub two-bytes : (at : ℕ) (line : List ℕ) → suc at < length line → take 2 (drop at line) ≡ getD line at 0 ∷ getD line (suc at) 0 ∷ []
-two-bytes at line h = next-byte 1 at line (omega arith) ∙ ap (λ (t : List ℕ). getD line at 0 ∷ t) (next-byte 0 (suc at) line h)
 
 pub three-bytes : (at : ℕ) (line : List ℕ) → suc (suc at) < length line
     → take 3 (drop at line) ≡ getD line at 0 ∷ getD line (suc at) 0 ∷ getD line (suc (suc at)) 0 ∷ []

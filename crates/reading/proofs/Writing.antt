@@ -8,7 +8,7 @@ use native.Mathlib.Omega.{arith}
 use lib.Dec.{ltb, leb, eqb}
 use lib.IntN.{ℤ, pos, negsuc, natAbs}
 use lib.ListN.{length, length-replicate, replicate-append-replicate}
-use borrow.Author.Tests.{ltb-true, ltb-false, le-leb}
+use borrow.Author.Tests.{ltb-true, ltb-false, leb-true, le-leb}
 use Rattle.fields.specs.Text.{decimal, sign, signed, hexDigit, hexadecimal}
 use Rattle.fields.proofs.Laws.{length-decimal, length-signed, length-hexadecimal}
 use Rattle.labels.specs.declared.Labels.{Labels}
@@ -22,13 +22,13 @@ use Rattle.limits.proofs.Laws.{both, either}
 use Rattle.characters.proofs.Allowed.{letter-is, digit-is, hexadecimal-is, code-is, space-is, allowed-append}
 use Rattle.reading.proofs.AcceptedLine.{fieldKinds, kinds-spaced}
 
-and-true-both : {a b : Bool} → a ≡ true → b ≡ true → a && b ≡ true
+pub and-true-both : {a b : Bool} → a ≡ true → b ≡ true → a && b ≡ true
 and-true-both p q = ap₂ _&&_ p q
 
 digit-allowed : (n : ℕ) → allows 57 (48 + n % 10) ≡ true
 digit-allowed n = digit-is (48 + n % 10) ∙ ap₂ _&&_ (le-leb 48 (48 + n % 10) (omega arith)) (le-leb (48 + n % 10) 57 (omega arith))
 
-decimal-allowed : (columns n : ℕ) → allowed (digits columns) (decimal columns n) ≡ true
+pub decimal-allowed : (columns n : ℕ) → allowed (digits columns) (decimal columns n) ≡ true
 unfolding decimal allowed
 decimal-allowed zero n = refl
 decimal-allowed (suc columns) n =
@@ -100,10 +100,12 @@ letter-fits letter ioe fr =
         (both (eqb letter 82 && leb 1 ioe && leb ioe 96) _
         (both (eqb letter 82 && leb 1 ioe && leb ioe 96 && leb 1 fr) _ e .0) .0) .0) .0
 
-code-fits : (l : Labels) → labelsFit l ≡ true → (constellationFits (l .constellation) (l .ioe) (l .fr) ≡ true)
+-- what labels that fit tell of the letter, FRC and HC
+pub code-fits : (l : Labels) → labelsFit l ≡ true → (constellationFits (l .constellation) (l .ioe) (l .fr) ≡ true)
     × (codeFits (l .frc1) ≡ true)
     × (codeFits (l .frc2) ≡ true)
     × (codeFits (l .frc3) ≡ true)
+    × (l .hc ≤ 99)
 unfolding labelsFit
 code-fits l e =
     let elv = both (letter && leb 1 (l .satellite) && leb (l .satellite) 99 && leb (l .hc) 99 && codes && leb (l .elv) 900) (leb (l .azth) 3599) e in
@@ -113,7 +115,7 @@ code-fits l e =
     let least = both (letter && leb 1 (l .satellite)) (leb (l .satellite) 99) (most .0) in
     let third = both (codeFits (l .frc1) && codeFits (l .frc2)) (codeFits (l .frc3)) (hc .1) in
     let second = both (codeFits (l .frc1)) (codeFits (l .frc2)) (third .0) in
-    (both letter (leb 1 (l .satellite)) (least .0) .0, second .0, second .1, third .1)
+    (both letter (leb 1 (l .satellite)) (least .0) .0, second .0, second .1, third .1, leb-true (l .hc) 99 (most .1))
   where
     letter : Bool
     letter = constellationFits (l .constellation) (l .ioe) (l .fr)
@@ -124,11 +126,11 @@ code-fits l e =
 -- ---- all columns
 
 -- Columns that may stand in fields of these kinds.
-data Fitting : (fields texts : List (List ℕ)) → Type 0 where
+pub data Fitting : (fields texts : List (List ℕ)) → Type 0 where
   none : Fitting [] []
   one : {k c : List ℕ} {ks cs : List (List ℕ)} → length k ≡ length c → allowed k c ≡ true → Fitting ks cs → Fitting (k ∷ ks) (c ∷ cs)
 
-spaced-allowed : {ks cs : List (List ℕ)} → Fitting ks cs → (rest : List ℕ) → allowed (spaced ks) (spaced cs ++ rest) ≡ true
+pub spaced-allowed : {ks cs : List (List ℕ)} → Fitting ks cs → (rest : List ℕ) → allowed (spaced ks) (spaced cs ++ rest) ≡ true
 unfolding spaced allowed
 spaced-allowed none rest = refl
 spaced-allowed (one {k} {c} {ks} {cs} l e f) rest =

@@ -1,7 +1,7 @@
 -- What Line wrote is read back whole (document 02, Job 1), whatever comment may stand behind it.
 -- Assumes nothing.
 use mathlib.Core.Path.{_≡_, refl, sym, ap, ap₂, _∙_}
-use mathlib.Core.Bool.{true, false, _&&_}
+use mathlib.Core.Bool.{true, false}
 use mathlib.Core.List.{List, [], _++_, append-assoc, append-nil}
 use Prim.Native.Nat.{ℕ, suc, _+_, _-_, _/_, _%_, _≤_, _<_}
 use native.Mathlib.Nat.{add-zero, le-refl}
@@ -10,11 +10,11 @@ use lib.Dec.{eqb·suc-zero, lit<, lit≤}
 use lib.IntN.{ℤ, pos, negsuc}
 use lib.ListN.{length, take, drop, getD, length-append, length-drop}
 use lib.Seq.{take-at, drop-at, getD-drop, getD-take}
-use borrow.Author.Tests.{le-ltb, eq-eqb}
+use borrow.Author.Tests.{le-ltb}
 use Rattle.limits.proofs.Laws as limits
 use Rattle.schedule.specs.Schedule.{startRule}
 use Rattle.schedule.proofs.Minutes as schedule
-use Rattle.fields.specs.Text.{bytesOf, decimal, sign, signed, hexDigit, hexadecimal, checksum}
+use Rattle.fields.specs.Text.{bytesOf, decimal, sign, signed, hexadecimal, checksum}
 use Rattle.fields.specs.Read.{readDecimal, readSigned}
 use Rattle.fields.proofs.Laws.{length-decimal, read-decimal}
 use Rattle.labels.specs.declared.Labels.{Labels}
@@ -28,10 +28,11 @@ use Rattle.line.specs.Line.{lineAnswer, lineAfter}
 use Rattle.line.proofs.Accepted.{Accepted, accepted, after-is}
 use Rattle.line.proofs.Sample as sample
 use Rattle.line.proofs.ReadBack.{numbers-back, labels-back}
-use Rattle.characters.specs.Kinds.{printable, checked}
+use Rattle.characters.specs.Kinds.{printable}
 use Rattle.characters.proofs.Spelled.{Spelled}
+use Rattle.characters.proofs.Check.{check-closes}
 use Rattle.reading.specs.Read.{signedFields, isMinusZero, minusZero, clockBeyond, readRule}
-use Rattle.reading.proofs.Columns.{columns-of, field-length}
+use Rattle.reading.proofs.Columns.{columns-of, shared, field-length}
 use Rattle.reading.proofs.Refusals.{Valued, accepted-zero, reply-line}
 use Rattle.reading.proofs.AcceptedLine.{time-joined, answer-zero}
 use Rattle.reading.proofs.Writing.{columns-allowed}
@@ -81,20 +82,6 @@ module _ (l : Labels) (n : Numbers) (comment : List ℕ) (a : Accepted l n lineL
 
   -- ---- the characters
 
-  before : take 111 line ≡ spaced (columns l n)
-  before = take-at (spaced (columns l n)) behind 111 (columns-width l n)
-
-  after : drop 111 line ≡ behind
-  after = drop-at (spaced (columns l n)) behind 111 (columns-width l n)
-
-  check : checked 111 line ≡ true
-  unfolding checked byteIn hexadecimal
-  check =
-      let first = sym (getD-drop 111 line 0 0) ∙ ap (λ (t : List ℕ). getD t 0 0) after in
-      let second = sym (getD-drop 111 line 1 0) ∙ ap (λ (t : List ℕ). getD t 1 0) after in
-      let s = ap checksum before in
-      ap₂ _&&_ (eq-eqb _ _ (first ∙ ap (λ (k : ℕ). hexDigit (k / 16)) (sym s))) (eq-eqb _ _ (second ∙ ap hexDigit (sym s)))
-
   length-is : length line ≡ lineLength + length comment
   length-is = ap length (sym line-is) ∙ length-append (lineText l n) comment ∙ ap (λ (k : ℕ). k + length comment) (line-width l n)
 
@@ -106,7 +93,7 @@ module _ (l : Labels) (n : Numbers) (comment : List ℕ) (a : Accepted l n lineL
       record {
         least = omega (arith, length-is);
         most = omega (arith, length-is);
-        check = check;
+        check = check-closes 111 (spaced (columns l n)) comment (columns-width l n);
         columns = columns-allowed l n behind (a .labels);
         comment = ap printable comment-is ∙ p;
       }
@@ -137,7 +124,7 @@ module _ (l : Labels) (n : Numbers) (comment : List ℕ) (a : Accepted l n lineL
   unfolding clock columns trackColumns
   time =
       let whole = time-joined line ∙ column-at (columns-sized l n) 3 (lit< tt) behind in
-      let c = columns-of line (spelled .columns) in
+      let c = columns-of line (shared line (spelled .columns)) in
       let hour = parted (field-length (c .hour)) (length-decimal 2 _) whole in
       let rest = parted (field-length (c .minute)) (length-decimal 2 _) (hour .1) in
       (hour .0, rest .0, rest .1)

@@ -6,7 +6,7 @@ use mathlib.Core.List.{List, [], _∷_}
 use Prim.Native.Nat.{ℕ, _+_, _-_, _≤_}
 use Prim.Native.Char.{code}
 use lib.ListN.{drop, replicate}
-use Rattle.characters.specs.Kinds.{allows, allowed}
+use Rattle.characters.specs.Kinds.{allows, sharedKinds, allowed}
 
 -- So many columns of digits.
 abbrev pub digits : ℕ → List ℕ
@@ -22,6 +22,10 @@ IsHexDigit b = allows (code "F") b ≡ true
 -- Columns of these kinds begin at this one, counted from 1, and hold what they may hold.
 abbrev pub Holds : (column : ℕ) (kinds line : List ℕ) → Type 0
 Holds column kinds line = allowed kinds (drop (column - 1) line) ≡ true
+
+-- Columns 2 to 101, which an old line has too, hold what they may hold.
+abbrev pub Shared : List ℕ → Type 0
+Shared line = Holds 2 sharedKinds line
 
 -- A field of digits, at most as many as `most`.
 pub record Digits (most first last : ℕ) (line : List ℕ) : Type 0 where

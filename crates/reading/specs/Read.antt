@@ -36,19 +36,19 @@ unfoldable pub clockBeyond : List ℕ → Bool
 clockBeyond line =
     ltb 23 (readDecimal (field 14 15 line)) || ltb 59 (readDecimal (field 16 17 line)) || ltb 59 (readDecimal (field 18 19 line))
 
--- What the values are refused for. 13: a minus before a zero. 7: a label, the track length or the date is out of range. 8: no start of that
--- day, or no time of a day.
-unfoldable pub valuesNumber : List ℕ → ℕ
-valuesNumber line =
+-- What the values of a line that has these labels and numbers are refused for. 13: a minus before a zero. 7: a label, the track length or the
+-- date is out of range. 8: no start of that day, or no time of a day.
+unfoldable pub valuesNumber : Labels → Numbers → List ℕ → ℕ
+valuesNumber l n line =
     13 when minusZero signedFields line
-    then 7 when not (labelsFit (readLabels line))
-    then 7 when not (trackLengthFits (readNumbers line .trkl))
-    then startRule (readLabels line .mjd) (readLabels line .start)
+    then 7 when not (labelsFit l)
+    then 7 when not (trackLengthFits (n .trkl))
+    then startRule (l .mjd) (l .start)
     then 8 when clockBeyond line
 
 -- The number of the refusal, 0 for a line that is read.
 unfoldable pub readNumber : List ℕ → ℕ
-readNumber line = charactersNumber 111 140 kinds line then valuesNumber line
+readNumber line = charactersNumber 111 140 kinds line then valuesNumber (readLabels line) (readNumbers line) line
 
 -- Labels and numbers that are 0 throughout.
 abbrev pub noLabels : Labels

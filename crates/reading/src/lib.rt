@@ -1,12 +1,12 @@
-// What stands in a data line (document 02, Jobs 1 and 3): its labels and its ten numbers. It takes any bytes. A line whose characters are
+// What stands in a data line (document 02, Jobs 1, 3 and 12): its labels and its ten numbers. It takes any bytes. A line whose characters are
 // refused (crate characters) has that number; then a minus before a zero is 13, a label, a track length or a date that is out of range 7,
-// and a start that is none 8.
-ghost use mathlib.Core.Bool.{true};
+// and a start that is none 8. An old line, of version 01, is refused for the same, with the labels that are supplied.
 ghost use mathlib.Core.Path.{_≡_};
-ghost use Rattle.columns.specs.Columns.{readLabels, readNumbers};
-ghost use Rattle.characters.specs.Kinds.{kinds, allowed};
+ghost use Rattle.columns.specs.Columns.{readNumbers};
 ghost use Rattle.reading.specs.Read.{valuesNumber, readRule};
 ghost use Rattle.reading.specs.Answers.{readReply, readNumbered};
+ghost use Rattle.reading.specs.Old.{oldNumber};
+ghost use Rattle.reading.specs.Fields.{Shared};
 use labels::Labels;
 use labels::Numbers;
 use limits::then;
@@ -20,12 +20,11 @@ pub enum Reading {
     Refused(u32),
 }
 
-// What a line is refused for once its characters are those of its columns.
+// What a line with these labels is refused for once its characters are those of its columns.
 fn values_refusal(line: &[u8], labels: Labels, numbers: Numbers) -> u32
-    requires { ⌜ allowed kinds (now line) ≡ true ⌝ }
-    requires { ⌜ labels ≡ readLabels (now line) ⌝ }
+    requires { ⌜ Shared (now line) ⌝ }
     requires { ⌜ numbers ≡ readNumbers (now line) ⌝ }
-    ensures { λ r. ⌜ r ≡ valuesNumber (now (line .entry)) ⌝ }
+    ensures { λ r. ⌜ r ≡ valuesNumber labels numbers (now (line .entry)) ⌝ }
 {
     let minus = when(13, values::minus_zero(line, numbers));
     let label = labels::refusal(labels, numbers);
@@ -49,6 +48,19 @@ pub fn read(line: &[u8]) -> Reading
         return Reading::Refused(refusal);
     }
     Reading::Line { labels, numbers }
+}
+
+// What an old line is refused for, with the HC and the FRC that are supplied.
+pub fn old_refusal(old: &[u8], hc: u8, frc1: u8, frc2: u8, frc3: u8) -> u32
+    ensures { λ r. ⌜ r ≡ oldNumber hc frc1 frc2 frc3 (now (old .entry)) ⌝ }
+{
+    let characters = characters::old_refusal(old);
+    if characters != 0 {
+        return characters;
+    }
+    let labels = values::labels_with(b'G', 0, hc, frc1, frc2, frc3, old);
+    let numbers = values::numbers(old);
+    values_refusal(old, labels, numbers)
 }
 
 // The number of a reading: that of the refusal, 0 where there is none.

@@ -5,10 +5,10 @@ ghost use Prim.Native.Nat.{_≤_};
 ghost use lib.IntN.{pos};
 ghost use lib.ListN.{length};
 ghost use Rattle.fields.specs.Read.{readDecimal, readSigned, readDigit, readHexadecimal};
-ghost use Rattle.columns.specs.Columns.{field, readLabels, readNumbers};
+ghost use Rattle.columns.specs.Columns.{field, labelsWith, readLabels, readNumbers};
 ghost use Rattle.characters.specs.Kinds.{kinds, allowed};
 ghost use Rattle.reading.specs.Read.{signedFields, isMinusZero, minusZero, clockBeyond};
-ghost use Rattle.reading.specs.Fields.{digits, hexDigits, IsHexDigit, Holds, Digits, Signed};
+ghost use Rattle.reading.specs.Fields.{digits, hexDigits, IsHexDigit, Holds, Shared, Digits, Signed};
 use labels::Labels;
 use labels::Numbers;
 use whole::magnitude;
@@ -93,7 +93,7 @@ fn class(line: &[u8]) -> u8
 
 // The start in seconds of the day.
 fn start(line: &[u8]) -> u32
-    requires { ⌜ allowed kinds (now line) ≡ true ⌝ }
+    requires { ⌜ Shared (now line) ⌝ }
     ensures { λ r. ⌜ r ≡ readLabels (now (line .entry)) .start ⌝ }
 {
     3600 * decimal32(line, 14, 15) + 60 * decimal32(line, 16, 17) + decimal32(line, 18, 19)
@@ -101,25 +101,34 @@ fn start(line: &[u8]) -> u32
 
 // Whether the hour, the minute or the second is none of a day.
 pub fn clock_beyond(line: &[u8]) -> bool
-    requires { ⌜ allowed kinds (now line) ≡ true ⌝ }
+    requires { ⌜ Shared (now line) ⌝ }
     ensures { λ r. ⌜ r ≡ clockBeyond (now (line .entry)) ⌝ }
 {
     (23 < decimal32(line, 14, 15)) | (59 < decimal32(line, 16, 17)) | (59 < decimal32(line, 18, 19))
 }
 
-pub fn labels(line: &[u8]) -> Labels
-    requires { ⌜ allowed kinds (now line) ≡ true ⌝ }
-    ensures { λ r. ⌜ r ≡ readLabels (now (line .entry)) ⌝ }
+// The labels in columns 2 to 101, with these others.
+pub fn labels_with(
+    constellation: u8,
+    fr: u8,
+    hc: u8,
+    frc1: u8,
+    frc2: u8,
+    frc3: u8,
+    line: &[u8],
+) -> Labels
+    requires { ⌜ Shared (now line) ⌝ }
+    ensures { λ r. ⌜ r ≡ labelsWith constellation fr hc frc1 frc2 frc3 (now (line .entry)) ⌝ }
 {
     Labels {
-        constellation: line[0],
+        constellation,
         satellite: decimal8(line, 2, 3),
         cl: class(line),
-        fr: decimal8(line, 102, 103),
-        hc: decimal8(line, 105, 106),
-        frc1: line[107],
-        frc2: line[108],
-        frc3: line[109],
+        fr,
+        hc,
+        frc1,
+        frc2,
+        frc3,
         mjd: decimal32(line, 8, 12),
         start: start(line),
         elv: decimal16(line, 26, 28),
@@ -128,8 +137,17 @@ pub fn labels(line: &[u8]) -> Labels
     }
 }
 
-pub fn numbers(line: &[u8]) -> Numbers
+pub fn labels(line: &[u8]) -> Labels
     requires { ⌜ allowed kinds (now line) ≡ true ⌝ }
+    ensures { λ r. ⌜ r ≡ readLabels (now (line .entry)) ⌝ }
+{
+    let fr = decimal8(line, 102, 103);
+    let hc = decimal8(line, 105, 106);
+    labels_with(line[0], fr, hc, line[107], line[108], line[109], line)
+}
+
+pub fn numbers(line: &[u8]) -> Numbers
+    requires { ⌜ Shared (now line) ⌝ }
     ensures { λ r. ⌜ r ≡ readNumbers (now (line .entry)) ⌝ }
 {
     Numbers {
@@ -155,7 +173,7 @@ fn is_minus_zero(sign: u8, value: i64) -> bool
 
 // The same in one of the signed fields, whose numbers are given.
 pub fn minus_zero(line: &[u8], numbers: Numbers) -> bool
-    requires { ⌜ allowed kinds (now line) ≡ true ⌝ }
+    requires { ⌜ Shared (now line) ⌝ }
     requires { ⌜ numbers ≡ readNumbers (now line) ⌝ }
     ensures { λ r. ⌜ r ≡ minusZero signedFields (now (line .entry)) ⌝ }
 {

@@ -78,6 +78,18 @@ extern "C" {
         written: *mut usize,
         block: *mut usize,
     ) -> u32;
+    fn trackline_down(line: *const u8, line_len: usize, old: *mut u8, old_len: usize) -> u32;
+    #[rustfmt::skip]
+    fn trackline_up(
+        old: *const u8,
+        old_len: usize,
+        hc: u8,
+        frc1: u8,
+        frc2: u8,
+        frc3: u8,
+        line: *mut u8,
+        line_len: usize,
+    ) -> u32;
 }
 
 /// A slice, or NULL with length 0.
@@ -175,4 +187,18 @@ pub fn day(blocks: Bytes, lent: LentBytes, written: &mut usize, block: &mut usiz
     let (file, file_len) = lent_as_c(lent);
     // SAFETY: live slices, or NULL with length 0, which the interface allows, and two live numbers.
     unsafe { trackline_day(blocks, blocks_len, file, file_len, written, block) }
+}
+
+pub fn down(line: Bytes, lent: LentBytes) -> u32 {
+    let (line, line_len) = as_c(line);
+    let (old, old_len) = lent_as_c(lent);
+    // SAFETY: live slices, or NULL with length 0, which the interface allows.
+    unsafe { trackline_down(line, line_len, old, old_len) }
+}
+
+pub fn up(old: Bytes, hc: u8, [frc1, frc2, frc3]: [u8; 3], lent: LentBytes) -> u32 {
+    let (old, old_len) = as_c(old);
+    let (line, line_len) = lent_as_c(lent);
+    // SAFETY: live slices, or NULL with length 0, which the interface allows.
+    unsafe { trackline_up(old, old_len, hc, frc1, frc2, frc3, line, line_len) }
 }

@@ -1,5 +1,6 @@
 //! Compares the archive's C functions with the plain Rust implementation on seeded blocks, lines, readings, starts,
-//! pairs of line files, stores of delays and sets of blocks, and tries that what is added to all measurements alike drops out.
+//! pairs of line files, stores of delays, sets of blocks and lines of version 01, and tries that what is added to all
+//! measurements alike drops out.
 //!
 //!     boundary [SEED [SCALE]]
 //!
@@ -29,6 +30,7 @@ mod squares;
 mod starts;
 mod store_faults;
 mod stores;
+mod version01;
 mod view_faults;
 mod views;
 
@@ -46,6 +48,7 @@ fn main() -> ExitCode {
     let scale = arguments.get(1).copied().unwrap_or(1) as usize;
     let mut compare = Compare::new(seed);
     let stored = stores::run(&mut compare, &mut Seeded::new(seed + 9), scale);
+    version01::run(&mut compare, &mut Seeded::new(seed + 12), scale);
     let days = days::run(&mut compare, &mut Seeded::new(seed + 10), scale);
     lines::run(&mut compare, &mut Seeded::new(seed + 1), scale);
     blocks::run(&mut compare, &mut Seeded::new(seed + 2), scale);
@@ -64,6 +67,7 @@ fn main() -> ExitCode {
     missing.extend(offsets::report(&shifted));
     missing.extend(stores::report(&compare, &stored));
     missing.extend(days::report(&compare, &days));
+    missing.extend(version01::report(&compare));
     missing.iter().for_each(|what| eprintln!("MISSING: {what}"));
     if compare.agreed() && missing.is_empty() {
         println!("boundary: no difference");

@@ -1,12 +1,44 @@
-//! Faults that can be put into the text of a good line, each the cause of one refusal of the reader.
+//! Faults that can be put into the text of a good line, ours or one of version 01, each the cause of one refusal of the reader, of
+//! down or of up.
 
 use crate::compare::Lent;
 use reference::good::{a_start, good_comment, good_labels, good_numbers, track_start};
 use reference::seeded::Seeded;
-use reference::{LINE_BYTES, LONGEST_LINE, VALUES};
+use reference::{LINE_BYTES, VALUES};
 
 /// The order in which the reader tries its refusals.
 pub const READ_ORDER: [u32; 6] = [12, 14, 13, 7, 8, 9];
+
+/// What the two forms of a line differ in.
+#[derive(Clone, Copy, PartialEq, Eq)]
+pub struct Form {
+    /// columns with CK, its last two, and the longest line
+    pub columns: usize,
+    pub longest: usize,
+    /// how many of the columns of spaces it has, and the last column that holds a digit
+    spaces: usize,
+    last_digit: usize,
+    /// where any two digits may stand
+    free: usize,
+}
+
+// by document 02, and not by what it is compared with
+pub const OURS: Form = Form { columns: 113, longest: 140, spaces: 20, last_digit: 106, free: 105 };
+pub const OLD: Form = Form { columns: 103, longest: 128, spaces: 17, last_digit: 100, free: 5 };
+
+impl Form {
+    fn check_of(self, line: &[u8]) -> String {
+        format!("{:02X}", line[..self.columns - 2].iter().map(|byte| u32::from(*byte)).sum::<u32>() % 256)
+    }
+
+    /// Puts CK right.
+    pub fn repair(self, line: &mut [u8]) {
+        if line.len() >= self.columns {
+            let check = self.check_of(line);
+            put(line, self.columns - 1, &check);
+        }
+    }
+}
 
 const SPACES: [usize; 20] = [4, 7, 13, 20, 25, 29, 34, 46, 53, 65, 72, 77, 81, 86, 91, 96, 101, 104, 107, 111];
 /// First and last column of the fields that carry a sign.
@@ -44,7 +76,11 @@ pub enum Fault {
     Hour,
     Minute,
     Second,
-    /// the lent values
+    /// a letter other than G, with what goes with it
+    OtherSystem,
+    /// of what is supplied HC, or one of the characters of FRC
+    Supplied(usize),
+    /// the lent values or bytes
     Few,
 }
 
@@ -58,7 +94,9 @@ impl Fault {
             Letter | Space | Digit | Hexadecimal | Sign | Code => 13,
             BlankFill | MinusZero(_) | Comment => 13,
             Satellite | Date | TrackLength | Elevation | Azimuth | Issue | Channel => 7,
+            Supplied(_) => 7,
             OffStart | Ninetieth | Hour | Minute | Second => 8,
+            OtherSystem => 25,
             Few => 9,
         }
     }
@@ -97,16 +135,9 @@ fn number(line: &[u8], first: usize, last: usize) -> u32 {
     std::str::from_utf8(&line[first - 1..last]).expect("ASCII").parse().expect("digits")
 }
 
-fn check_of(line: &[u8]) -> String {
-    format!("{:02X}", line[..111].iter().map(|byte| u32::from(*byte)).sum::<u32>() % 256)
-}
-
-/// Puts CK right.
+/// Puts CK of a line of ours right.
 pub fn repair(line: &mut [u8]) {
-    if line.len() >= LINE_BYTES {
-        let check = check_of(line);
-        put(line, 112, &check);
-    }
+    OURS.repair(line);
 }
 
 /// A byte that is none of these; those beside them in the table of characters come more often.
@@ -121,9 +152,9 @@ fn other(seeded: &mut Seeded, allowed: impl Fn(u8) -> bool) -> u8 {
 }
 
 /// A column that holds a decimal digit.
-pub fn a_digit(seeded: &mut Seeded) -> usize {
+pub fn a_digit(form: Form, seeded: &mut Seeded) -> usize {
     loop {
-        let column = seeded.range(2, 106) as usize;
+        let column = seeded.range(2, form.last_digit as i64) as usize;
         let signed = SIGNED.iter().any(|(first, _)| *first == column);
         if !signed && !SPACES.contains(&column) && !matches!(column, 5 | 6) {
             return column;
@@ -132,12 +163,13 @@ pub fn a_digit(seeded: &mut Seeded) -> usize {
 }
 
 /// 13: a character that its column does not hold.
-fn spoil_character(line: &mut [u8], fault: Fault, seeded: &mut Seeded) {
+fn spoil_character(form: Form, line: &mut [u8], fault: Fault, seeded: &mut Seeded) {
     let capital = |byte: u8| byte.is_ascii_digit() || byte.is_ascii_uppercase();
     let (column, byte) = match fault {
+        Letter if form == OLD => (1, other(seeded, |byte| byte == b' ')),
         Letter => (1, other(seeded, |byte| b"GRECJ".contains(&byte))),
-        Space => (seeded.pick(&SPACES), other(seeded, |byte| byte == b' ')),
-        Digit => (a_digit(seeded), other(seeded, |byte| byte.is_ascii_digit())),
+        Space => (seeded.pick(&SPACES[..form.spaces]), other(seeded, |byte| byte == b' ')),
+        Digit => (a_digit(form, seeded), other(seeded, |byte| byte.is_ascii_digit())),
         Hexadecimal => (seeded.pick(&[5, 6]), other(seeded, |byte| b"0123456789ABCDEF".contains(&byte))),
         Sign => (seeded.pick(&SIGNED).0, other(seeded, |byte| byte == b'+' || byte == b'-')),
         Code => (seeded.pick(&[108, 109, 110]), other(seeded, capital)),
@@ -147,7 +179,7 @@ fn spoil_character(line: &mut [u8], fault: Fault, seeded: &mut Seeded) {
 }
 
 /// 13: characters that do not go together, or stand in the comment.
-fn spoil_field(line: &mut Vec<u8>, fault: Fault, seeded: &mut Seeded) {
+fn spoil_field(form: Form, line: &mut Vec<u8>, fault: Fault, seeded: &mut Seeded) {
     match fault {
         BlankFill => {
             let (column, text) = seeded.pick(&[(2, " 5"), (14, " 00200"), (21, " 780"), (26, " 50"), (30, "  50")]);
@@ -158,10 +190,10 @@ fn spoil_field(line: &mut Vec<u8>, fault: Fault, seeded: &mut Seeded) {
             put(line, first, &format!("-{:0>1$}", "", last - first));
         }
         Comment => {
-            if line.len() == LINE_BYTES {
+            if line.len() == form.columns {
                 line.push(0);
             }
-            let at = seeded.range(113, line.len() as i64 - 1) as usize;
+            let at = seeded.range(form.columns as i64, line.len() as i64 - 1) as usize;
             line[at] = other(seeded, |byte| (0x20..=0x7E).contains(&byte));
         }
         _ => {}
@@ -169,7 +201,7 @@ fn spoil_field(line: &mut Vec<u8>, fault: Fault, seeded: &mut Seeded) {
 }
 
 /// 7, by numbers that their columns can hold.
-fn spoil_label(line: &mut [u8], fault: Fault, seeded: &mut Seeded) {
+fn spoil_label(form: Form, line: &mut [u8], fault: Fault, seeded: &mut Seeded) {
     let mut outside = |low: i64, high: i64| match seeded.below(3) {
         0 => low,
         1 => high,
@@ -188,6 +220,7 @@ fn spoil_label(line: &mut [u8], fault: Fault, seeded: &mut Seeded) {
         }
         Elevation => put(line, 26, &outside(901, 999).to_string()),
         Azimuth => put(line, 30, &outside(3600, 9999).to_string()),
+        Issue if form == OLD => put(line, 78, &outside(256, 999).to_string()),
         Issue => {
             let (letter, fr, low) =
                 [("R", "01", 97), ("C", "00", 24), ("G", "00", 256), ("J", "00", 256)][outside(0, 3) as usize];
@@ -232,24 +265,25 @@ fn spoil_start(line: &mut [u8], fault: Fault, seeded: &mut Seeded) {
 }
 
 /// 14: CK in small letters, another CK, or what is no hexadecimal digit.
-fn spoil_check(line: &mut [u8], fault: Fault, seeded: &mut Seeded) {
+fn spoil_check(form: Form, line: &mut [u8], fault: Fault, seeded: &mut Seeded) {
+    let column = form.columns - 1;
     match fault {
         SmallCheck => {
-            while !check_of(line).contains(|digit: char| digit.is_ascii_uppercase()) {
-                put(line, 105, &format!("{:02}", seeded.below(100)));
+            while !form.check_of(line).contains(|digit: char| digit.is_ascii_uppercase()) {
+                put(line, form.free, &format!("{:02}", seeded.below(100)));
             }
-            let check = check_of(line).to_lowercase();
-            put(line, 112, &check);
+            let check = form.check_of(line).to_lowercase();
+            put(line, column, &check);
         }
         OtherCheck => {
-            let right = check_of(line);
+            let right = form.check_of(line);
             let sum = u8::from_str_radix(&right, 16).expect("a sum");
             let any = seeded.range(1, 255) as u8;
             let off = seeded.pick(&[1, 2, 16, 32, 255, 128, any]);
-            put(line, 112, &format!("{:02X}", sum.wrapping_add(off)));
+            put(line, column, &format!("{:02X}", sum.wrapping_add(off)));
         }
         NoCheck => {
-            let at = seeded.pick(&[111, 112]);
+            let at = seeded.pick(&[column - 1, column]);
             line[at] = other(seeded, |byte| b"0123456789ABCDEF".contains(&byte));
         }
         _ => {}
@@ -257,13 +291,14 @@ fn spoil_check(line: &mut [u8], fault: Fault, seeded: &mut Seeded) {
 }
 
 /// 12: a line that is cut, or one whose comment goes on.
-fn spoil_length(line: &mut Vec<u8>, fault: Fault, seeded: &mut Seeded) {
-    let any = seeded.below(LINE_BYTES as u64) as usize;
+fn spoil_length(form: Form, line: &mut Vec<u8>, fault: Fault, seeded: &mut Seeded) {
+    let Form { columns, longest, .. } = form;
+    let any = seeded.below(columns as u64) as usize;
     match fault {
-        TooShort => line.truncate(seeded.pick(&[112, 112, 111, 101, 1, 0, any])),
+        TooShort => line.truncate(seeded.pick(&[columns - 1, columns - 1, columns - 2, columns - 12, 1, 0, any])),
         TooLong => {
-            let length = seeded.pick(&[141, 141, 142, 200, 4096, 141 + any]);
-            let more = length - line.len().min(LONGEST_LINE);
+            let length = seeded.pick(&[longest + 1, longest + 1, longest + 2, 200, 4096, longest + 1 + any]);
+            let more = length - line.len().min(longest);
             line.extend(good_comment(seeded, more));
         }
         _ => {}
@@ -290,16 +325,22 @@ pub fn any_room(seeded: &mut Seeded) -> Lent {
     }
 }
 
-/// A good line with these faults in it. What decides later is put in first, so that it is not in the way.
-pub fn faulty_reading(faults: &[Fault], seeded: &mut Seeded) -> (Vec<u8>, Lent) {
-    let mut line = good_line(seeded);
+/// A line with these faults in it. What decides later is put in first, so that it is not in the way.
+pub fn spoilt(form: Form, mut line: Vec<u8>, faults: &[Fault], seeded: &mut Seeded) -> Vec<u8> {
     faults.iter().for_each(|fault| spoil_start(&mut line, *fault, seeded));
-    faults.iter().for_each(|fault| spoil_label(&mut line, *fault, seeded));
-    faults.iter().for_each(|fault| spoil_field(&mut line, *fault, seeded));
-    faults.iter().for_each(|fault| spoil_character(&mut line, *fault, seeded));
-    repair(&mut line);
-    faults.iter().for_each(|fault| spoil_check(&mut line, *fault, seeded));
-    faults.iter().for_each(|fault| spoil_length(&mut line, *fault, seeded));
+    faults.iter().for_each(|fault| spoil_label(form, &mut line, *fault, seeded));
+    faults.iter().for_each(|fault| spoil_field(form, &mut line, *fault, seeded));
+    faults.iter().for_each(|fault| spoil_character(form, &mut line, *fault, seeded));
+    form.repair(&mut line);
+    faults.iter().for_each(|fault| spoil_check(form, &mut line, *fault, seeded));
+    faults.iter().for_each(|fault| spoil_length(form, &mut line, *fault, seeded));
+    line
+}
+
+/// A good line with these faults in it, and room for its values.
+pub fn faulty_reading(faults: &[Fault], seeded: &mut Seeded) -> (Vec<u8>, Lent) {
+    let line = good_line(seeded);
+    let line = spoilt(OURS, line, faults, seeded);
     let lent = if faults.contains(&Few) { too_few(seeded) } else { enough(seeded) };
     (line, lent)
 }

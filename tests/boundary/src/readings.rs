@@ -60,7 +60,7 @@ fn good(compare: &mut Compare, seeded: &mut Seeded) {
 fn likely(compare: &mut Compare, seeded: &mut Seeded) {
     let mut line = good_line(seeded);
     for _ in 0..seeded.range(1, 6) {
-        let column = a_digit(seeded);
+        let column = a_digit(OURS, seeded);
         line[column - 1] = seeded.pick(b"0123456789");
     }
     if seeded.below(4) > 0 {

@@ -179,3 +179,24 @@ pub unsafe extern "C" fn reference_day(
         }
     }
 }
+
+/// # Safety
+/// As reference_block.
+#[no_mangle]
+pub unsafe extern "C" fn reference_down(line: *const u8, line_len: usize, old: *mut u8, old_len: usize) -> u32 {
+    reference::down(bytes(line, line_len), lent(old, old_len))
+}
+
+/// # Safety
+/// As reference_block; `frc` has three bytes.
+#[no_mangle]
+pub unsafe extern "C" fn reference_up(
+    old: *const u8,
+    old_len: usize,
+    hc: u8,
+    frc: &[u8; 3],
+    line: *mut u8,
+    line_len: usize,
+) -> u32 {
+    reference::up(bytes(old, old_len), hc, *frc, lent(line, line_len))
+}

@@ -1,5 +1,6 @@
 //! Track lines in plain Rust: smoothing, correcting, fitting, the start test, the data line, the hire block, a line
-//! read back, line files and the common view of two, delays by date, and a day of blocks at once.
+//! read back, line files and the common view of two, delays by date, a day of blocks at once, the length of a path,
+//! and lines of version 01.
 //!
 //! Written from the papers alone and not from the proved program, so that the two can be compared. Every operation
 //! answers with the papers' refusal numbers, in their order.
@@ -24,6 +25,7 @@ mod schedule;
 pub mod seeded;
 mod track;
 pub mod tuned;
+mod version01;
 mod view;
 pub mod waves;
 pub mod worst;
@@ -38,6 +40,7 @@ pub use path::{path, Point, MOST_COORDINATE};
 pub use reader::{comment, read, read_values, values, LONGEST_LINE, VALUES};
 pub use schedule::{start, FIRST_MJD, LAST_MJD};
 pub use track::{track, Columns, Delays, Numbers, Record, BLOCK_SECONDS, MOST_SECONDS};
+pub use version01::{down, up, LONGEST_OLD, OLD_BYTES};
 pub use view::{common_view, view_values, View, LONGEST_FILE, REPORT_VALUES};
 
 /// Whether v lies within plus or minus the limit.

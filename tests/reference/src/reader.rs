@@ -9,7 +9,7 @@ pub const LONGEST_LINE: usize = 140;
 /// Labels and numbers as C gets them.
 pub const VALUES: usize = 23;
 
-type Columns = [u8; LINE_BYTES];
+pub(crate) type Columns = [u8; LINE_BYTES];
 
 /// What may stand in columns 1 to 111: L a constellation's letter, d a digit, x a capital hexadecimal digit, s a sign,
 /// c a capital letter or a digit. Any other character stands for itself.
@@ -47,7 +47,7 @@ fn is_minus_zero(field: &[u8]) -> bool {
 }
 
 /// Every character is one that its column may hold.
-fn characters_fit(columns: &Columns, comment: &[u8]) -> bool {
+pub(crate) fn characters_fit(columns: &Columns, comment: &[u8]) -> bool {
     PICTURE.iter().zip(columns).all(|(kind, byte)| allowed(*kind, *byte))
         && !SIGNED.iter().any(|place| is_minus_zero(field(columns, *place)))
         && comment.iter().all(|byte| (0x20..=0x7E).contains(byte))
@@ -79,7 +79,7 @@ fn clock(columns: &Columns) -> (u32, u32, u32) {
     (part(14), part(16), part(18))
 }
 
-fn labels(columns: &Columns) -> Labels {
+pub(crate) fn labels(columns: &Columns) -> Labels {
     let number = |first: usize, last: usize| decimal(field(columns, (first, last)));
     let (hour, minute, second) = clock(columns);
     Labels {
@@ -97,7 +97,7 @@ fn labels(columns: &Columns) -> Labels {
     }
 }
 
-fn numbers(columns: &Columns) -> Numbers {
+pub(crate) fn numbers(columns: &Columns) -> Numbers {
     let unsigned = |first: usize, last: usize| decimal(field(columns, (first, last))) as i64;
     let [refsv, srsv, refsys, srsys, smdt, smdi] = SIGNED.map(|place| signed(field(columns, place)));
     Numbers {
@@ -115,7 +115,7 @@ fn numbers(columns: &Columns) -> Numbers {
 }
 
 /// The clock shows a time of day, whatever its parts would add up to, and a track of that day starts then.
-fn starts(columns: &Columns, labels: &Labels) -> bool {
+pub(crate) fn starts(columns: &Columns, labels: &Labels) -> bool {
     let (hour, minute, second) = clock(columns);
     hour <= 23 && minute <= 59 && second <= 59 && start(labels.mjd, labels.start) == 0
 }

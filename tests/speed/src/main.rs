@@ -4,7 +4,7 @@
 //!     speed once PART            one call of each on one input that is refused behind a part, for instructions.sh
 //!
 //! First full blocks that are accepted, 10,000 unless another number is given, and as many blocks of the shortest tracks, then ten
-//! lines for each block, read back, and ten paths. Each time the same blocks and lines follow, spoilt so that they are refused at one stage: what
+//! lines for each block, read back, ten lines of version 01 each way, and ten paths. Each time the same blocks and lines follow, spoilt so that they are refused at one stage: what
 //! one stage costs more than the stage before it is the cost of the work between them. Last, pairs of line files of as
 //! many lines as there were blocks, and of twice as many, are merged, and the common view is taken of others of as many lines and
 //! of half as many; and a date is looked up in stores of 10 and of 1000 entries, and an entry appended to stores of 999; and the
@@ -25,6 +25,7 @@ mod read_stages;
 mod stages;
 mod stores;
 mod timing;
+mod version01;
 
 use measurements::MEASUREMENTS;
 use read_stages::READ_STAGES;
@@ -118,6 +119,7 @@ fn main() {
     READ.split(4 * count, &lines, &READ_STAGES);
     COMMENT.agree(&lines, Some(LINE_BYTES as u32));
     COMMENT.whole(count, &lines);
+    version01::run(count, 10 * number as usize, &mut Seeded::new(or(2, 1)));
     paths::run(count, 10 * number as usize, &mut Seeded::new(or(2, 1)));
     drop(lines);
     files::run(count, number as usize, &mut seeded);

@@ -1,13 +1,17 @@
 -- `reading::read` meets its contract: what the characters and then the values are refused for, else what stands in the columns.
 -- Assumes nothing.
-use mathlib.Core.Path.{_≡_, sym, _∙_}
+use mathlib.Core.Path.{_≡_, sym, ap₂, _∙_}
 use Prim.Native.Nat.{ℕ, _<_}
 use native.Mathlib.Omega.{arith}
 use Rattle.limits.proofs.Laws.{then-passed}
 use Rattle.characters.specs.Kinds.{kinds}
 use Rattle.characters.specs.Characters.{charactersNumber}
 use Rattle.characters.proofs.Spelled.{spelled}
-use Rattle.reading.specs.Read.{readNumber}
+use Rattle.labels.specs.declared.Labels.{Labels}
+use Rattle.limits.specs.declared.Numbers.{Numbers}
+use Rattle.columns.specs.Columns.{readLabels, readNumbers}
+use Rattle.reading.specs.Read.{valuesNumber, readNumber}
+use Rattle.reading.proofs.Columns.{shared}
 use Rattle.reading.proofs.Refusals.{reply-characters, reply-values, reply-line}
 use borrow.Author.Needs.{needs}
 use Rattle.reading.proofs.read.Statement.{statement}
@@ -31,22 +35,29 @@ labels-requires : tie.Need-labels-requires
 labels-requires c κs = spelled _ (passed c) .columns
 
 numbers-requires : tie.Need-numbers-requires
-numbers-requires c κs = spelled _ (passed (c .before)) .columns
+numbers-requires c κs = shared _ (spelled _ (passed (c .before)) .columns)
 
 values-refusal-requires : tie.Need-values-refusal-requires
-values-refusal-requires c κs = (spelled _ (passed (c .before .before)) .columns, (c .before .labels .ensures, c .numbers .ensures))
+values-refusal-requires c κs = (shared _ (spelled _ (passed (c .before .before)) .columns), c .numbers .ensures)
+
+-- the row is that of what stands in the line
+own-values : (c : tie.After-values-refusal) → let line = c .before .before .before .before .before .before .args .line .now in
+    c .values-refusal .result ≡ valuesNumber (readLabels line) (readNumbers line) line
+own-values c =
+    let line = c .before .before .before .before .before .before .args .line .now in
+    c .values-refusal .ensures ∙ ap₂ (λ (l : Labels) (n : Numbers). valuesNumber l n line) (c .before .before .labels .ensures) (c .before .numbers .ensures)
 
 returns-2 : tie.Need-returns-2
 returns-2 c =
     let v = c .before in
-    (reply-values _ (passed (v .before .before .before)) (v .values-refusal .ensures) (some (c .if2 .taken)), some (c .if2 .taken))
+    (reply-values _ (passed (v .before .before .before)) (own-values v) (some (c .if2 .taken)), some (c .if2 .taken))
 
 returns-3 : tie.Need-returns-3
 unfolding readNumber
 returns-3 c =
     let v = c .before in
     let e = v .before .before .before in
-    (reply-line _ (then-passed _ _ (passed e) ∙ sym (v .values-refusal .ensures) ∙ c .if2 .left) (v .before .before .labels .ensures) (v .before .numbers .ensures), tt)
+    (reply-line _ (then-passed _ _ (passed e) ∙ sym (own-values v) ∙ c .if2 .left) (v .before .before .labels .ensures) (v .before .numbers .ensures), tt)
 
 pub read-spec : {M : Type 1} → statement M
 read-spec =

@@ -1,9 +1,11 @@
 -- `reading::values_refusal` meets its contract: the row of tests is the rule's, for a line whose characters are those of its columns.
 -- Assumes nothing.
-use mathlib.Core.Path.{ap, ap₂, _∙_}
+use mathlib.Core.Path.{sym, ap, ap₂, _∙_}
 use mathlib.Core.Bool.{Bool}
 use Rattle.limits.specs.Refusal.{_when_, _then_}
 use Rattle.labels.specs.Content.{contentRule}
+use Rattle.limits.specs.declared.Numbers.{Numbers}
+use Rattle.reading.specs.Read.{valuesNumber}
 use Rattle.reading.proofs.Refusals.{values-row}
 use borrow.Author.Needs.{needs}
 use Rattle.reading.proofs.values_refusal.Statement.{statement}
@@ -39,9 +41,10 @@ returns c =
     c .then2 .ensures
     ∙ ap₂ _then_ (minus .when .ensures ∙ ap (λ (t : Bool). 13 when t) (minus .before .minus-zero .ensures))
     (c .before .«then» .ensures
-    ∙ ap₂ _then_ (label .refusal .ensures ∙ ap₂ contentRule (s .pre .1 .0) (s .pre .1 .1))
+    ∙ ap₂ _then_ (label .refusal .ensures ∙ ap (contentRule (s .args .labels)) (s .pre .1))
     (clock .when2 .ensures ∙ ap (λ (t : Bool). 8 when t) (clock .before .clock-beyond .ensures)))
-    ∙ values-row (s .args .line .now) (s .pre .0)
+    ∙ values-row (s .args .line .now) (s .pre .0) (s .args .labels)
+    ∙ ap (λ (n : Numbers). valuesNumber (s .args .labels) n (s .args .line .now)) (sym (s .pre .1))
 
 pub values-refusal-spec : {M : Type 1} → statement M
 values-refusal-spec =

@@ -48,7 +48,7 @@ impl Compare {
         let told = answer.as_ref().map(|_| ()).map_err(|offence| (offence.number, offence.block));
         if told != expected {
             eprintln!("{family}: the answer is {expected:?}, and the plain Rust implementation gives {told:?}");
-            self.differences += 1;
+            self.shown();
         }
         if let Ok(file) = answer {
             let lines: Vec<u8> = set.iter().flat_map(|block| line_of(block)).collect();

@@ -11,6 +11,7 @@ mod shifting;
 mod short;
 mod steps;
 mod text;
+mod version01;
 mod viewing;
 
 use crate::{block_bytes, Columns, Delays, Labels, Record, BLOCK_SECONDS, MOST_BLOCKS};

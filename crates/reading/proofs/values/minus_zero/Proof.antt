@@ -10,13 +10,13 @@ use Rattle.reading.specs.Read.{isMinusZero}
 use Rattle.reading.proofs.Signs.{minus-zero-is}
 use native.Mathlib.Omega.{arith}
 use Prim.Native.Nat.{_≤_}
-use Rattle.reading.proofs.Columns.{column-count}
+use Rattle.reading.proofs.Columns.{shared-count}
 use borrow.Author.Needs.{needs}
 use Rattle.reading.proofs.values.minus_zero.Statement.{statement}
 use Rattle.reading.proofs.values.minus_zero.Tie as tie
 
-long : (c : tie.Start) → 111 ≤ length (c .args .line .now)
-long c = column-count (c .args .line .now) (c .pre .0)
+long : (c : tie.Start) → 101 ≤ length (c .args .line .now)
+long c = shared-count (c .args .line .now) (c .pre .0)
 
 -- each number reads back from its bits
 numbers-fit : (c : tie.Start) → SFits w64 (c .args .numbers .refsv)

@@ -2,7 +2,7 @@
 -- Assumes nothing.
 use native.Mathlib.Omega.{arith}
 use lib.Dec.{lit≤}
-use Rattle.columns.specs.Columns.{readLabels}
+use Rattle.columns.specs.Columns.{labelsWith, readLabels}
 use Rattle.reading.proofs.Columns.{columns-of, at-most, time-bounds}
 use Rattle.reading.proofs.values.start.Statement.{statement}
 use Rattle.reading.proofs.values.start.Tie as tie
@@ -31,7 +31,7 @@ add-result-2 c =
     omega (arith, c .before .before .decimal32 .ensures, c .before .decimal322 .ensures, c .decimal323 .ensures, time-bounds (s .args .line .now) (s .pre))
 
 returns : tie.Need-returns
-unfolding readLabels
+unfolding readLabels labelsWith
 returns c = omega (arith, c .before .before .decimal32 .ensures, c .before .decimal322 .ensures, c .decimal323 .ensures)
 
 pub start-spec : {M : Type 1} → statement M

@@ -1,0 +1,2 @@
+-- What must be believed: the two conversions.
+pub mod Convert
