@@ -1,5 +1,7 @@
-"""Hire blocks for tests, byte by byte from the layout in the paper; nothing here is shared with the tools."""
+"""Hire blocks and stores of delays for tests, byte by byte from the layouts in the papers; nothing here is shared with the tools."""
 import struct
+
+from papers import with_check
 
 LENGTH = 8378
 # of a track of n blocks of 15 seconds, n from 4 to 52: its bytes, its measurements, and where its corrections begin
@@ -11,8 +13,16 @@ AT = {'measurements size': (0, 2), 'groups size': (2, 2), 'constellation': (4, 1
 DELAYS = {'INT': 26, 'CAB': 34, 'REF': 42, 'GD': 50}
 COLUMNS = {'geometry': 0, 'relativity': 8, 'ionosphere': 16, 'troposphere': 24, 'clock': 32}
 
+# the lines of the blocks in examples/, written out by hand
 SAMPLE_LINE = (b'G05 FF 50722 000200 0780 450 1800 +0000000010 +00000 +0000000010 +00000 0000 007 0000 +000 0000 +000 '
                b'00 00 L1C 26\r\n')
+WORKED_LINE = (b'G17 FF 60600 133000 0780 583 2145 +0001233431 +00009 -0000000315 -00041 0003 087 0097 +005 0202 -021 '
+               b'00 05 L1C 8C\r\n')
+SHORT_LINE = (b'G23 FF 60600 134600 0300 103 3021 +0001203805 -00039 -0000000112 -00089 0004 041 0558 +267 0390 +073 '
+              b'00 07 L1C 92\r\n')
+# the last digits of REFSYS and DSG are those of tenths of a ps
+CHANGED_LINE = (b'G17 FF 60600 133000 0780 583 2145 +0001233431 +00009 -0000000314 -00041 0002 087 0097 +005 0202 -021 '
+                b'00 05 L1C 8A\r\n')
 
 
 def put(block, part, value):
@@ -54,9 +64,15 @@ def block(changes=(), groups=52, **lists):
 
 def line(columns):
     """A line as it is printed: 111 columns, a space among them at the end, the checksum and the line end."""
-    text = columns.encode() + b' '
-    assert len(text) == 111, len(text)
-    return text + b'%02X\r\n' % (sum(text) % 256)
+    assert len(columns + ' ') == 111, columns
+    return with_check(columns + ' ').encode() + b'\r\n'
+
+
+def packed_store(version, *entries):
+    """A store of delays by document 02's layout, whatever its entries are: each its start and its delays."""
+    wide = 3 if version == 1 else 4
+    parts = [struct.pack('<HH', version, len(entries))] + [struct.pack('<I', start) for start, *_ in entries]
+    return b''.join(parts + [struct.pack('<%dq' % wide, *delays[:wide]) for _, *delays in entries])
 
 
 def scattered(size, groups=52):

@@ -13,13 +13,16 @@ import re
 import sys
 
 from blocks import AT, COLUMNS, DELAYS, LENGTH, OF
+from papers import FIRST_MJD, FR, IOE, LAST_MJD, RANGES
 
 ROOT = pathlib.Path(__file__).resolve().parent.parent
+# the header's names for the most of some fields
+MOST = {'SATELLITE': 'SAT', 'HC': 'HC', 'ELV': 'ELV', 'AZTH': 'AZTH', 'MIDPOINT': 'REFSV', 'SLOPE': 'SRSV', 'DELAY_SLOPE': 'SMDT',
+        'DELAY': 'MDTR', 'DSG': 'DSG'}
 # the limits, as documents 01 and 02 have them
-LIMITS = {'MOST_MEASUREMENT': 10 ** 12, 'MOST_GEOMETRY': 2 * 10 ** 11, 'MOST_CORRECTION': 10 ** 10, 'MOST_COORDINATE': 5 * 10 ** 10, 'FIRST_MJD': 50722, 'LAST_MJD': 99999,
-          'LEAST_SATELLITE': 1, 'MOST_SATELLITE': 99, 'MOST_HC': 99, 'LEAST_FR_R': 1, 'MOST_FR_R': 24, 'MOST_ELV': 900, 'MOST_AZTH': 3599,
-          'MOST_IOE_G': 255, 'MOST_IOE_J': 255, 'MOST_IOE_E': 999, 'MOST_IOE_C': 23, 'LEAST_IOE_R': 1, 'MOST_IOE_R': 96,
-          'MOST_MIDPOINT': 10 ** 10 - 1, 'MOST_SLOPE': 99999, 'MOST_DELAY_SLOPE': 999, 'MOST_DELAY': 9999, 'MOST_DSG': 9999}
+LIMITS = {'MOST_MEASUREMENT': 10 ** 12, 'MOST_GEOMETRY': 2 * 10 ** 11, 'MOST_CORRECTION': 10 ** 10, 'MOST_COORDINATE': 5 * 10 ** 10,
+          'FIRST_MJD': FIRST_MJD, 'LAST_MJD': LAST_MJD, 'LEAST_SATELLITE': RANGES['SAT'][0], **{'MOST_' + name: RANGES[MOST[name]][1] for name in MOST},
+          **{'MOST_IOE_' + letter: IOE[letter][1] for letter in IOE}, 'LEAST_IOE_R': IOE['R'][0], 'LEAST_FR_R': FR['R'][0], 'MOST_FR_R': FR['R'][1]}
 # a store of delays, as document 02 has it: version and count of 16 bits, starts of 32, and 3 or 4 delays an entry
 STORE = {'STORE_MOST_ENTRIES': 1000, 'STORE_AT_VERSION': 0, 'STORE_WIDTH_VERSION': 2, 'STORE_AT_COUNT': 2, 'STORE_WIDTH_COUNT': 2,
          'STORE_AT_STARTS': 4, 'STORE_WIDTH_START': 4, 'STORE_GROUP_1': 3, 'STORE_GROUP_2': 4, 'STORE_MOST_BYTES': 2 + 2 + 1000 * (4 + 4 * 8)}

@@ -51,9 +51,17 @@ def check(prose, track, wanted):
     """How many figures the prose has, and what is wrong with them."""
     faults, formulas = check_formulas(prose, track)
     text = ' '.join(' '.join(row for row in prose if row not in formulas).split())
-    covered = [found.span() for found in re.finditer(r'`[^`]*`', text)]
+    figures, more = figures_in(text, wanted)
+    return figures + sum(len(re.findall(r'\d+', row)) for row in formulas), faults + more
+
+
+def figures_in(text, wanted, before=()):
+    """How many figures a text has, and what is wrong with them: each phrase has to stand there, not behind one of these
+    characters, and each figure in a phrase or between backquotes."""
+    covered, faults = [found.span() for found in re.finditer(r'`[^`]*`', text)], []
     for phrase in wanted:
-        spans = [found.span() for found in re.finditer(re.escape(phrase) + r'(?![\d/])', text)]
+        spans = [found.span() for found in re.finditer(re.escape(phrase) + r'(?![\d/])', text)
+                 if text[found.start() - 1:found.start()] not in before]
         covered += spans
         if not spans:
             faults.append('not in the prose: %s' % phrase)
@@ -62,7 +70,7 @@ def check(prose, track, wanted):
         if not any(start <= figure.start() and figure.end() <= end for start, end in covered):
             around = text[max(0, figure.start() - 30):figure.end() + 30]
             faults.append('not worked out: %s in "..%s.."' % (figure.group(), around))
-    return len(figures) + sum(len(re.findall(r'\d+', row)) for row in formulas), faults
+    return len(figures), faults
 
 
 # ---- the formulas of the track

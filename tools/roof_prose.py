@@ -5,8 +5,9 @@ prose has to stand in one, in a name between backquotes, or in the unit 0.1 ns. 
 and what is typed; tests/cggtts/test_view.py runs them.
 """
 import decimal
-import re
 from fractions import Fraction
+
+from lastdigit_prose import figures_in
 
 # the last rounding of a REFSYS, and what is promised of it, in 0.1 ns
 ROUNDING, PROMISE = Fraction(1, 2), Fraction(5005, 10000)
@@ -20,20 +21,7 @@ CABLE = Fraction(505, 100)
 def check(document, wanted):
     """How many figures the prose has, and what is wrong with them."""
     prose = ' '.join(' '.join(row for row in document.splitlines() if not row.startswith('    ')).split())
-    covered = [found.span() for found in re.finditer(r'`[^`]*`', prose)]
-    faults = []
-    for phrase in (*wanted, *UNITS):
-        spans = [found.span() for found in re.finditer(re.escape(phrase) + r'(?![\d/])', prose)
-                 if prose[found.start() - 1:found.start()] not in PARTS]
-        covered += spans
-        if not spans:
-            faults.append('not in the prose: %s' % phrase)
-    figures = list(re.finditer(r'\d+(?:\.\d+)?', prose))
-    for figure in figures:
-        if not any(start <= figure.start() and figure.end() <= end for start, end in covered):
-            around = prose[max(0, figure.start() - 30):figure.end() + 30]
-            faults.append('not worked out: %s in "..%s.."' % (figure.group(), around))
-    return len(figures), faults
+    return figures_in(prose, (*wanted, *UNITS), PARTS)
 
 
 def decimals(fraction, places=None):

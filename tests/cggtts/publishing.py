@@ -1,16 +1,12 @@
 """Files as laboratories publish them, made and read here without the library, for the tests of cggtts convert."""
+import pathlib
 import re
+import sys
 
-# name, first and last column, as document 000 numbers them
-FIELDS = (('SAT', 2, 3), ('CL', 5, 6), ('MJD', 8, 12), ('STTIME', 14, 19), ('TRKL', 21, 24), ('ELV', 26, 28), ('AZTH', 30, 33),
-          ('REFSV', 35, 45), ('SRSV', 47, 52), ('REFSYS', 54, 64), ('SRSYS', 66, 71), ('DSG', 73, 76), ('IOE', 78, 80),
-          ('MDTR', 82, 85), ('SMDT', 87, 90), ('MDIO', 92, 95), ('SMDI', 97, 100), ('FR', 102, 103), ('HC', 105, 106), ('FRC', 108, 110))
-SIGNED = ('REFSV', 'SRSV', 'REFSYS', 'SRSYS', 'SMDT', 'SMDI')
+sys.path.insert(0, str(pathlib.Path(__file__).resolve().parent.parent))
+from papers import FIELDS, LENGTHS, SIGNED, checksum, is_start, line_of, ranges_of  # noqa: E402
+
 UNSIGNED = ('SAT', 'MJD', 'STTIME')
-LIMITS = {'SAT': (1, 99), 'MJD': (50722, 99999), 'ELV': (0, 900), 'AZTH': (0, 3599), 'REFSV': (-9999999999, 9999999999),
-          'SRSV': (-99999, 99999), 'REFSYS': (-9999999999, 9999999999), 'SRSYS': (-99999, 99999), 'DSG': (0, 9999), 'MDTR': (0, 9999),
-          'SMDT': (-999, 999), 'MDIO': (0, 9999), 'SMDI': (-999, 999), 'HC': (0, 99)}
-IOE = {'R': (1, 96), 'C': (0, 23), 'G': (0, 255), 'J': (0, 255), 'E': (0, 999)}
 HEADING = ('SAT CL  MJD  STTIME TRKL ELV AZTH   REFSV      SRSV     REFSYS    SRSYS  DSG IOE MDTR SMDT MDIO SMDI FR HC FRC CK',
            '             hhmmss  s  .1dg .1dg    .1ns     .1ps/s     .1ns    .1ps/s .1ns     .1ns.1ps/s.1ns.1ps/s')
 HEADER = ('CGGTTS     GENERIC DATA FORMAT VERSION = 2E', 'REV DATE = 2014-02-20', 'RCVR = RRRRRRRR', 'CH = 12', 'IMS = 99999', 'LAB = ABC',
@@ -18,15 +14,10 @@ HEADER = ('CGGTTS     GENERIC DATA FORMAT VERSION = 2E', 'REV DATE = 2014-02-20'
           'SYS DLY = 237.0 ns (GPS C1)     CAL_ID = 1nnn-yyyy', 'REF DLY = 149.6 ns', 'REF = UTC(ABC)')
 
 
-def with_check(columns):
-    """The columns with their CK behind them."""
-    return columns + '%02X' % (sum(columns.encode('latin-1')) % 256)
-
-
 def header(lines=HEADER, heading=HEADING):
     """The lines of a header with its CKSUM, and the two that head the columns."""
     text = ''.join(lines) + 'CKSUM = '
-    return [*lines, 'CKSUM = %02X' % (sum(text.encode('latin-1')) % 256), '', *heading]
+    return [*lines, 'CKSUM = ' + checksum(text), '', *heading]
 
 
 def columns_of(letter, texts):
@@ -51,10 +42,6 @@ def filled(letter, values, pick):
     return columns_of(letter, texts)
 
 
-def is_start(mjd, second):
-    return second % 60 == 0 and second // 60 in {(2 + 16 * i - 4 * (mjd - 50722)) % 1436 for i in range(89)}
-
-
 def number_in(name, letter, text):
     """The number in a field's columns, or None where there is none or nines stand for it."""
     known = name in ('SAT', 'MJD', 'HC') or (name, letter) == ('IOE', 'E')
@@ -65,7 +52,7 @@ def number_in(name, letter, text):
 
 
 def limits_of(name, letter):
-    return {'IOE': IOE[letter], 'FR': (1, 24) if letter == 'R' else (0, 0)}.get(name) or LIMITS.get(name, (-9999, 999999))
+    return ranges_of(letter).get(name, (-9999, 999999))
 
 
 def values_in(line, codes, fields=FIELDS):
@@ -91,15 +78,13 @@ def in_limits(letter, found):
     hour, minute, second = clock // 10000, clock // 100 % 100, clock % 100
     return (all(low <= found[name] <= high for name, (low, high) in
                 ((name, limits_of(name, letter)) for name, _, _ in FIELDS if name not in ('CL', 'FRC')))
-            and found['TRKL'] in range(60, 781, 15) and hour < 24 and minute < 60 and second < 60
+            and found['TRKL'] in LENGTHS and hour < 24 and minute < 60 and second < 60
             and is_start(found['MJD'], 3600 * hour + 60 * minute + second))
 
 
 def ours(letter, found):
     """The line of the values in our form."""
-    text = '%s%02d %02X %05d %06d %04d %03d %04d %+011d %+06d %+011d %+06d %04d %03d %04d %+04d %04d %+04d %02d %02d %s ' % (
-        letter, *(found[name] for name, _, _ in FIELDS))
-    return with_check(text)
+    return line_of(letter, [found[name] for name, _, _ in FIELDS])
 
 
 # SAT, CL and MJD at the beginning of a data line of any version, anywhere in a text
@@ -109,7 +94,7 @@ BEGINS = re.compile(r'[A-Za-z0-9 ][A-Za-z0-9 ][0-9] [A-Za-z0-9 ][0-9A-Fa-f] [0-9
 def check_fits(line, columns):
     """Whether the two digits behind so many columns are their sum."""
     check = line[columns:columns + 2]
-    return re.fullmatch('[0-9A-Fa-f]{2}', check) is not None and int(check, 16) == sum(line[:columns].encode('latin-1')) % 256
+    return check.upper() == checksum(line[:columns])
 
 
 def taken_up(line, supplied):

@@ -17,22 +17,17 @@ import stat
 import struct
 import subprocess
 import sys
-import tempfile
 import unittest
 
 ROOT = pathlib.Path(__file__).resolve().parent.parent.parent
 sys.path.insert(0, str(ROOT / 'tests'))
-from blocks import SAMPLE_LINE, block, scattered  # noqa: E402
+from blocks import CHANGED_LINE, SAMPLE_LINE, SHORT_LINE, WORKED_LINE, block, scattered  # noqa: E402
+from papers import starts, with_check  # noqa: E402
+from scratch import Scratch  # noqa: E402
 
 PROGRAM = os.environ.get('CGGTTS', str(ROOT / 'target' / 'cggtts' / 'cggtts'))
 SAMPLE, WORKED, SHORT = 'examples/sample.blk', 'examples/worked.blk', 'examples/short.blk'
 CHANGED = 'examples/changed.blk'
-WORKED_LINE = (b'G17 FF 60600 133000 0780 583 2145 +0001233431 +00009 -0000000315 -00041 0003 087 0097 +005 0202 -021 '
-               b'00 05 L1C 8C\r\n')
-SHORT_LINE = (b'G23 FF 60600 134600 0300 103 3021 +0001203805 -00039 -0000000112 -00089 0004 041 0558 +267 0390 +073 '
-              b'00 07 L1C 92\r\n')
-CHANGED_LINE = (b'G17 FF 60600 133000 0780 583 2145 +0001233431 +00009 -0000000314 -00041 0002 087 0097 +005 0202 -021 '
-                b'00 05 L1C 8A\r\n')
 MEANINGS = {1: "the block's two sizes are not 15 n and n, n from 4 to 52",
             2: 'a measurement, a correction or a delay is beyond its limit',
             3: 'REFSV or REFSYS has more than ten digits',
@@ -73,18 +68,6 @@ def length_told(data):
     what = '%d missing' % -over if over < 0 else '%d too many' % over
     return rows + ['its sizes, %d and %d, make %d: %s' % (measurements, groups, 58 + 160 * groups, what)
                    + ', as if another block followed: cggtts day takes several' * (over >= 4 and data[-over:][:4] == data[:4])]
-
-
-class Scratch(unittest.TestCase):
-    def setUp(self):
-        folder = tempfile.TemporaryDirectory()
-        self.addCleanup(folder.cleanup)
-        self.folder = pathlib.Path(folder.name)
-
-    def kept(self, name, data):
-        path = self.folder / name
-        path.write_bytes(data)
-        return path
 
 
 class Use(Scratch):
@@ -290,9 +273,10 @@ int close(int file)
 '''
 
 
-# A signal in the midst of writing.
+# A signal in the midst of writing: SIGTERM, or the one whose number is in SIGNAL.
 SIGNAL_IN_WRITE = '''
 #include <signal.h>
+#include <stdlib.h>
 #include <sys/syscall.h>
 #include <unistd.h>
 ssize_t write(int file, const void *bytes, size_t count)
@@ -301,7 +285,8 @@ ssize_t write(int file, const void *bytes, size_t count)
     if (file > 2 && !once++) {
         count = 50;
         syscall(SYS_write, file, bytes, count);
-        kill(getpid(), SIGTERM);
+        const char *number = getenv("SIGNAL");
+        kill(getpid(), number == NULL ? SIGTERM : atoi(number));
         return 50;
     }
     return syscall(SYS_write, file, bytes, count);
@@ -311,19 +296,13 @@ ssize_t write(int file, const void *bytes, size_t count)
 
 class System(Scratch):
     def test_a_signal_leaves_no_part_behind(self):
-        shim, out = self.folder / 'shim.so', self.folder / 'lines'
-        subprocess.run([os.environ.get('CC', 'cc'), '-shared', '-fPIC', '-xc', '-', '-o', shim], input=SIGNAL_IN_WRITE,
-                       text=True, check=True)
-        environment = dict(os.environ, LD_PRELOAD=str(shim))
+        environment, out = self.shim(SIGNAL_IN_WRITE), self.folder / 'lines'
         self.assertEqual(run('line', '-o', out, SAMPLE, WORKED, env=environment), (-signal.SIGTERM, b'', ''))
         self.assertEqual(sorted(os.listdir(self.folder)), ['lines', 'shim.so'])
         self.assertEqual(out.read_bytes(), SAMPLE_LINE + WORKED_LINE)
 
     def test_a_failed_close_is_noticed(self):
-        shim = self.folder / 'shim.so'
-        subprocess.run([os.environ.get('CC', 'cc'), '-shared', '-fPIC', '-xc', '-', '-o', shim], input=FAILING_CLOSE,
-                       text=True, check=True)
-        environment = dict(os.environ, LD_PRELOAD=str(shim))
+        environment = self.shim(FAILING_CLOSE)
         self.assertEqual(run('line', SAMPLE, env=environment),
                          (2, b'', 'cggtts: examples/sample.blk: Input/output error\n'))
         out = self.kept('lines', b'as it was')
@@ -591,15 +570,10 @@ class Check(Scratch):
 
 
 class Starts(unittest.TestCase):
-    def rule(self, mjd):
-        """Track i starts at minute 2 + 16(i - 1) - 4n, brought into 0 to 1435 by whole 1436 minutes."""
-        minutes = sorted((2 + 16 * (i - 1) - 4 * (mjd - 50722)) % 1436 for i in range(1, 90))
-        return ''.join('%02d%02d00\n' % divmod(minute, 60) for minute in minutes).encode()
-
     def test_by_the_rule(self):
         """All dates until the starts come again, and a date of every 997."""
         for mjd in (*range(50722, 50722 + 360), *range(50722, 100000, 997), 99998, 99999):
-            self.assertEqual(run('starts', mjd), (0, self.rule(mjd), ''), mjd)
+            self.assertEqual(run('starts', mjd), (0, ''.join(start + '\n' for start in starts(mjd)).encode(), ''), mjd)
 
     def test_by_hand(self):
         self.assertTrue(run('starts', 50722)[1].startswith(b'000200\n001800\n003400\n'))
@@ -651,7 +625,7 @@ def line_with(changes=(), columns=SAMPLE_COLUMNS):
     """A line with other texts from their columns on, and the CK of that, worked out here."""
     for column, text in changes:
         columns = columns[:column - 1] + text + columns[column - 1 + len(text):]
-    return columns + '%02X' % (sum(columns.encode('latin-1')) % 256)
+    return with_check(columns)
 
 
 class Read(Scratch):

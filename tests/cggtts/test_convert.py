@@ -10,7 +10,8 @@ import re
 import subprocess
 import unittest
 
-from publishing import FIELDS, HEADER, HEADING, SIGNED, columns_of, filled, header, taken, with_check
+from publishing import HEADER, HEADING, columns_of, filled, header, taken
+from papers import FIELDS, SIGNED, start_minutes, with_check
 from test_cggtts import MEANINGS, PROGRAM, ROOT, Scratch, run
 from test_merge import A, B, D, E, F, LINES, NO_HEADER, advised, by_keys, ended
 
@@ -467,7 +468,7 @@ class Generated(Scratch):
     FILES, RUNS, CODES, SUPPLIED = 100, 100, {' E1': 'E1C', 'B1i': 'B1I'}, (7, 'L1P')
     # no two letters have a satellite in common, as lines of version 01 have no letter
     KEYS = [(mjd, minute, letter, satellite + place) for mjd in (57000, 57001)
-            for minute in sorted((2 + 16 * i - 4 * (mjd - 50722)) % 1436 for i in range(89))
+            for minute in start_minutes(mjd)
             for place, letter in enumerate('CEGJR') for satellite in (1, 6, 11, 40, 95)]
 
     def line(self, pick, key):

@@ -18,6 +18,7 @@ import time
 import unittest
 
 from test_cggtts import MEANINGS, PROGRAM, ROOT, SAMPLE_COLUMNS, Scratch, block, line_with, run
+from papers import second_of, start_minutes, starts
 
 DAY, LINES = 'examples/oneday.blk', 'examples/oneday.cggtts'
 # so many blocks go to the library at once
@@ -26,9 +27,8 @@ PART = 4096
 
 def track(clock, satellite, mjd=50722, groups=4, **more):
     """The sample's block with other keys."""
-    start = 3600 * int(clock[:2]) + 60 * int(clock[2:4]) + int(clock[4:])
     changes = {'constellation': ord(satellite[0]), 'satellite': int(satellite[1:]), 'FR': int(satellite[0] == 'R'), 'MJD': mjd,
-               'start': start}
+               'start': second_of(clock)}
     return block({**changes, **more}, groups=groups)
 
 
@@ -93,7 +93,7 @@ class Accepted(Scratch):
     def test_as_line_makes_them(self):
         pick = random.Random(10)
         for _ in range(20):
-            keys = sorted({('%02d%02d00' % divmod(2 + 16 * pick.randrange(89), 60), 'G%02d' % pick.randrange(1, 100))
+            keys = sorted({(pick.choice(starts(50722)), 'G%02d' % pick.randrange(1, 100))
                            for _ in range(pick.randrange(1, 9))})
             names = [self.kept('b%d' % i, track(*key, groups=pick.randrange(4, 53))) for i, key in enumerate(keys)]
             status, lines, said = run('line', *names)
@@ -221,12 +221,12 @@ class Sorted(Scratch):
 def many(count):
     """So many short blocks in order, and their lines: all satellites of a start, then the next start."""
     base, blocks, lines = bytearray(track('000200', 'G01')), [], []
+    minutes, clocks = start_minutes(50722), starts(50722)
     for i in range(count):
-        start = 120 + 960 * (i // 99)
         base[5] = 1 + i % 99
-        struct.pack_into('<I', base, 16, start)
+        struct.pack_into('<I', base, 16, 60 * minutes[i // 99])
         blocks.append(bytes(base))
-        lines.append(ended('%02d%02d00' % (start // 3600, start // 60 % 60), 'G%02d' % (1 + i % 99)))
+        lines.append(ended(clocks[i // 99], 'G%02d' % (1 + i % 99)))
     return blocks, lines
 
 

@@ -10,23 +10,16 @@ import datetime
 import os
 import random
 import stat
-import struct
 import unittest
 
 from test_cggtts import ROOT, Scratch, run
+from blocks import packed_store as packed
 
 MEANINGS = {20: 'the store of delays is none, or a delay is beyond its limit or has no place in it',
             21: 'no entry of the store starts as early as that date',
             22: "the date is not later than the store's last, or the store has 1000 entries"}
 NAMES = ('INT', 'CAB', 'REF', 'GD ')
 EXAMPLE, TEXT = 'examples/delays.store', 'examples/delays.txt'
-
-
-def packed(version, *entries):
-    """A store, whatever its entries are."""
-    wide = 3 if version == 1 else 4
-    parts = [struct.pack('<HH', version, len(entries))] + [struct.pack('<I', start) for start, *_ in entries]
-    return b''.join(parts + [struct.pack('<%dq' % wide, *delays[:wide]) for _, *delays in entries])
 
 
 def date(mjd):

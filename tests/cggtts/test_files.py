@@ -10,26 +10,8 @@ import signal
 import subprocess
 import unittest
 
-from test_cggtts import PROGRAM, ROOT, SAMPLE, SAMPLE_LINE, WORKED, WORKED_LINE, Scratch, run
+from test_cggtts import PROGRAM, ROOT, SAMPLE, SAMPLE_LINE, SIGNAL_IN_WRITE, WORKED, WORKED_LINE, Scratch, run
 
-# The signal of that number in the midst of writing.
-SIGNAL = '''
-#include <signal.h>
-#include <stdlib.h>
-#include <sys/syscall.h>
-#include <unistd.h>
-ssize_t write(int file, const void *bytes, size_t count)
-{
-    static int once;
-    if (file > 2 && !once++) {
-        count = 50;
-        syscall(SYS_write, file, bytes, count);
-        kill(getpid(), atoi(getenv("SIGNAL")));
-        return 50;
-    }
-    return syscall(SYS_write, file, bytes, count);
-}
-'''
 # What is done with files, told on standard error in its order. An error of fsync for a file (i) or a folder (o) may be set.
 TOLD = '''
 #define _GNU_SOURCE
@@ -69,20 +51,15 @@ NOT_ENDING = {signal.SIGKILL, signal.SIGSTOP, signal.SIGTSTP, signal.SIGTTIN, si
 
 
 class Files(Scratch):
-    def shim(self, source):
-        shim = self.folder / 'shim.so'
-        subprocess.run([os.environ.get('CC', 'cc'), '-shared', '-fPIC', '-xc', '-', '-ldl', '-o', shim], input=source, text=True, check=True)
-        return shim
-
     def test_every_signal_that_can_be_caught(self):
         """It ends the program after the file is whole, and no other file is left."""
-        shim, out = self.shim(SIGNAL), self.folder / 'lines'
+        environment, out = self.shim(SIGNAL_IN_WRITE), self.folder / 'lines'
         ending = [number for number in sorted(signal.valid_signals()) if number not in NOT_ENDING]
         self.assertGreater(len(ending), 50)
         for number in ending:
-            environment = dict(os.environ, LD_PRELOAD=str(shim), SIGNAL=str(int(number)))
+            chosen = dict(environment, SIGNAL=str(int(number)))
             out.unlink(missing_ok=True)
-            self.assertEqual(run('line', '-o', out, SAMPLE, WORKED, env=environment, preexec_fn=no_core), (-number, b'', ''))
+            self.assertEqual(run('line', '-o', out, SAMPLE, WORKED, env=chosen, preexec_fn=no_core), (-number, b'', ''))
             self.assertEqual(sorted(os.listdir(self.folder)), ['lines', 'shim.so'], number)
             self.assertEqual(out.read_bytes(), SAMPLE_LINE + WORKED_LINE)
 
@@ -102,8 +79,7 @@ class Files(Scratch):
 
     def test_flushed_before_it_takes_its_place(self):
         """The file, then its name, then the folder that has the name."""
-        shim, out = self.shim(TOLD), self.folder / 'lines'
-        environment = dict(os.environ, LD_PRELOAD=str(shim))
+        environment, out = self.shim(TOLD), self.folder / 'lines'
         told = 'fsync file\nrename\nfsync folder\n'
         self.assertEqual(run('line', SAMPLE, '-o', out, env=environment), (0, b'', told))
         self.assertEqual(run('line', SAMPLE, '-o', out, env=dict(environment, UNKNOWN='1')), (0, b'', told))
@@ -113,8 +89,7 @@ class Files(Scratch):
 
     def test_a_disk_that_does_not_take_it(self):
         """Nothing takes the place of the old file."""
-        shim, out = self.shim(TOLD), self.kept('lines', b'as it was')
-        environment = dict(os.environ, LD_PRELOAD=str(shim))
+        environment, out = self.shim(TOLD), self.kept('lines', b'as it was')
         self.assertEqual(run('line', SAMPLE, '-o', out, env=dict(environment, FAILING='i')),
                          (2, b'', 'fsync file\ncggtts: %s: Input/output error\n' % out))
         self.assertEqual(out.read_bytes(), b'as it was')

@@ -15,6 +15,7 @@ import time
 import unittest
 
 from test_cggtts import MEANINGS, PROGRAM, ROOT, SAMPLE_COLUMNS, SIGNAL_IN_WRITE, Scratch, line_with, run
+from papers import field, starts
 
 FIRST, SECOND, WEEK = ('examples/%s.cggtts' % name for name in ('first', 'second', 'week'))
 
@@ -27,7 +28,7 @@ def ended(mjd, clock, satellite, changes=()):
 
 
 def by_keys(line):
-    return line[7:12], line[13:19], line[:1], line[1:3]
+    return field(line, 'MJD'), field(line, 'STTIME'), line[:1], field(line, 'SAT')
 
 
 def sorted_lines(*files):
@@ -157,10 +158,8 @@ class ToFile(Scratch):
         self.assertEqual(third.read_bytes(), B)
 
     def test_a_signal_leaves_the_file_whole(self):
-        shim, one, other = self.folder / 'shim.so', self.kept('one', A + C), self.kept('other', B)
-        subprocess.run([os.environ.get('CC', 'cc'), '-shared', '-fPIC', '-xc', '-', '-o', shim], input=SIGNAL_IN_WRITE,
-                       text=True, check=True)
-        status = run('merge', one, other, '-o', one, env=dict(os.environ, LD_PRELOAD=str(shim)))[0]
+        one, other = self.kept('one', A + C), self.kept('other', B)
+        status = run('merge', one, other, '-o', one, env=self.shim(SIGNAL_IN_WRITE))[0]
         self.assertEqual(status, -signal.SIGTERM)
         self.assertEqual(one.read_bytes(), A + B + C)
         self.assertEqual(sorted(os.listdir(self.folder)), ['one', 'other', 'shim.so'])
@@ -281,8 +280,7 @@ class Refused(Scratch):
         other = ended(50722, '001800', 'E01', [(35, '+0000000011')])
         self.refused(15, 'first:4', b''.join(LINES), B + other + F, told % (2, '50722', '001800', 'E01', 45, 'REFSV'), both % (4, 2))
         self.refused(15, 'first:1', D, other, told % (1, '50722', '001800', 'E01', 45, 'REFSV'), both % (1, 1))
-        two, six = ended(50723, '001400', 'C01', [(108, 'L1P')]), F[:4] + b'00' + F[6:]
-        six = six[:111] + b'%02X' % (sum(six[:111]) % 256) + six[113:]
+        two, six = ended(50723, '001400', 'C01', [(108, 'L1P')]), ended(50723, '001400', 'R01', [(5, '00')])
         self.refused(15, 'first:4', A + B + C + D + E + F, A + other + two,
                      told % (2, '50722', '001800', 'E01', 45, 'REFSV'), both % (4, 2), 'and 1 more line differs so')
         self.refused(15, 'first:4', A + B + C + D + E + F, A + other + two + six,
@@ -335,8 +333,7 @@ class Refused(Scratch):
 
     def test_long_files_are_judged_soon(self):
         """A fault near the end of 40,000 lines is found by halving: in seconds, not in hours."""
-        lines = [ended(mjd, '%02d%02d00' % (minute // 60, minute % 60), satellite) for mjd in range(51081, 51111)
-                 for minute in sorted((2 + 16 * i - 4 * (mjd - 50722)) % 1436 for i in range(89))
+        lines = [ended(mjd, clock, satellite) for mjd in range(51081, 51111) for clock in starts(mjd)
                  for satellite in ('G%02d' % number for number in range(1, 16))]
         self.assertGreater(len(lines), 40000)
         begun = time.monotonic()

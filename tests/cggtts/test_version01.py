@@ -11,7 +11,8 @@ import random
 import re
 import unittest
 
-from publishing import FIELDS, HEADER, columns_of, filled, header, taken, with_check
+from publishing import HEADER, columns_of, filled, header, taken
+from papers import FIELDS, checksum, with_check
 from test_cggtts import MEANINGS, ROOT, SAMPLE_COLUMNS, SAMPLE_LINE, Scratch, WORKED_LINE, line_with, run
 from test_convert import counts, expected, named, published
 from test_merge import ended, sorted_lines
@@ -490,7 +491,7 @@ class Converted(Scratch):
         """A line of version 02 whose FR is by chance the CK of version 01: a person has to tell."""
         reason = 'CK is right as that of version 01 and as that of version 02: a person has to tell which'
         columns = old_with((35, '+0999999999 +09999 +0999999999 +09992')).decode()[:101]
-        self.assertEqual(sum(columns.encode()) % 256, 0)
+        self.assertEqual(checksum(columns), '00')
         self.told(1, reason, with_check(columns + '00 00 L1C ').encode())
         self.assertEqual(run('convert', '-', *UP, data=with_check(columns).encode())[0], 0)
 

@@ -19,6 +19,7 @@ import xml.etree.ElementTree as tree
 from fractions import Fraction
 
 from test_cggtts import MEANINGS, PROGRAM, ROOT, SIGNAL_IN_WRITE, Scratch, run
+from papers import field, second_of, starts
 from test_merge import AS_OURS, IN_ORDER, NO_HEADER, advised, by_keys, ended
 
 FIRST, SECOND = ('examples/roof-%s.cggtts' % name for name in 'ab')
@@ -35,18 +36,14 @@ def tracked(mjd, clock, satellite, refsys=0, trkl=780, changes=()):
     return ended(mjd, clock, satellite, [(21, '%04d' % trkl), (54, '%+011d' % refsys), *changes])
 
 
-def starts(mjd):
-    return ['%02d%02d00' % divmod(minute, 60) for minute in sorted((2 + 16 * i - 4 * (mjd - 50722)) % 1436 for i in range(89))]
-
-
 def by_pair(file):
     """The lines by what makes a pair."""
-    return {(*by_keys(line), line[20:24]): line for line in file.splitlines()}
+    return {(*by_keys(line), field(line, 'TRKL')): line for line in file.splitlines()}
 
 
 def pairs_of(first, second):
     """MJD, start, satellite and difference of each pair, in the order of the lines."""
-    one, other = ({key: int(line[53:64]) for key, line in by_pair(file).items()} for file in (first, second))
+    one, other = ({key: int(field(line, 'REFSYS')) for key, line in by_pair(file).items()} for file in (first, second))
     return [(int(key[0]), key[1].decode(), (key[2] + key[3]).decode(), one[key] - other[key])
             for key in sorted(one) if key in other]
 
@@ -61,7 +58,7 @@ def codes_row(first, second):
     """How many pairs are of two codes, or nothing where none is."""
     one, other = by_pair(first), by_pair(second)
     pairs = one.keys() & other.keys()
-    count = sum(one[key][107:110] != other[key][107:110] for key in pairs)
+    count = sum(field(one[key], 'FRC') != field(other[key], 'FRC') for key in pairs)
     return '  another FRC    in %d of %d pair%s\n' % (count, len(pairs), 's' if len(pairs) > 1 else '') if count else ''
 
 
@@ -84,10 +81,11 @@ def rows_of(first, second):
     rows, both = HEAD, [{(int(key[0]), key[1], key[2] + key[3]): line for key, line in by_pair(file).items()}
                         for file in (first, second)]
     for mjd, clock, satellite, difference in pairs_of(first, second):
-        day = Fraction(3600 * int(clock[:2]) + 60 * int(clock[2:4]) + int(clock[4:]), 86400)
+        day = Fraction(second_of(clock), 86400)
         one, other = (lines[mjd, clock.encode(), satellite.encode()] for lines in both)
-        more = [int(line[columns]) for columns in (slice(25, 28), slice(72, 76)) for line in (one, other)]
-        more += [line[107:110].decode() for line in (one, other)] + [int(one[20:24]), int(one[53:64]), int(other[53:64])]
+        more = [int(field(line, name)) for name in ('ELV', 'DSG') for line in (one, other)]
+        more += [field(line, 'FRC').decode() for line in (one, other)]
+        more += [int(field(one, 'TRKL')), int(field(one, 'REFSYS')), int(field(other, 'REFSYS'))]
         rows += '%d %s %s %d %s %s\n' % (mjd, clock, satellite, difference, rounded(mjd + day, 6), ' '.join(map(str, more)))
     return rows
 
@@ -466,10 +464,8 @@ class ToFile(Scratch):
                              (2, None, 'cggtts: standard output: No space left on device\n'))
 
     def test_a_signal_leaves_the_picture_whole(self):
-        shim, picture = self.folder / 'shim.so', self.kept('picture', b'as it was')
-        subprocess.run([os.environ.get('CC', 'cc'), '-shared', '-fPIC', '-xc', '-', '-o', shim], input=SIGNAL_IN_WRITE,
-                       text=True, check=True)
-        status = run('view', FIRST, SECOND, '--svg', picture, env=dict(os.environ, LD_PRELOAD=str(shim)))[0]
+        picture = self.kept('picture', b'as it was')
+        status = run('view', FIRST, SECOND, '--svg', picture, env=self.shim(SIGNAL_IN_WRITE))[0]
         self.assertEqual(status, -signal.SIGTERM)
         self.assertEqual(tree.fromstring(picture.read_bytes()).tag, SVG + 'svg')
         self.assertEqual(sorted(os.listdir(self.folder)), ['picture', 'shim.so'])

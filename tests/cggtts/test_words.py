@@ -24,6 +24,7 @@ from fractions import Fraction
 from test_cggtts import MEANINGS, OWN, PROGRAM, ROOT, SAMPLE, SAMPLE_LINE, WORKED, WORKED_LINE, Scratch, block, line_with, run
 from test_view import FIRST, ROOF, SECOND, SVG, pairs_of, report_of, rounded, some_files, tracked
 from blocks import scattered
+from papers import FIELDS, field, second_of, starts, with_check
 
 DAY_ZERO = datetime.date(1858, 11, 17)
 WORKED_BLOCK = (ROOT / WORKED).read_bytes()
@@ -38,8 +39,7 @@ class Dates(Scratch):
     def test_beside_the_mjd(self):
         """Every date of the schedule, a line each, by Python's calendar."""
         mjds = sorted({*range(50722, 51900), *range(50722, 100000, 89), 99999})
-        lines = ''.join(line_with([(8, '%05d' % mjd), (14, '%02d%02d00' % divmod((2 - 4 * (mjd - 50722)) % 1436, 60))]) + '\n'
-                        for mjd in mjds)
+        lines = ''.join(line_with([(8, '%05d' % mjd), (14, starts(mjd)[0])]) + '\n' for mjd in mjds)
         status, output, errors = run('read', data=lines.encode())
         self.assertEqual((status, errors), (0, ''))
         found = re.findall(r'(?m)^  MJD +(\d+), (\S+) +\1$', output.decode())
@@ -69,11 +69,8 @@ class Tables(Scratch):
 
     def row(self, name, number, line, comment=''):
         """By the columns of the line itself."""
-        clock = 3600 * int(line[13:15]) + 60 * int(line[15:17]) + int(line[17:19])
-        spans = ((20, 24), (25, 28), (29, 33), (34, 45), (46, 52), (53, 64), (65, 71), (72, 76), (77, 80), (81, 85), (86, 90), (91, 95),
-                 (96, 100), (101, 103), (104, 106))
-        return [str(name), str(number), line[0], str(int(line[1:3])), str(int(line[4:6], 16)), line[7:12], str(clock),
-                *(str(int(line[first:last])) for first, last in spans), line[107:110], comment]
+        return [str(name), str(number), line[0], str(int(line[1:3])), str(int(line[4:6], 16)), line[7:12], str(second_of(line[13:19])),
+                *(str(int(field(line, column))) for column, _, _ in FIELDS[4:19]), field(line, 'FRC'), comment]
 
     def test_a_table(self):
         comment = ' 1,5 "quoted" %s'
@@ -339,7 +336,7 @@ VERSION_01 = {'without': ' 17 FF 60600 133000  780 583 2145    +1233431     +9  
 
 
 def checked(columns):
-    return (columns + '%02X' % (sum(columns.encode()) % 256)).encode()
+    return with_check(columns).encode()
 
 
 class Kinds(Scratch):

@@ -3,8 +3,6 @@
 
     python3 tests/hireblock/test_hireblock.py
 """
-import importlib.machinery
-import importlib.util
 import os
 import pathlib
 import random
@@ -13,7 +11,6 @@ import resource
 import struct
 import subprocess
 import sys
-import tempfile
 import unittest
 
 ROOT = pathlib.Path(__file__).resolve().parents[2]
@@ -21,21 +18,17 @@ TOOL = ROOT / 'tools' / 'hireblock'
 SAMPLE = ROOT / 'examples' / 'sample.txt'
 
 sys.dont_write_bytecode = True
-LOADER = importlib.machinery.SourceFileLoader('hireblock', str(TOOL))
-SPEC = importlib.util.spec_from_loader('hireblock', LOADER)
-hireblock = importlib.util.module_from_spec(SPEC)
-LOADER.exec_module(hireblock)
+sys.path[:0] = [str(ROOT / 'tests'), str(ROOT / 'tools')]
+from blocks import block as sample_block, packed_store  # noqa: E402
+from loading import loaded  # noqa: E402
+from scratch import Scratch  # noqa: E402
+
+hireblock = loaded('hireblock')
 
 
 def sample_bytes(n=52):
-    """The sample block by the paper's table of offsets, written anew here, of n blocks of 15 seconds."""
-    block = bytearray(58 + 160 * n)
-    block[0:4] = struct.pack('<HH', 15 * n, n)
-    block[4:12] = b'G' + bytes([5, 255, 0, 0]) + b'L1C'
-    block[12:26] = struct.pack('<IIHHH', 50722, 120, 450, 1800, 7)
-    for i in range(15 * n):
-        block[58 + 8 * i:66 + 8 * i] = struct.pack('<q', 1000)
-    return bytes(block)
+    """The sample's block with n blocks of 15 seconds, by the paper's layout."""
+    return sample_block(groups=n)
 
 
 def sample_text(n=52):
@@ -510,12 +503,7 @@ class Encoding(unittest.TestCase):
         self.spoilt(sample_bytes(), (1, 4, 'no text: it has bytes of 0' + shown))
 
 
-class CommandLine(unittest.TestCase):
-    def setUp(self):
-        folder = tempfile.TemporaryDirectory()
-        self.addCleanup(folder.cleanup)
-        self.folder = pathlib.Path(folder.name)
-
+class CommandLine(Scratch):
     def run_tool(self, *arguments, data=b'', **more):
         more = {'stdout': subprocess.PIPE, **more}
         command = [sys.executable, str(TOOL), *map(str, arguments)]
@@ -670,12 +658,7 @@ class CommandLine(unittest.TestCase):
         return text
 
     def stored(self, version, *entries):
-        """A store by document 02's layout, written anew here."""
-        wide = 3 if version == 1 else 4
-        store = self.folder / 'delays.store'
-        store.write_bytes(struct.pack('<HH', version, len(entries)) + b''.join(struct.pack('<I', start) for start, *_ in entries)
-                          + b''.join(struct.pack('<%dq' % wide, *delays[:wide]) for _, *delays in entries))
-        return store
+        return self.kept('delays.store', packed_store(version, *entries))
 
     def test_delays_in_force(self):
         entries = ((50000, 1, 2, 3, 4), (50722, -5, 10 ** 10, 7, -8), (50724, 9, 10, 11, 12))
@@ -764,17 +747,8 @@ class CommandLine(unittest.TestCase):
         self.assertEqual(self.run_tool('help', 'pack').stdout, self.run_tool('pack', '--help').stdout)
 
 
-class Several(unittest.TestCase):
+class Several(Scratch):
     """Several tracks in one file of blocks, and in one text."""
-
-    def setUp(self):
-        folder = tempfile.TemporaryDirectory()
-        self.addCleanup(folder.cleanup)
-        self.folder = pathlib.Path(folder.name)
-
-    def kept(self, name, data):
-        (self.folder / name).write_bytes(data)
-        return str(self.folder / name)
 
     def run_tool(self, *arguments, data=b''):
         result = subprocess.run([TOOL, *arguments], input=data, capture_output=True, check=False)
@@ -872,7 +846,7 @@ class Several(unittest.TestCase):
         names = [self.kept('a.txt', self.undelayed((50724, new))[0]), self.kept('b.txt', early)]
         target = self.folder / 'out'
         said = 'hireblock: %s: refused 21: no entry starts as early as MJD 50721: the first starts on 50722, for track %s\n'
-        self.assertEqual(self.run_tool('pack', *names, '--delays', store, '-o', str(target)), (1, b'', said % (store, '2 of ' + names[1])))
+        self.assertEqual(self.run_tool('pack', *names, '--delays', store, '-o', str(target)), (1, b'', said % (store, '2 of %s' % names[1])))
         self.assertEqual(self.run_tool('pack', '-', '--delays', store, data=early), (1, b'', said % (store, '2 of -')))
         self.assertFalse(target.exists())
 

@@ -1,6 +1,8 @@
 """What the program bench reads (crates/bench/stdin) and what it should print (crates/bench/stdout)."""
 import struct
 
+from papers import second_of
+
 FILL = b'.'
 SAMPLE = ('G05 FF 50722 000200 0780 450 1800 +0000000010 +00000 +0000000010 +00000 0000 007 0000 +000 0000 +000 '
           '00 00 L1C 26')
@@ -39,18 +41,13 @@ TECHNICIAN = [
 ]
 
 
-def second(time):
-    """hhmmss as a second of the day."""
-    return 3600 * int(time[:2]) + 60 * int(time[2:4]) + int(time[4:])
-
-
 def record(case, line, answer):
     """A case of Line for the program: its name, its labels and numbers by the columns of its line, the answer, and what 113
     lent bytes then hold."""
     (sat, cl, mjd, time, trkl, elv, azth, refsv, srsv, refsys, srsys, dsg, ioe, mdtr, smdt, mdio, smdi, fr, hc, frc,
      _) = line.split(' ')
     labels = struct.pack('<BBBBB3sIIHHH', ord(sat[0]), int(sat[1:]), int(cl, 16), int(fr), int(hc), frc.encode(),
-                         int(mjd), second(time), int(elv), int(azth), int(ioe))
+                         int(mjd), second_of(time), int(elv), int(azth), int(ioe))
     # the ten numbers in their fixed order
     numbers = [int(n) for n in (refsv, srsv, refsys, srsys, mdtr, smdt, mdio, smdi, dsg, trkl)]
     after = line.encode() if answer == 0 else FILL * 113

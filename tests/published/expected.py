@@ -14,19 +14,14 @@ import re
 import sys
 
 sys.dont_write_bytecode = True
-import bench  # noqa: E402
-
 HERE = pathlib.Path(__file__).resolve().parent
+sys.path.insert(0, str(HERE.parent))
+import bench  # noqa: E402
+from papers import FIELDS, LENGTHS, checksum, is_start, line_of, ranges_of, second_of  # noqa: E402
+
 BENCH = HERE.parent.parent / 'crates' / 'bench'
 TRUST = HERE.parent.parent / 'docs' / 'TRUST.md'
-NAMES = 'SAT CL MJD STTIME TRKL ELV AZTH REFSV SRSV REFSYS SRSYS DSG IOE MDTR SMDT MDIO SMDI FR HC FRC CK'.split()
-# how a field stands in our line
-OURS = dict(CL='{:02X}', MJD='{:05d}', STTIME='{:06d}', TRKL='{:04d}', ELV='{:03d}', AZTH='{:04d}', REFSV='{:+011d}',
-            SRSV='{:+06d}', REFSYS='{:+011d}', SRSYS='{:+06d}', DSG='{:04d}', IOE='{:03d}', MDTR='{:04d}',
-            SMDT='{:+04d}', MDIO='{:04d}', SMDI='{:+04d}', FR='{:02d}', HC='{:02d}')
-# how wide it stands in document 003's line, whose first column is blank
-WIDTHS = dict(SAT=3, CL=2, MJD=5, STTIME=6, TRKL=4, ELV=3, AZTH=4, REFSV=11, SRSV=6, REFSYS=11, SRSYS=6, DSG=4, IOE=3,
-              MDTR=4, SMDT=4, MDIO=4, SMDI=4)
+NAMES = [name for name, _, _ in FIELDS] + ['CK']
 # what the reader takes columns 1 to 111 for, and what it does not take though each character is allowed
 COLUMNS = re.compile('[GRECJ]d{2} [0-9A-F]{2} d{5} d{6} d{4} d{3} d{4} sd{10} sd{5} sd{10} sd{5} d{4} d{3} d{4} sd{3} d{4} '
                      'sd{3} d{2} d{2} [A-Z0-9]{3} '.replace('d', '[0-9]').replace('s', '[+-]'))
@@ -54,44 +49,29 @@ def completed(fields, put):
     return {**fields, **missing}
 
 
-def value(fields, name):
-    return int(fields[name], 16) if name == 'CL' else int(fields[name])
+def values(fields):
+    """The fields up to FRC, the satellite without its letter."""
+    number, cl, *numbers, code = (fields[name] for name, _, _ in FIELDS)
+    return [int(number[1:]), int(cl, 16), *map(int, numbers), code]
 
 
 def text(fields):
-    words = [fields['SAT'][0] + fields['SAT'][1:].zfill(2)]
-    words += [OURS[name].format(value(fields, name)) for name in NAMES[1:19]]
-    columns = ' '.join(words + [fields['FRC']]) + ' '
-    assert len(columns) == 111, columns
-    return columns + '{:02X}'.format(sum(columns.encode()) % 256)
-
-
-def starts(mjd):
-    """The seconds of that day at which a track starts."""
-    return {60 * ((2 + 16 * k - 4 * (mjd - 50722)) % 1436) for k in range(89)}
+    return line_of(fields['SAT'][0], values(fields))
 
 
 def answer(fields):
-    letter, number = fields['SAT'][0], int(fields['SAT'][1:])
-    n = {name: value(fields, name) for name in OURS}
-    issue = {'G': (0, 255), 'J': (0, 255), 'E': (0, 999), 'C': (0, 23), 'R': (1, 96)}.get(letter, (1, 0))
-    channel = (1, 24) if letter == 'R' else (0, 0)
-    ranges = [(number, 1, 99), (n['IOE'], *issue), (n['FR'], *channel), (n['HC'], 0, 99), (n['MJD'], 50722, 99999),
-              (n['ELV'], 0, 900), (n['AZTH'], 0, 3599)]
-    code = set(fields['FRC']) <= set('ABCDEFGHIJKLMNOPQRSTUVWXYZ0123456789')
-    length = n['TRKL'] in range(60, 781, 15)
-    time = fields['STTIME'].zfill(6)
-    second = 3600 * int(time[:2]) + 60 * int(time[2:4]) + int(time[4:])
+    n, ranges = dict(zip(NAMES, values(fields))), ranges_of(fields['SAT'][0])
+    code = set(n['FRC']) <= set('ABCDEFGHIJKLMNOPQRSTUVWXYZ0123456789')
 
-    def beyond(limit, *names):
-        return any(abs(n[name]) > limit for name in names)
+    def beyond(*names):
+        return any(not ranges[name][0] <= n[name] <= ranges[name][1] for name in names)
 
-    tests = [(7, not code or not length or any(not low <= v <= high for v, low, high in ranges)),
-             (8, second not in starts(n['MJD'])),
-             (3, beyond(9999999999, 'REFSV', 'REFSYS')),
-             (4, beyond(99999, 'SRSV', 'SRSYS') or beyond(999, 'SMDT', 'SMDI')),
-             (5, any(not 0 <= n[name] <= 9999 for name in ('MDTR', 'MDIO'))),
-             (6, not 0 <= n['DSG'] <= 9999)]
+    tests = [(7, not code or n['TRKL'] not in LENGTHS or beyond('SAT', 'IOE', 'FR', 'HC', 'MJD', 'ELV', 'AZTH')),
+             (8, not is_start(n['MJD'], second_of(fields['STTIME'].zfill(6)))),
+             (3, beyond('REFSV', 'REFSYS')),
+             (4, beyond('SRSV', 'SRSYS', 'SMDT', 'SMDI')),
+             (5, beyond('MDTR', 'MDIO')),
+             (6, beyond('DSG'))]
     return next((refusal for refusal, fails in tests if fails), 0)
 
 
@@ -133,11 +113,11 @@ def bench_files():
 
 
 def misfits():
-    """Lines of document 003 whose printed checksum is not that of their columns."""
+    """Lines of document 003 whose printed checksum is not that of their columns, which are ours up to SMDI behind a blank."""
     for name, fields, _ in read():
         if name.startswith('003.'):
-            columns = ' '.join(fields[column].rjust(width) for column, width in WIDTHS.items()) + ' '
-            if '{:02X}'.format(sum(columns.encode()) % 256) != fields['CK'].replace('O', '0'):
+            columns = ''.join(' ' + fields[column].rjust(last - first + 1) for column, first, last in FIELDS[:17]) + ' '
+            if checksum(columns) != fields['CK'].replace('O', '0'):
                 yield name
 
 

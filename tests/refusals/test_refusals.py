@@ -6,8 +6,6 @@ starts of a day with target/cggtts/cggtts too.
 """
 import collections
 import copy
-import importlib.machinery
-import importlib.util
 import pathlib
 import subprocess
 import sys
@@ -19,10 +17,10 @@ PROGRAM = ROOT / 'target' / 'bin' / 'trackline'
 CGGTTS = ROOT / 'target' / 'cggtts' / 'cggtts'
 
 sys.dont_write_bytecode = True
-LOADER = importlib.machinery.SourceFileLoader('hireblock', str(ROOT / 'tools' / 'hireblock'))
-SPEC = importlib.util.spec_from_loader('hireblock', LOADER)
-hireblock = importlib.util.module_from_spec(SPEC)
-LOADER.exec_module(hireblock)
+sys.path.insert(0, str(ROOT / 'tools'))
+from loading import loaded  # noqa: E402
+
+hireblock = loaded('hireblock')
 
 WORKED = hireblock.unpack((ROOT / 'examples' / 'worked.blk').read_bytes())
 COLUMNS, DELAYS = hireblock.COLUMNS, hireblock.DELAYS

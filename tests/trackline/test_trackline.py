@@ -15,16 +15,9 @@ import unittest
 
 ROOT = pathlib.Path(__file__).resolve().parent.parent.parent
 sys.path.insert(0, str(ROOT / 'tests'))
-from blocks import SAMPLE_LINE, block, line, scattered  # noqa: E402
+from blocks import CHANGED_LINE, SAMPLE_LINE, SHORT_LINE, WORKED_LINE, block, line, scattered  # noqa: E402
 
 PROGRAM = os.environ.get('TRACKLINE', str(ROOT / 'target' / 'bin' / 'trackline'))
-WORKED_LINE = (b'G17 FF 60600 133000 0780 583 2145 +0001233431 +00009 -0000000315 -00041 0003 087 0097 +005 0202 -021 '
-               b'00 05 L1C 8C\r\n')
-SHORT_LINE = (b'G23 FF 60600 134600 0300 103 3021 +0001203805 -00039 -0000000112 -00089 0004 041 0558 +267 0390 +073 '
-              b'00 07 L1C 92\r\n')
-# the last digits of REFSYS and DSG are those of tenths of a ps
-CHANGED_LINE = (b'G17 FF 60600 133000 0780 583 2145 +0001233431 +00009 -0000000314 -00041 0002 087 0097 +005 0202 -021 '
-                b'00 05 L1C 8A\r\n')
 
 
 def printed(data):
