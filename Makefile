@@ -16,7 +16,7 @@
 # make install       the programs, the libraries, the header, the manual pages: make install PREFIX=/usr/local DESTDIR=
 # make uninstall     remove what install put there, with the same PREFIX and DESTDIR; folders stay
 # make clean         remove target/, which holds everything that was built
-VERSION := 1.9.0
+VERSION := 1.10.0
 BLOCK ?= examples/sample.blk
 PREFIX ?= /usr/local
 SECONDS ?= 120
@@ -151,6 +151,7 @@ described:
 	python3 tests/hireblock/test_hireblock.py
 	python3 tests/lastdigit/test_lastdigit.py
 	python3 tests/refusals/test_refusals.py
+	python3 tests/refusals/test_retired.py
 	python3 tests/clauses/test_clauses.py
 	python3 tests/edits/test_edits.py
 	tools/edits

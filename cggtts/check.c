@@ -92,7 +92,7 @@ void explain_refusal(const struct bytes *block, uint32_t number)
     case TRACKLINE_START:
         explain_start(block->at);
         break;
-    default: /* 9 and 10 do not arise: the line is long enough, and the limits of 2 leave no room for 10 */
+    default: /* 9 does not arise: the line is long enough */
         break;
     }
 }

@@ -77,7 +77,7 @@ static const char *meaning(uint32_t number)
         TRACKLINE_REFUSALS(MEANING)
 #undef MEANING
     default:
-        return "a number that this program does not know";
+        return number == 10 ? "the number is retired" : "the number is unknown to this version";
     }
 }
 

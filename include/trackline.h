@@ -30,9 +30,9 @@ extern "C" {
 #endif
 
 /* The version of the library that this header is of. */
-#define TRACKLINE_VERSION "1.9.0"
+#define TRACKLINE_VERSION "1.10.0"
 #define TRACKLINE_VERSION_MAJOR 1
-#define TRACKLINE_VERSION_MINOR 9
+#define TRACKLINE_VERSION_MINOR 10
 #define TRACKLINE_VERSION_PATCH 0
 
 /* Columns of a line, and bytes of a line with the longest comment behind them. */
@@ -148,8 +148,17 @@ extern "C" {
 
 /*
  * Refusals: X(number, name, text) for each, so that a program's messages come from here. share/doc/trackline/REFUSALS.md
- * below the folder of the installation says what to do about each. 10 does not arise, as the other limits leave no room
- * for it.
+ * below the folder of the installation says what to do about each.
+ *
+ * 10 is retired and not used again, so that a refusal's place in this list is not its number. It was for a corrected value
+ * beyond its limit. No version could answer it.
+ *
+ * For messages a switch needs nothing more: X as "case name: return text;", with a default. A table is written by number, X as
+ * "[number] = text,". Such a table has NULL at 0 and at the retired 10, and an end: test for both, in a loop too.
+ *
+ * With 1.10.0 a source that names TRACKLINE_CORRECTED no longer compiles: take the case out. A compiler may propose another
+ * name for it, which is another refusal's. TRACKLINE_VERSION_MINOR tells the versions apart. Where only the library is new,
+ * nothing need be compiled again.
  */
 #define TRACKLINE_REFUSALS(X)                                                                                          \
     X(1, TRACKLINE_COUNT, "the block's two sizes are not 15 n and n, n from 4 to 52")                                  \
@@ -161,7 +170,6 @@ extern "C" {
     X(7, TRACKLINE_LABEL, "a label is out of its range, or the track length is not 15 n, n from 4 to 52")              \
     X(8, TRACKLINE_START, "no track of that day starts at that second")                                                \
     X(9, TRACKLINE_LENT, "lent is a line under 113 bytes (version 01: 103), values under 23, a report or delays under 4, or too short a store or file of a day") \
-    X(10, TRACKLINE_CORRECTED, "a corrected value is beyond its limit")                                                \
     X(11, TRACKLINE_LENGTH, "the block is under 4 bytes or not as long as its sizes make it")                          \
     X(12, TRACKLINE_LINE_LENGTH, "the line is not 113 to 140 bytes long (version 01: 103 to 128), or a file's last line is under 115") \
     X(13, TRACKLINE_CHARACTER, "a character is not allowed in its column or line end")                                 \
@@ -186,8 +194,8 @@ enum trackline_refusal {
 #undef TRACKLINE_NUMBER
 
 /*
- * The line of a hire block. Tried in this order: 11 for a block under 4 bytes, 1, 11 for any other wrong length, 2, 10, 3,
- * 4, 5, 6, then the labels' 7 and 8, then 9.
+ * The line of a hire block. Tried in this order: 11 for a block under 4 bytes, 1, 11 for any other wrong length, 2, 3, 4,
+ * 5, 6, then the labels' 7 and 8, then 9.
  *
  * A block is in whole ps; since version 1.4.0 the values that are made of it are kept in tenths of a ps. For some tracks
  * REFSV, SRSV, REFSYS, SRSYS or DSG is another by one unit than from earlier versions, and no other column but CK; next to

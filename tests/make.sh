@@ -85,10 +85,23 @@ tools/run target/bin/trackline "$scratch/cut.blk" >"$scratch/answer" 2>"$scratch
 printf 'refused 11\r\n' | cmp - "$scratch/answer" || fail 'what run prints of a refused block'
 grep -qx 'refused 11: the block is under 4 bytes or not as long as its sizes make it.' "$scratch/said" || fail 'what the number means'
 grep -q "'cggtts check $scratch/cut.blk' says what is to blame" "$scratch/said" || fail 'run does not name cggtts check'
-for number in 1 2 3 4 5 6 7 8 9 10 11; do
+for number in 1 2 3 4 5 6 7 8 9 11; do
     printf '#!/bin/sh\ncat >/dev/null; printf "refused %d\\r\\n"\n' $number >"$scratch/refuses"
     chmod +x "$scratch/refuses"
-    tools/run "$scratch/refuses" examples/sample.blk 2>&1 >/dev/null | grep -q "^refused $number: [a-zA-Z]" || fail "refusal $number has no meaning"
+    tools/run "$scratch/refuses" examples/sample.blk 2>&1 >/dev/null | grep "^refused $number: [a-zA-Z]" | grep -qv ': the number is ' || fail "refusal $number has no meaning"
+done
+
+# a number without a meaning is not sent to cggtts check, and cggtts has the same words for it
+printf '#include "cggtts.h"\n#include <stdlib.h>\nint flush_output(void) { return 0; }\nint main(int n, char **word) { report_refusal(word[n - 1], (uint32_t)atoi(word[n - 1])); }\n' >"$scratch/report.c"
+${CC:-cc} -Iinclude -Icggtts "$scratch/report.c" cggtts/messages.c -o "$scratch/report"
+without_meaning() {
+    printf '#!/bin/sh\ncat >/dev/null; printf "refused %d\\r\\n"\n' "$1" >"$scratch/refuses"
+    tools/run "$scratch/refuses" examples/sample.blk 2>&1 >/dev/null | cmp - <(echo "refused $1: the number is $2.") || fail "what run says of $1"
+    "$scratch/report" "$1" 2>&1 | cmp - <(echo "$1: refused $1: the number is $2") || fail "what cggtts says of $1"
+}
+without_meaning 10 retired
+for number in 0 26 99 100; do
+    without_meaning $number 'unknown to this version'
 done
 
 # clean, in a folder of its own

@@ -142,6 +142,8 @@ SLOPE = 'nearest(4 * t, STEPS * n * (n * n - 1))'
 SQUARE = 'q += i128::from(residual) * i128::from(residual);'
 MOST_SQUARES = 'q >= threshold::<STEPS>(n, MOST_DSG + 1)'
 SMOOTHED = 'Ok(nearest(STEPS * sum, 1105))'
+FITS = 'let fit = |kind: &[i64]| fit_in::<STEPS>(kind);'
+TEN_AGAIN = 'if !all_within(&b, STEPS * 1_600_000_000_000) { return Err(10); }\n    '
 TROPOSPHERE = 'c[j] = STEPS * columns.troposphere[j]'
 IONOSPHERE = 'd[j] = STEPS * columns.ionosphere[j]'
 SCATTERED = 'numbers.dsg = scatter_in::<STEPS>(&b[..n])?;'
@@ -286,7 +288,8 @@ MUTANTS = [
      'fit.rs', 'map(|(w, m)| w * m).sum()', 'fold(0i64, |s, (w, m)| s.wrapping_add(w.wrapping_mul(*m)))'),
     ('limit by magnitude', 'lib.rs', '-limit <= v && v <= limit', 'v.wrapping_abs() <= limit'),
     ('limit open below', 'lib.rs', '-limit <= v', '-limit < v'),
-    ('10 too early', 'fit.rs', 'i64 = 2_000_000_000_000', 'i64 = 1_600_000_000_000'),
+    ('a limit of Fit that tracks reach', 'fit.rs', 'i64 = 2_000_000_000_000', 'i64 = 1_600_000_000_000'),
+    ('10 for the largest values', 'track.rs', FITS, TEN_AGAIN + FITS),
     ('REFSV one digit more', 'track.rs', 'self.refsv, 9_999_999_999', 'self.refsv, 10_000_000_000'),
     ('REFSYS not tested', 'track.rs', '|| !within(self.refsys, 9_999_999_999)', ''),
     ('SRSV limit up', 'track.rs', 'self.srsv, 99_999', 'self.srsv, 100_000'),
@@ -499,7 +502,6 @@ MUTANTS = [
     ('too high from a residual of 7 x 10^7 on', 'fit.rs', SQUARE,
      'if residual.abs() > 70_000_000 { return i128::MAX; }\n        ' + SQUARE),
     ('limit of Fit and Scatter in ps', 'fit.rs', 'within(v, STEPS * VALUE_LIMIT)', 'within(v, VALUE_LIMIT)'),
-    ('10 in ps', 'track.rs', 'all_within(kind, STEPS * VALUE_LIMIT)', 'all_within(kind, VALUE_LIMIT)'),
     ('measurements up to 10^12 tenths', 'track.rs', 'all_within(measurements, MEASUREMENT_LIMIT)',
      'all_within(measurements, MEASUREMENT_LIMIT / STEPS_OF_A_PS)',
      'track.rs', 'const GEOMETRY_LIMIT', 'const STEPS_OF_A_PS: i64 = TENTHS;\nconst GEOMETRY_LIMIT'),
@@ -1021,6 +1023,8 @@ MUTANTS = [
 ]
 # the same, put into both
 TWINS = [
+    # a number that is retired
+    ('10 for the largest values, twice', 'track.rs', FITS, TEN_AGAIN + FITS),
     # a shared offset does not drop out
     ('weights that add up to 1106, twice', 'fit.rs', '162, 167, 162', '162, 168, 162'),
     ('smoothed value cut, twice', 'fit.rs', SMOOTHED, 'Ok(STEPS * sum / 1105)'),

@@ -764,8 +764,30 @@ static void order_of_read(void)
     }
 }
 
+/* The header's list has each number from 1 to 25 once, but for the retired 10; so a table by number has NULL there and a text elsewhere. */
+static void list_of_refusals(void)
+{
+#define LISTED(number, name, text) number,
+#define BY_NUMBER(number, name, text) [number] = text,
+    static const uint32_t listed[] = {TRACKLINE_REFUSALS(LISTED)};
+    static const char *const texts[] = {TRACKLINE_REFUSALS(BY_NUMBER)};
+#undef LISTED
+#undef BY_NUMBER
+    expect("numbers in the list", sizeof listed / sizeof listed[0], 24);
+    expect("end of a table", sizeof texts / sizeof texts[0], 26);
+    for (uint32_t number = 0; number < 26; number++) {
+        uint32_t times = 0, wanted = number != 0 && number != 10;
+        for (size_t i = 0; i < sizeof listed / sizeof listed[0]; i++) {
+            times += listed[i] == number;
+        }
+        expect("times that a number is in the list", times, wanted);
+        expect("a text in a table by number", number < sizeof texts / sizeof texts[0] && texts[number] != NULL, wanted);
+    }
+}
+
 int main(void)
 {
+    list_of_refusals();
     lengths();
     starts();
     labels();

@@ -3,7 +3,7 @@
 use mathlib.Core.Path.{_≡_, refl, ap₂, _∙_}
 use mathlib.Core.Bool.{Bool, true, false, _||_}
 use mathlib.Core.List.{List, [], _∷_}
-use Prim.Native.Nat.{ℕ, suc, _+_, _*_, _^_, _≤_, _<_}
+use Prim.Native.Nat.{ℕ, suc, _+_, _^_, _≤_, _<_}
 use native.Mathlib.Numerals.{add-one}
 use native.Mathlib.Omega.{arith}
 use lib.IntN.{ℤ, pos}
@@ -11,15 +11,16 @@ use lib.ListN.{length, drop, getD, drop-of-length-le}
 use lib.Seq.{drop-cons}
 use Rattle.limits.specs.Limits.{beyond}
 use Rattle.limits.specs.Lists.{anyOutside, anyBeyond}
+use Rattle.correcting.specs.Correct.{geometryLimit}
 
 -- whether row j has a correction beyond its limit
 abbrev pub Row : (g r i t k : ℤ) → Bool
-Row g r i t k = beyond (2 * 10 ^ 11) g || beyond (10 ^ 10) r || beyond (10 ^ 10) i || beyond (10 ^ 10) t || beyond (10 ^ 10) k
+Row g r i t k = beyond geometryLimit g || beyond (10 ^ 10) r || beyond (10 ^ 10) i || beyond (10 ^ 10) t || beyond (10 ^ 10) k
 
 -- whether one from row j on has
 abbrev pub From : (g r i t k : List ℤ) → ℕ → Bool
 From g r i t k j =
-    anyBeyond (2 * 10 ^ 11) (drop j g) || anyBeyond (10 ^ 10) (drop j r) || anyBeyond (10 ^ 10) (drop j i) || anyBeyond (10 ^ 10) (drop j t)
+    anyBeyond geometryLimit (drop j g) || anyBeyond (10 ^ 10) (drop j r) || anyBeyond (10 ^ 10) (drop j i) || anyBeyond (10 ^ 10) (drop j t)
     || anyBeyond (10 ^ 10) (drop j k)
 
 -- of one column
@@ -47,9 +48,9 @@ module _ (g r i t k : List ℤ) (same : (length r ≡ length g) × (length i ≡
       let t' : j < length t = omega (arith, same) in
       let k' : j < length k = omega (arith, same) in
       ap₂ _||_
-      (ap₂ _||_ (ap₂ _||_ (ap₂ _||_ (step (2 * 10 ^ 11) g j h) (step (10 ^ 10) r j r')) (step (10 ^ 10) i j i')) (step (10 ^ 10) t j t')) (step (10 ^ 10) k j k')
-      ∙ all (beyond (2 * 10 ^ 11) (getD g j (pos 0))) (beyond (10 ^ 10) (getD r j (pos 0))) (beyond (10 ^ 10) (getD i j (pos 0)))
-      (beyond (10 ^ 10) (getD t j (pos 0))) (beyond (10 ^ 10) (getD k j (pos 0))) (anyBeyond (2 * 10 ^ 11) (drop (j + 1) g))
+      (ap₂ _||_ (ap₂ _||_ (ap₂ _||_ (step geometryLimit g j h) (step (10 ^ 10) r j r')) (step (10 ^ 10) i j i')) (step (10 ^ 10) t j t')) (step (10 ^ 10) k j k')
+      ∙ all (beyond geometryLimit (getD g j (pos 0))) (beyond (10 ^ 10) (getD r j (pos 0))) (beyond (10 ^ 10) (getD i j (pos 0)))
+      (beyond (10 ^ 10) (getD t j (pos 0))) (beyond (10 ^ 10) (getD k j (pos 0))) (anyBeyond geometryLimit (drop (j + 1) g))
       (anyBeyond (10 ^ 10) (drop (j + 1) r)) (anyBeyond (10 ^ 10) (drop (j + 1) i)) (anyBeyond (10 ^ 10) (drop (j + 1) t))
       (anyBeyond (10 ^ 10) (drop (j + 1) k))
 

@@ -15,7 +15,7 @@ use Rattle.limits.proofs.Blocks.{blocks-within}
 use Rattle.limits.proofs.Laws.{then-zero, when-zero, or-false, magnitude-within}
 use Rattle.limits.proofs.Lists.{counted}
 use Rattle.exact.specs.Corrected.{Given}
-use Rattle.correcting.specs.Correct.{blocks, wrongSizes, outOfLimits}
+use Rattle.correcting.specs.Correct.{blocks, geometryLimit, wrongSizes, outOfLimits}
 use Rattle.limits.proofs.Scans.{none-outside}
 use Rattle.correcting.specs.declared.Corrected.{Corrected}
 use Rattle.correcting.specs.Answer.{correctNumber, correctedNumber, corrected, othersBeyond, wholeBlocks, blocksRule, correctedBlocks, correctRule}
@@ -55,7 +55,7 @@ sized g e =
 
 -- all but the measurements
 pub record Others (g : Given) : Type 0 where
-  pub in-geometry : anyBeyond (2 * 10 ^ 11) (g .geometry) ≡ false
+  pub in-geometry : anyBeyond geometryLimit (g .geometry) ≡ false
   pub in-relativity : anyBeyond (10 ^ 10) (g .relativity) ≡ false
   pub in-ionosphere : anyBeyond (10 ^ 10) (g .ionosphere) ≡ false
   pub in-troposphere : anyBeyond (10 ^ 10) (g .troposphere) ≡ false
@@ -68,7 +68,7 @@ pub record Others (g : Given) : Type 0 where
 pub others : (g : Given) → othersBeyond g ≡ false → Others g
 unfolding othersBeyond
 others g e =
-    let G = anyBeyond (2 * 10 ^ 11) (g .geometry) in
+    let G = anyBeyond geometryLimit (g .geometry) in
     let R = anyBeyond (10 ^ 10) (g .relativity) in
     let I = anyBeyond (10 ^ 10) (g .ionosphere) in
     let T = anyBeyond (10 ^ 10) (g .troposphere) in
@@ -106,7 +106,7 @@ pub limits-parts : (g : Given) → outOfLimits g ≡ anyBeyond (10 ^ 12) (g .mea
 unfolding outOfLimits othersBeyond
 limits-parts g =
     or-assoc (anyBeyond (10 ^ 12) (g .measurements))
-    (anyBeyond (2 * 10 ^ 11) (g .geometry) || anyBeyond (10 ^ 10) (g .relativity) || anyBeyond (10 ^ 10) (g .ionosphere)
+    (anyBeyond geometryLimit (g .geometry) || anyBeyond (10 ^ 10) (g .relativity) || anyBeyond (10 ^ 10) (g .ionosphere)
     || anyBeyond (10 ^ 10) (g .troposphere) || anyBeyond (10 ^ 10) (g .clock))
     (beyond (10 ^ 10) (g .int) || beyond (10 ^ 10) (g .cab) || beyond (10 ^ 10) (g .refdly) || beyond (10 ^ 10) (g .gd))
 

@@ -12,7 +12,7 @@ use Rattle.limits.specs.Lists.{anyBeyond}
 use Rattle.limits.specs.Scan.{firstOutside, readTo}
 use Rattle.exact.specs.Corrected.{Given}
 use Rattle.correcting.specs.declared.Corrected.{Corrected}
-use Rattle.correcting.specs.Correct.{wrongSizes, outOfLimits}
+use Rattle.correcting.specs.Correct.{geometryLimit, wrongSizes, outOfLimits}
 
 -- 1 or 2, the first of them that holds, 0 where none does.
 unfoldable pub correctNumber : Given → ℕ
@@ -30,7 +30,7 @@ corrected (suc number) read = Corrected.Refused (suc number) read
 -- A correction or a delay is outside its limits: what 2 says of all but the measurements.
 unfoldable pub othersBeyond : Given → Bool
 othersBeyond g =
-    (anyBeyond (2 * 10 ^ 11) (g .geometry) || anyBeyond (10 ^ 10) (g .relativity) || anyBeyond (10 ^ 10) (g .ionosphere)
+    (anyBeyond geometryLimit (g .geometry) || anyBeyond (10 ^ 10) (g .relativity) || anyBeyond (10 ^ 10) (g .ionosphere)
     || anyBeyond (10 ^ 10) (g .troposphere) || anyBeyond (10 ^ 10) (g .clock))
     || delaysBeyond (g .int) (g .cab) (g .refdly) (g .gd)
 

@@ -45,11 +45,15 @@ wrongSizes g =
     || (miscounted (15 * n) (g .measurements) || miscounted n (g .relativity) || miscounted n (g .ionosphere)
     || miscounted n (g .troposphere) || miscounted n (g .clock))
 
--- 2: some measurement exceeds 10^12 ps in magnitude, some geometry 2 × 10^11 ps, or some other correction or delay 10^10 ps.
+-- The limit of a geometry in ps.
+abbrev pub geometryLimit : ℕ
+geometryLimit = 2 * 10 ^ 11
+
+-- 2: some measurement exceeds 10^12 ps in magnitude, some geometry its limit, or some other correction or delay 10^10 ps.
 unfoldable pub outOfLimits : Given → Bool
 outOfLimits g =
     anyBeyond (10 ^ 12) (g .measurements)
-    || (anyBeyond (2 * 10 ^ 11) (g .geometry) || anyBeyond (10 ^ 10) (g .relativity) || anyBeyond (10 ^ 10) (g .ionosphere)
+    || (anyBeyond geometryLimit (g .geometry) || anyBeyond (10 ^ 10) (g .relativity) || anyBeyond (10 ^ 10) (g .ionosphere)
     || anyBeyond (10 ^ 10) (g .troposphere) || anyBeyond (10 ^ 10) (g .clock))
     || delaysBeyond (g .int) (g .cab) (g .refdly) (g .gd)
 

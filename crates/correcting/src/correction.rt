@@ -14,7 +14,7 @@ ghost use Rattle.whole.specs.Words.{Within};
 ghost use Rattle.limits.specs.Lists.{anyBeyond};
 ghost use Rattle.exact.specs.Corrected.{at, steps, toA, toB};
 ghost use Rattle.series.specs.Answers.{smoothReply};
-ghost use Rattle.correcting.specs.Correct.{given, valueA, valueB, valueC, valueD, wrongSizes};
+ghost use Rattle.correcting.specs.Correct.{geometryLimit, given, valueA, valueB, valueC, valueD, wrongSizes};
 ghost use Rattle.correcting.specs.Answer.{othersBeyond, filled, wholeBlocks, blocksRule};
 
 // The number of Smooth's answer: that of the refusal, 0 where there is none.
@@ -49,7 +49,7 @@ fn corrected(
     clock: i64,
 ) -> Values
     requires { ⌜ Within valuesLimit smoothed × Within (10 ^ 10) int × Within (10 ^ 10) cab × Within (10 ^ 10) refdly × Within (10 ^ 10) gd ⌝ }
-    requires { ⌜ Within (2 * 10 ^ 11) geometry × Within (10 ^ 10) relativity
+    requires { ⌜ Within geometryLimit geometry × Within (10 ^ 10) relativity
         × Within (10 ^ 10) ionosphere × Within (10 ^ 10) troposphere × Within (10 ^ 10) clock ⌝ }
     ensures { λ r. ⌜ (r .a ≡ toA (given [] int cab refdly gd
         (geometry ∷ []) (relativity ∷ []) (ionosphere ∷ []) (troposphere ∷ []) (clock ∷ [])) (pos steps) 0 smoothed)
@@ -82,7 +82,7 @@ fn corrected_at(
     clock: &[i64],
 ) -> Values
     requires { ⌜ Within valuesLimit smoothed × Within (10 ^ 10) int × Within (10 ^ 10) cab × Within (10 ^ 10) refdly × Within (10 ^ 10) gd ⌝ }
-    requires { ⌜ (j < length (now geometry)) × (anyBeyond (2 * 10 ^ 11) (now geometry) ≡ false) ⌝ }
+    requires { ⌜ (j < length (now geometry)) × (anyBeyond geometryLimit (now geometry) ≡ false) ⌝ }
     requires { ⌜ (j < length (now relativity)) × (anyBeyond (10 ^ 10) (now relativity) ≡ false) ⌝ }
     requires { ⌜ (j < length (now ionosphere)) × (anyBeyond (10 ^ 10) (now ionosphere) ≡ false) ⌝ }
     requires { ⌜ (j < length (now troposphere)) × (anyBeyond (10 ^ 10) (now troposphere) ≡ false) ⌝ }

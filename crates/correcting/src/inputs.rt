@@ -9,6 +9,7 @@ ghost use Rattle.exact.specs.Corrected.{at};
 ghost use Rattle.limits.specs.Blocks.{blocksFit};
 ghost use Rattle.limits.specs.Limits.{beyond};
 ghost use Rattle.limits.specs.Lists.{miscounted, anyBeyond};
+ghost use Rattle.correcting.specs.Correct.{geometryLimit};
 
 // Whether the blocks are not from 4 to 52, the measurements not 15 a block, or another column not as long as the geometry's.
 pub fn sizes_wrong(
@@ -48,7 +49,7 @@ fn row_beyond(
 ) -> bool
     requires { ⌜ (j < length (now geometry)) × (j < length (now relativity)) × (j < length (now ionosphere))
         × (j < length (now troposphere)) × (j < length (now clock)) ⌝ }
-    ensures { λ r. ⌜ r ≡ beyond (2 * 10 ^ 11) (at (now (geometry .entry)) j) || beyond (10 ^ 10) (at (now (relativity .entry)) j)
+    ensures { λ r. ⌜ r ≡ beyond geometryLimit (at (now (geometry .entry)) j) || beyond (10 ^ 10) (at (now (relativity .entry)) j)
         || beyond (10 ^ 10) (at (now (ionosphere .entry)) j) || beyond (10 ^ 10) (at (now (troposphere .entry)) j)
         || beyond (10 ^ 10) (at (now (clock .entry)) j) ⌝ }
 {
@@ -77,7 +78,7 @@ pub fn columns_beyond(
 ) -> bool
     requires { ⌜ (length (now relativity) ≡ length (now geometry)) × (length (now ionosphere) ≡ length (now geometry))
         × (length (now troposphere) ≡ length (now geometry)) × (length (now clock) ≡ length (now geometry)) ⌝ }
-    ensures { λ r. ⌜ r ≡ anyBeyond (2 * 10 ^ 11) (now (geometry .entry))
+    ensures { λ r. ⌜ r ≡ anyBeyond geometryLimit (now (geometry .entry))
         || anyBeyond (10 ^ 10) (now (relativity .entry)) || anyBeyond (10 ^ 10) (now (ionosphere .entry))
         || anyBeyond (10 ^ 10) (now (troposphere .entry)) || anyBeyond (10 ^ 10) (now (clock .entry)) ⌝ }
 {

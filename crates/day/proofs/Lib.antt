@@ -7,3 +7,4 @@ pub mod Answers
 pub mod DayFile
 pub mod Cutting
 pub mod Parts
+pub mod Retired

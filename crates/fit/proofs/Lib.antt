@@ -1,3 +1,3 @@
 pub mod Tracks
-pub mod Largest
 pub mod Accuracy
+pub mod Retired

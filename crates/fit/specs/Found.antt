@@ -5,7 +5,7 @@ use Rattle.limits.specs.declared.Numbers.{Numbers}
 use Rattle.fit.specs.declared.TrackRecord.{TrackRecord}
 use Rattle.fit.specs.declared.Found.{Found}
 use Rattle.exact.specs.Corrected.{Given}
-use Rattle.fit.specs.Track.{recordNumber, zeros, results, trackNumber}
+use Rattle.fit.specs.Track.{numbersRule, zeros, results, trackNumber}
 
 -- The number of each case, 0 where there is none.
 abbrev pub foundNumber : Found → ℕ
@@ -24,7 +24,7 @@ found (suc number) numbers = Found.Refused (suc number)
 
 -- The case for a record.
 unfoldable pub judgedOf : TrackRecord → Found
-judgedOf t = found (recordNumber t) (t .numbers)
+judgedOf t = found (numbersRule t) (t .numbers)
 
 -- The case for what a track is given.
 unfoldable pub foundIn : Given → Found

@@ -1,7 +1,6 @@
--- Track (document 01; document 02, Jobs 3 and 8): the corrected values of each kind and the ten numbers of a track of n blocks.
+-- Track (document 01; document 02, Jobs 3, 8 and 14): the corrected values of each kind and the ten numbers of a track of n blocks.
 -- Assumes nothing.
 use Prim.Native.Nat.{ℕ, zero, suc, _*_}
-use mathlib.Core.Bool.{Bool, _||_}
 use mathlib.Core.List.{List}
 use lib.IntN.{ℤ, pos}
 use lib.ListN.{replicate}
@@ -11,8 +10,7 @@ use Rattle.limits.specs.Limits.{limitsRule, dsgRule}
 use Rattle.fit.specs.declared.TrackRecord.{TrackRecord}
 use Rattle.fit.specs.declared.Tracked.{Tracked}
 use Rattle.exact.specs.Corrected.{at, steps, Given}
-use Rattle.limits.specs.Lists.{anyBeyond}
-use Rattle.series.specs.Fit.{midpoint, slope, valuesLimit}
+use Rattle.series.specs.Fit.{midpoint, slope}
 use Rattle.series.specs.Scatter.{squares, dsg}
 use Rattle.correcting.specs.Correct.{blocks, valueA, valueB, valueC, valueD, places, wrongSizes, outOfLimits}
 
@@ -48,24 +46,15 @@ unfoldable pub results : Given → TrackRecord
 results g =
     let n = blocks g in recordOf n (places n (valueA g)) (places n (valueB g)) (places n (valueC g)) (places n (valueD g))
 
--- 10: some corrected value exceeds 2 × 10^13 tenths in magnitude.
-unfoldable pub correctedBeyond : TrackRecord → Bool
-correctedBeyond t =
-    anyBeyond valuesLimit (t .a) || anyBeyond valuesLimit (t .b)
-    || anyBeyond valuesLimit (t .c) || anyBeyond valuesLimit (t .d)
-
 -- 3, 4, 5 and 6 on the numbers.
 unfoldable pub numbersRule : TrackRecord → ℕ
 numbersRule t = limitsRule (t .numbers) then dsgRule (t .numbers .dsg)
 
--- What is refused of the corrected values and their numbers: 10, then 3 to 6.
-unfoldable pub recordNumber : TrackRecord → ℕ
-recordNumber t = 10 when correctedBeyond t then numbersRule t
-
--- The number of the first refusal in document 01's order, 0 where there is none.
+-- The number of the first refusal in document 01's order, 0 where there is none. 10 is retired (document 02, Job 14): proofs/Retired.antt shows that
+-- no answer changed.
 unfoldable pub trackNumber : Given → ℕ
 trackNumber g =
-    1 when wrongSizes g then 2 when outOfLimits g then recordNumber (results g)
+    1 when wrongSizes g then 2 when outOfLimits g then numbersRule (results g)
 
 -- A record of zeros.
 unfoldable pub zeros : TrackRecord

@@ -9,22 +9,19 @@ use super::answers::fitted_number;
 use super::answers::scattered_number;
 use super::fit;
 use super::scatter;
-use limits::any_outside;
 use limits::limits;
-use limits::then;
-use limits::when;
 ghost use mathlib.Core.Path.{_≡_};
-ghost use mathlib.Core.Bool.{false, _||_};
+ghost use mathlib.Core.Bool.{false};
 ghost use Prim.Native.Nat.{_≤_};
 ghost use lib.IntN.{pos};
-ghost use lib.ListN.{length, take, drop};
+ghost use lib.ListN.{length};
 ghost use Rattle.exact.specs.Corrected.{at, steps};
 ghost use Rattle.limits.specs.Limits.{dsgRule};
 ghost use Rattle.limits.specs.Lists.{anyBeyond};
-ghost use Rattle.limits.specs.Refusal.{_when_, _then_};
 ghost use Rattle.limits.specs.Reply.{reply};
-ghost use Rattle.series.specs.Answers.{fitReply, fitNumbered, scatterReply, scatterNumbered};
-ghost use Rattle.series.specs.Fit.{fitRule, valuesLimit};
+ghost use Rattle.series.specs.declared.Fitted.{Fitted};
+ghost use Rattle.series.specs.Answers.{scatterReply, scatterNumbered};
+ghost use Rattle.series.specs.Fit.{midpoint, slope, valuesLimit};
 ghost use Rattle.series.specs.Scatter.{squares, dsg};
 ghost use Rattle.fit.specs.Track.{recordOf, zeros};
 ghost use Rattle.fit.specs.Found.{judgedOf};
@@ -58,11 +55,10 @@ pub fn refused(number: u32) -> Tracked
     }
 }
 
-// Fit's answer to the first n of 52 places.
+// The line through the first n of 52 places, which are inside their limit: Fit refuses none of them.
 fn fit_blocks(n: usize, values: &[i64]) -> Fitted
-    requires { ⌜ (n ≤ 52) × (length (now values) ≡ 52) ⌝ }
-    ensures { λ r. ⌜ fitReply r ≡ fitRule (take n (now (values .entry))) ⌝ }
-    ensures { λ r. ⌜ fitNumbered r ⌝ }
+    requires { ⌜ (4 ≤ n) × (n ≤ 52) × (length (now values) ≡ 52) × (anyBeyond valuesLimit (now values) ≡ false) ⌝ }
+    ensures { λ r. ⌜ r ≡ Fitted.Line (midpoint steps n (at (now (values .entry)))) (slope steps n (at (now (values .entry)))) ⌝ }
 {
     fit(&values[0..n])
 }
@@ -76,33 +72,13 @@ fn scatter_blocks(n: usize, values: &[i64]) -> Scattered
     scatter(&values[0..n])
 }
 
-// Whether a corrected value is outside ±2 × 10^13 tenths.
-fn corrected_beyond(a: &[i64], b: &[i64], c: &[i64], d: &[i64]) -> bool
-    ensures { λ r. ⌜ r ≡ anyBeyond valuesLimit (now (a .entry)) || anyBeyond valuesLimit (now (b .entry))
-        || anyBeyond valuesLimit (now (c .entry)) || anyBeyond valuesLimit (now (d .entry)) ⌝ }
-{
-    any_outside(a, -20_000_000_000_000, 20_000_000_000_000)
-        | any_outside(b, -20_000_000_000_000, 20_000_000_000_000)
-        | any_outside(c, -20_000_000_000_000, 20_000_000_000_000)
-        | any_outside(d, -20_000_000_000_000, 20_000_000_000_000)
-}
-
-// What corrected values are refused for where Fit has refused the line through a row of them: 10 where one is outside its limit, else Fit's own number.
-fn values_refusal(line: Fitted, a: &[i64], b: &[i64], c: &[i64], d: &[i64]) -> u32
-    ensures { λ r. ⌜ r ≡ 10 when (anyBeyond valuesLimit (now (a .entry)) || anyBeyond valuesLimit (now (b .entry))
-        || anyBeyond valuesLimit (now (c .entry)) || anyBeyond valuesLimit (now (d .entry))) then fitReply line .number ⌝ }
-{
-    then(when(10, corrected_beyond(a, b, c, d)), fitted_number(line))
-}
-
-// The ten numbers of corrected values, or what they are refused for: 10 where one is outside its limit, 3 to 5 by the fitted numbers, then
-// Scatter's 6. The four fits test every value of the n blocks, so that 10 is tried only where one of them refuses. The other places are inside
-// their limit.
+// The ten numbers of corrected values, or what they are refused for: 3 to 5 by the fitted numbers, then Scatter's 6. Every value is inside Fit's
+// limit, as those of Track are (law corrected-within).
 pub fn ten_numbers(n: usize, a: &[i64], b: &[i64], c: &[i64], d: &[i64]) -> Found
     requires { ⌜ (4 ≤ n) × (n ≤ 52) ⌝ }
     requires { ⌜ (length (now a) ≡ 52) × (length (now b) ≡ 52) × (length (now c) ≡ 52) × (length (now d) ≡ 52) ⌝ }
-    requires { ⌜ (anyBeyond valuesLimit (drop n (now a)) ≡ false) × (anyBeyond valuesLimit (drop n (now b)) ≡ false)
-        × (anyBeyond valuesLimit (drop n (now c)) ≡ false) × (anyBeyond valuesLimit (drop n (now d)) ≡ false) ⌝ }
+    requires { ⌜ (anyBeyond valuesLimit (now a) ≡ false) × (anyBeyond valuesLimit (now b) ≡ false)
+        × (anyBeyond valuesLimit (now c) ≡ false) × (anyBeyond valuesLimit (now d) ≡ false) ⌝ }
     ensures { λ r. ⌜ r ≡ judgedOf (recordOf n (now (a .entry)) (now (b .entry)) (now (c .entry)) (now (d .entry))) ⌝ }
 {
     let line_a = fit_blocks(n, a);
@@ -111,8 +87,8 @@ pub fn ten_numbers(n: usize, a: &[i64], b: &[i64], c: &[i64], d: &[i64]) -> Foun
         slope: srsv,
     } = line_a
     else {
-        // Never taken from Track, here and in the next three (law corrected-within); kept until 10 is retired.
-        return Found::Refused(values_refusal(line_a, a, b, c, d));
+        // Never taken, here and in the next three: Fit refuses no value inside its limit.
+        return Found::Refused(fitted_number(line_a));
     };
     let line_b = fit_blocks(n, b);
     let Fitted::Line {
@@ -120,7 +96,7 @@ pub fn ten_numbers(n: usize, a: &[i64], b: &[i64], c: &[i64], d: &[i64]) -> Foun
         slope: srsys,
     } = line_b
     else {
-        return Found::Refused(values_refusal(line_b, a, b, c, d));
+        return Found::Refused(fitted_number(line_b));
     };
     let line_c = fit_blocks(n, c);
     let Fitted::Line {
@@ -128,7 +104,7 @@ pub fn ten_numbers(n: usize, a: &[i64], b: &[i64], c: &[i64], d: &[i64]) -> Foun
         slope: smdt,
     } = line_c
     else {
-        return Found::Refused(values_refusal(line_c, a, b, c, d));
+        return Found::Refused(fitted_number(line_c));
     };
     let line_d = fit_blocks(n, d);
     let Fitted::Line {
@@ -136,7 +112,7 @@ pub fn ten_numbers(n: usize, a: &[i64], b: &[i64], c: &[i64], d: &[i64]) -> Foun
         slope: smdi,
     } = line_d
     else {
-        return Found::Refused(values_refusal(line_d, a, b, c, d));
+        return Found::Refused(fitted_number(line_d));
     };
     let mut numbers = Numbers {
         refsv,

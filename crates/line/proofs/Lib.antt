@@ -4,3 +4,4 @@ pub mod Sample
 pub mod Blocks
 pub mod ColumnTable
 pub mod AcceptedBlocks
+pub mod Retired

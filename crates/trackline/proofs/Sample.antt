@@ -22,7 +22,7 @@ use Rattle.series.specs.Fit.{total, moment, midpoint, slope}
 use Rattle.series.specs.Scatter.{residual, squares, threshold, climb, dsg}
 use Rattle.fit.specs.declared.TrackRecord.{TrackRecord}
 use Rattle.correcting.specs.Correct.{smoothedAt, valueA, valueB, valueC, valueD, places, given, wrongSizes, outOfLimits}
-use Rattle.fit.specs.Track.{numbersWith, recordOf, results, correctedBeyond, numbersRule, recordNumber, trackNumber}
+use Rattle.fit.specs.Track.{numbersWith, recordOf, results, numbersRule, trackNumber}
 use Rattle.columns.specs.Text.{lineLength, lineText}
 use Rattle.line.specs.Line.{lineAnswer}
 use Rattle.hire.specs.Hire.{measurementsIn, blocksIn, sizesFit, blockLabels, givenIn, blockGiven}
@@ -74,8 +74,8 @@ sample-inside : (wrongSizes sampleTrack ≡ false) × (outOfLimits sampleTrack �
 unfolding blocksFit outside anyOutside wrongSizes outOfLimits
 sample-inside = (refl, refl)
 
-sample-record-accepted : recordNumber sampleRecord ≡ 0
-unfolding sum nearest place total moment midpoint slope residual squares threshold climb dsg recordOf numbersWith outside _when_ _then_ limitsRule dsgRule anyOutside correctedBeyond numbersRule recordNumber
+sample-record-accepted : numbersRule sampleRecord ≡ 0
+unfolding sum nearest place total moment midpoint slope residual squares threshold climb dsg recordOf numbersWith outside _when_ _then_ limitsRule dsgRule numbersRule
 sample-record-accepted = refl
 
 sample-accepted-track : trackNumber sampleTrack ≡ 0

@@ -7,8 +7,8 @@ use reference::seeded::Seeded;
 use reference::waves::wave;
 use reference::{block_bytes, Labels, Numbers, BLOCK_SECONDS, LEAST_BLOCKS, MOST_BLOCKS};
 
-/// The order in which each operation tries its refusals; 10 can't be reached. Block has 11 twice: for what is too short to
-/// have sizes, and behind 1 for any other wrong length.
+/// The order in which each operation tries its refusals. Block has 11 twice: for what is too short to have sizes, and behind 1
+/// for any other wrong length.
 pub const BLOCK_ORDER: [u32; 11] = [11, 1, 11, 2, 3, 4, 5, 6, 7, 8, 9];
 pub const LINE_ORDER: [u32; 7] = [7, 8, 3, 4, 5, 6, 9];
 

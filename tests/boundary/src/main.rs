@@ -77,7 +77,7 @@ fn main() -> ExitCode {
     ExitCode::FAILURE
 }
 
-/// Prints the counts; gives what should have been seen and was not.
+/// Prints the counts; gives what should have been seen and was not, or should not and was.
 fn report(compare: &Compare) -> Vec<String> {
     let mut missing = Vec::new();
     for (of, order) in [
@@ -111,7 +111,7 @@ fn numbers(order: &[u32]) -> Vec<u32> {
     numbers
 }
 
-/// How often each answer came; for the comment, the answer to the line that it was asked of.
+/// How often each answer came, and that no other number did; for the comment, the answer to the line that it was asked of.
 fn answers(compare: &Compare, of: &'static str, order: &[u32], missing: &mut Vec<String>) {
     let seen = |answer: u32| compare.answers.get(&(of, answer)).copied().unwrap_or(0);
     let total: u64 = compare.answers.iter().filter(|(key, _)| key.0 == of).map(|(_, count)| count).sum();
@@ -121,6 +121,9 @@ fn answers(compare: &Compare, of: &'static str, order: &[u32], missing: &mut Vec
         if seen(answer) == 0 {
             missing.push(format!("trackline_{of} never answered {answer}"));
         }
+    }
+    for (_, other) in compare.answers.keys().filter(|key| key.0 == of && !numbers(order).contains(&key.1)) {
+        missing.push(format!("trackline_{of} answered {other}, which is none of its numbers"));
     }
 }
 

@@ -5,7 +5,7 @@ use crate::{nearest, within};
 /// Limit of one measurement, in ps.
 pub(crate) const MEASUREMENT_LIMIT: i64 = 1_000_000_000_000;
 /// Limit of a value that is fitted, in ps; the value itself is in steps.
-pub(crate) const VALUE_LIMIT: i64 = 2_000_000_000_000;
+const VALUE_LIMIT: i64 = 2_000_000_000_000;
 /// The greatest DSG that its four columns hold.
 pub(crate) const MOST_DSG: i64 = 9999;
 

@@ -1,7 +1,7 @@
 //! Track: from the measurements of n blocks and their corrections to the ten numbers of a line.
 
 use crate::fit::{blocks_fit, fit_in, scatter_in, smooth_in};
-use crate::fit::{MEASUREMENT_LIMIT, MOST_BLOCKS, MOST_DSG, TENTHS, VALUE_LIMIT};
+use crate::fit::{MEASUREMENT_LIMIT, MOST_BLOCKS, MOST_DSG, TENTHS};
 use crate::within;
 
 /// Measurements that make one smoothed value.
@@ -113,14 +113,6 @@ fn admit(measurements: &[i64], delays: &Delays, columns: &Columns) -> Result<usi
     Ok(n)
 }
 
-/// 10.
-fn check_values<const STEPS: i64>(kinds: [&[i64]; 4]) -> Result<(), u32> {
-    if kinds.iter().any(|kind| !all_within(kind, STEPS * VALUE_LIMIT)) {
-        return Err(10);
-    }
-    Ok(())
-}
-
 /// Track: a record, or the refusal.
 #[inline(always)]
 pub fn track(measurements: &[i64], delays: &Delays, columns: &Columns) -> Result<Record, u32> {
@@ -150,7 +142,6 @@ pub(crate) fn track_in<const STEPS: i64>(
         c[j] = STEPS * columns.troposphere[j];
         d[j] = STEPS * columns.ionosphere[j];
     }
-    check_values::<STEPS>([&a, &b, &c, &d])?;
     let fit = |kind: &[i64]| fit_in::<STEPS>(kind);
     let (line_a, line_b, line_c, line_d) = (fit(&a[..n])?, fit(&b[..n])?, fit(&c[..n])?, fit(&d[..n])?);
     let mut numbers = Numbers {

@@ -2,23 +2,27 @@
 -- Assumes nothing.
 use borrow.Author.Needs.{needs}
 use mathlib.Core.Path.{_≡_, sym, ap, _∙_}
+use mathlib.Core.Bool.{false}
 use mathlib.Core.List.{List}
 use Prim.Native.Nat.{ℕ, _≤_}
 use lib.IntN.{ℤ, pos}
 use lib.ListN.{length, replicate}
 use mir.Facts.{toZ-ofZ}
 use Rattle.limits.specs.declared.Numbers.{Numbers}
+use Rattle.limits.specs.Lists.{anyBeyond}
+use Rattle.series.specs.Fit.{valuesLimit}
 use Rattle.exact.specs.Corrected.{Given, steps}
 use Rattle.exact.specs.Accurate.{AccurateTrack}
 use Rattle.correcting.specs.Correct.{blocks, given, places, valueA, valueB, valueC, valueD}
 use Rattle.correcting.specs.Answer.{correctNumber, correctedNumber, correctedBlocks, correctRule, filled}
 use Rattle.correcting.proofs.Arrays.{places-length, filled-places}
-use Rattle.correcting.proofs.Refusals.{sized, corrected-refused, corrected-values, sizes-passed, all-corrected}
+use Rattle.correcting.proofs.Refusals.{sized, corrected-refused, corrected-values, sizes-passed, limits-passed, all-corrected}
+use Rattle.correcting.proofs.Largest.{Inside, corrected-within}
 use Rattle.fit.specs.declared.Tracked.{Tracked}
 use Rattle.fit.specs.Track.{trackRule, zeros, recordOf, results}
 use Rattle.fit.specs.Found.{foundNumber, judgedOf}
 use Rattle.fit.proofs.Accuracy.{tracked-accurate}
-use Rattle.fit.proofs.Tracks.{past-inside, track-refused, track-judged, found-refused, found-ten}
+use Rattle.fit.proofs.Tracks.{track-refused, track-judged, found-refused, found-ten}
 use Rattle.fit.proofs.track.Statement.{statement}
 use Rattle.fit.proofs.track.Tie as tie
 
@@ -80,6 +84,13 @@ d-is : (c : tie.After-enum-told) → let t = g (start (made c)) in made c .corre
 d-is c =
     let f = start (made c) .fits in
     row (g (start (made c))) (valueD (g (start (made c)))) (number c) (simp (toZ-ofZ (f .int), toZ-ofZ (f .cab), toZ-ofZ (f .refdly), toZ-ofZ (f .gd)) at (made c .correct .ensures .1 .1 .1 .1))
+
+-- and no value outside Fit's limit
+inside : (t : Given) → correctNumber t ≡ 0 → let n = blocks t in Inside (places n (valueA t)) (places n (valueB t)) (places n (valueC t)) (places n (valueD t))
+inside t e = corrected-within t (limits-passed t e) (blocks t)
+
+passes : {l row : List ℤ} → l ≡ row → anyBeyond valuesLimit row ≡ false → anyBeyond valuesLimit l ≡ false
+passes e h = ap (anyBeyond valuesLimit) e ∙ h
 
 -- so their record is the track's
 record-is : (c : tie.After-enum-told)
@@ -145,11 +156,11 @@ ten-numbers-requires c κs =
     let e = c .before .before .before .before in
     let t = g (start (made e)) in
     let z = number e in
-    let n = blocks t in (
+    let i = inside t z in (
       few t z,
       (
         (long t _ z (a-is e), long t _ z (b-is e), long t _ z (c-is e), long t _ z (d-is e)),
-        (past-inside n _ (a-is e), past-inside n _ (b-is e), past-inside n _ (c-is e), past-inside n _ (d-is e)),
+        (passes (a-is e) (i .in-a), passes (b-is e) (i .in-b), passes (c-is e) (i .in-c), passes (d-is e) (i .in-d)),
       ),
     )
 

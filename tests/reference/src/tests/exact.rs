@@ -137,18 +137,19 @@ fn largest_values_by_their_definitions() {
     }
 }
 
-/// The measurements that give the largest smoothed value, and the largest corrected values there can be, which are no 10.
+/// The measurements that give the largest smoothed value, and the largest corrected values there can be: Fit takes them, and the midpoint is 3.
 #[test]
 fn largest_measurements_and_corrections() {
     for (n, sign) in (4..=52).flat_map(|n| [(n, 1), (n, -1)]) {
         // 1469 / 1105 of 10^13 tenths
         let by_weight: Vec<i64> = WEIGHTS.iter().map(|w| sign * w.signum() * 1_000_000_000_000).collect();
         assert_eq!(smooth(&by_weight), Ok(sign * 13_294_117_647_059));
+        assert!(fit(&vec![sign * 16_094_117_647_059; n]).is_ok());
         assert_eq!(largest(n, sign).track(), Err(3));
     }
 }
 
-/// The largest corrected values there can be, which are no 10.
+/// The largest corrected values there can be.
 fn largest(n: usize, sign: i64) -> Given {
     let mut given = Given::of(n, 0);
     for (i, m) in given.measurements.iter_mut().enumerate() {

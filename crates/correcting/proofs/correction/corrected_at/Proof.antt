@@ -3,7 +3,7 @@
 use borrow.Author.Needs.{needs}
 use mathlib.Core.Path.{_≡_, ap, _∙_}
 use mathlib.Core.List.{[], _∷_}
-use Prim.Native.Nat.{_*_, _^_}
+use Prim.Native.Nat.{_^_}
 use lib.IntN.{ℤ, pos, _*ℤ_}
 use mir.Syntax.{w64}
 use mir.Val.{toZ, ofZ}
@@ -11,7 +11,7 @@ use mir.Facts.{toZ-ofZ}
 use Rattle.whole.specs.Words.{Word, known, read, back, bound}
 use Rattle.exact.specs.Corrected.{Given, at, steps, toA, toB}
 use Rattle.limits.proofs.Lists.{within-limit}
-use Rattle.correcting.specs.Correct.{given}
+use Rattle.correcting.specs.Correct.{geometryLimit, given}
 use Rattle.correcting.proofs.correction.corrected_at.Statement.{statement}
 use Rattle.correcting.proofs.correction.corrected_at.Tie as tie
 
@@ -29,7 +29,7 @@ words c =
       known (p .0 .2 .within),
       known (p .0 .3 .within),
       known (p .0 .4 .within),
-      known (within-limit (2 * 10 ^ 11) (a .geometry .now) (p .1 .0 .1) (a .j)),
+      known (within-limit geometryLimit (a .geometry .now) (p .1 .0 .1) (a .j)),
       known (within-limit (10 ^ 10) (a .relativity .now) (p .1 .1 .0 .1) (a .j)),
       known (within-limit (10 ^ 10) (a .ionosphere .now) (p .1 .1 .1 .0 .1) (a .j)),
       known (within-limit (10 ^ 10) (a .troposphere .now) (p .1 .1 .1 .1 .0 .1) (a .j)),

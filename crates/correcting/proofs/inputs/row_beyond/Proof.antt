@@ -2,10 +2,11 @@
 -- Assumes nothing.
 use mathlib.Core.Bool.{false}
 use mathlib.Core.Path.{_≡_, sym, ap, _∙_}
-use Prim.Native.Nat.{_*_, _^_}
+use Prim.Native.Nat.{_^_}
 use Rattle.whole.specs.Words.{back-of}
 use Rattle.exact.specs.Corrected.{at}
 use Rattle.limits.specs.Limits.{beyond}
+use Rattle.correcting.specs.Correct.{geometryLimit}
 use borrow.Author.Needs.{needs}
 use Rattle.correcting.proofs.inputs.row_beyond.Statement.{statement}
 use Rattle.correcting.proofs.inputs.row_beyond.Tie as tie
@@ -27,10 +28,10 @@ abbrev start-5 : tie.After-outside5 → tie.Start
 start-5 c = start-4 (c .before .before .before)
 
 -- what each test says, and that it has passed
-is-1 : (c : tie.After-outside) → let a = start-1 c .args in c .outside .result ≡ beyond (2 * 10 ^ 11) (at (a .geometry .now) (a .j))
-is-1 c = c .outside .ensures ∙ ap (beyond (2 * 10 ^ 11)) (back-of (c .before .outside-arg .given))
+is-1 : (c : tie.After-outside) → let a = start-1 c .args in c .outside .result ≡ beyond geometryLimit (at (a .geometry .now) (a .j))
+is-1 c = c .outside .ensures ∙ ap (beyond geometryLimit) (back-of (c .before .outside-arg .given))
 
-left-1 : (c : tie.Else1) → let a = start-1 (c .before) .args in beyond (2 * 10 ^ 11) (at (a .geometry .now) (a .j)) ≡ false
+left-1 : (c : tie.Else1) → let a = start-1 (c .before) .args in beyond geometryLimit (at (a .geometry .now) (a .j)) ≡ false
 left-1 c = sym (is-1 (c .before)) ∙ c .if1 .left
 
 is-2 : (c : tie.After-outside2) → let a = start-2 c .args in c .outside2 .result ≡ beyond (10 ^ 10) (at (a .relativity .now) (a .j))

@@ -1,5 +1,4 @@
--- `fit::results::ten_numbers` meets its contract: where Fit refuses a row, one of the values is outside its limit; where it accepts all four, none is, and
--- the numbers are those of the record.
+-- `fit::results::ten_numbers` meets its contract: Fit refuses none of the four rows, and the numbers are those of the record.
 -- Assumes nothing.
 use borrow.Author.Needs.{needs}
 use mathlib.Core.Path.{_≡_, sym, ap, _∙_, subst}
@@ -19,9 +18,9 @@ use Rattle.series.specs.declared.Scattered.{Scattered}
 use Rattle.series.specs.Answers.{scatterReply, scatterNumbered}
 use Rattle.fit.specs.declared.Found.{Found}
 use Rattle.fit.specs.declared.TrackRecord.{TrackRecord}
-use Rattle.fit.specs.Track.{recordOf, numbersWith, numbersRule, recordNumber}
+use Rattle.fit.specs.Track.{recordOf, numbersWith, numbersRule}
 use Rattle.fit.specs.Found.{found, judgedOf}
-use Rattle.fit.proofs.Tracks.{Inside, fit-inside, fit-numbers, fit-refused, ten-passed}
+use Rattle.fit.proofs.Tracks.{fit-never, line-numbers}
 use Rattle.fit.proofs.results.ten_numbers.Statement.{statement}
 use Rattle.fit.proofs.results.ten_numbers.Tie as tie
 
@@ -45,31 +44,12 @@ start-d c = start-c (c .before .before .before .before)
 abbrev start : tie.After-known-told4 → tie.Start
 start c = start-d (c .before .before .before)
 
--- the four rows are inside, as Fit has accepted each
-fine : (c : tie.After-known-told4) → let a = start c .args in Inside (a .a .now) (a .b .now) (a .c .now) (a .d .now)
-fine c =
-    let three = c .before .before .before .before in
-    let two = three .before .before .before .before in
-    let one = two .before .before .before .before in
-    let a = start c .args in
-    let past = start c .pre .1 .1 in
-    record {
-      in-a = fit-inside (a .n) (a .a .now) (one .before .before .before .fit-blocks .ensures .0) (one .before .line-a .given .1) (past .0);
-      in-b = fit-inside (a .n) (a .b .now) (two .before .before .before .fit-blocks2 .ensures .0) (two .before .line-b .given .1) (past .1);
-      in-c = fit-inside (a .n) (a .c .now) (three .before .before .before .fit-blocks3 .ensures .0) (three .before .line-c .given .1) (past .2);
-      in-d = fit-inside (a .n) (a .d .now) (c .before .before .before .fit-blocks4 .ensures .0) (c .before .line-d .given .1) (past .3);
-    }
-
--- so that the first refusal of the numbers is that of the record
-passed : (c : tie.After-known-told4) → recordNumber (t (start c)) ≡ numbersRule (t (start c))
-passed c = let a = start c .args in ten-passed (a .n) (a .a .now) (a .b .now) (a .c .now) (a .d .now) (fine c)
-
-refuse : (r : TrackRecord) (number : ℕ) → 0 < number → recordNumber r ≡ number → Found.Refused number ≡ judgedOf r
+refuse : (r : TrackRecord) (number : ℕ) → 0 < number → numbersRule r ≡ number → Found.Refused number ≡ judgedOf r
 unfolding judgedOf found
 refuse r zero h e = absurd (omega (arith, h))
 refuse r (suc number) h e = sym (ap (λ (k : ℕ). found k (r .numbers)) e)
 
-accept : (r : TrackRecord) → recordNumber r ≡ 0 → Found.Ten (r .numbers) ≡ judgedOf r
+accept : (r : TrackRecord) → numbersRule r ≡ 0 → Found.Ten (r .numbers) ≡ judgedOf r
 unfolding judgedOf found
 accept r e = sym (ap (λ (k : ℕ). found k (r .numbers)) e)
 
@@ -103,16 +83,10 @@ numbers-are c dsg =
     let two = three .before .before .before .before in
     let one = two .before .before .before .before in
     let s = start c in
-    let few = s .pre .0 in
-    let long = s .pre .1 .0 in
-    let fa = one .before .before .before .fit-blocks .ensures in
-    let fb = two .before .before .before .fit-blocks2 .ensures in
-    let fc = three .before .before .before .fit-blocks3 .ensures in
-    let fd = c .before .before .before .fit-blocks4 .ensures in
-    let A = fit-numbers (s .args .n) (s .args .a .now) (fa .0) (few .0) (few .1) (long .0) (fa .1) (fine c .in-a) (one .before .line-a .given .1) (one .known-told .given .0 .1) (one .known-told .given .1 .0 .1) in
-    let B = fit-numbers (s .args .n) (s .args .b .now) (fb .0) (few .0) (few .1) (long .1) (fb .1) (fine c .in-b) (two .before .line-b .given .1) (two .known-told2 .given .0 .1) (two .known-told2 .given .1 .0 .1) in
-    let C = fit-numbers (s .args .n) (s .args .c .now) (fc .0) (few .0) (few .1) (long .2) (fc .1) (fine c .in-c) (three .before .line-c .given .1) (three .known-told3 .given .0 .1) (three .known-told3 .given .1 .0 .1) in
-    let D = fit-numbers (s .args .n) (s .args .d .now) (fd .0) (few .0) (few .1) (long .3) (fd .1) (fine c .in-d) (c .before .line-d .given .1) (c .known-told4 .given .0 .1) (c .known-told4 .given .1 .0 .1) in
+    let A = line-numbers (one .before .before .before .fit-blocks .ensures) (one .before .line-a .given .1) (one .known-told .given .0 .1) (one .known-told .given .1 .0 .1) in
+    let B = line-numbers (two .before .before .before .fit-blocks2 .ensures) (two .before .line-b .given .1) (two .known-told2 .given .0 .1) (two .known-told2 .given .1 .0 .1) in
+    let C = line-numbers (three .before .before .before .fit-blocks3 .ensures) (three .before .line-c .given .1) (three .known-told3 .given .0 .1) (three .known-told3 .given .1 .0 .1) in
+    let D = line-numbers (c .before .before .before .fit-blocks4 .ensures) (c .before .line-d .given .1) (c .known-told4 .given .0 .1) (c .known-told4 .given .1 .0 .1) in
     let n : toZ w64 (15 * s .args .n) ≡ pos (15 * s .args .n) = plain-is (count-read (seconds s)) tt in
     λ z. record {
       refsv = A .0 z;
@@ -163,7 +137,7 @@ ten-are c =
     ∙ ap (λ (d : ℤ). numbersWith d (a .n) (a .a .now) (a .b .now) (a .c .now) (a .d .now)) (back-of (c .known-told5 .given .0 .1) ∙ sigma-is c .1)
 
 fit-blocks-requires : tie.Need-fit-blocks-requires
-fit-blocks-requires c κs = (c .pre .0 .1, c .pre .1 .0 .0)
+fit-blocks-requires c κs = (c .pre .0 .0, c .pre .0 .1, c .pre .1 .0 .0, c .pre .1 .1 .0)
 
 enum-known-line-a : tie.Need-enum-known-line-a
 enum-known-line-a c = search needs
@@ -171,19 +145,14 @@ enum-known-line-a c = search needs
 enum-told : tie.Need-enum-told
 enum-told c = search needs
 
-values-refusal-requires : tie.Need-values-refusal-requires
-values-refusal-requires c κs = search needs
+fitted-number-requires : tie.Need-fitted-number-requires
+fitted-number-requires c κs = search needs
 
 returns : tie.Need-returns
-returns c =
-    let w = c .before .before .before in
-    let s = start-a w in
-    let a = s .args in
-    fit-refused (a .n) (a .a .now) (a .b .now) (a .c .now) (a .d .now) (a .a .now) _ (s .pre .0 .0) (s .pre .0 .1) (s .pre .1 .0 .0)
-    (λ i. i .in-a) (w .fit-blocks .ensures) (c .before .enum-told .given .1) (c .values-refusal .ensures)
+returns c = let w = c .before .before .before in absurd (fit-never (w .fit-blocks .ensures) (c .before .enum-told .given .1))
 
 fit-blocks-requires-2 : tie.Need-fit-blocks-requires-2
-fit-blocks-requires-2 c κs = let s = start-a (c .before .before .before) in (s .pre .0 .1, s .pre .1 .0 .1)
+fit-blocks-requires-2 c κs = let s = start-a (c .before .before .before) in (s .pre .0 .0, s .pre .0 .1, s .pre .1 .0 .1, s .pre .1 .1 .1)
 
 enum-known-line-b : tie.Need-enum-known-line-b
 enum-known-line-b c = search needs
@@ -191,19 +160,14 @@ enum-known-line-b c = search needs
 enum-told-2 : tie.Need-enum-told-2
 enum-told-2 c = search needs
 
-values-refusal-requires-2 : tie.Need-values-refusal-requires-2
-values-refusal-requires-2 c κs = search needs
+fitted-number-requires-2 : tie.Need-fitted-number-requires-2
+fitted-number-requires-2 c κs = search needs
 
 returns-2 : tie.Need-returns-2
-returns-2 c =
-    let w = c .before .before .before in
-    let s = start-b w in
-    let a = s .args in
-    fit-refused (a .n) (a .a .now) (a .b .now) (a .c .now) (a .d .now) (a .b .now) _ (s .pre .0 .0) (s .pre .0 .1) (s .pre .1 .0 .1)
-    (λ i. i .in-b) (w .fit-blocks2 .ensures) (c .before .enum-told2 .given .1) (c .values-refusal2 .ensures)
+returns-2 c = let w = c .before .before .before in absurd (fit-never (w .fit-blocks2 .ensures) (c .before .enum-told2 .given .1))
 
 fit-blocks-requires-3 : tie.Need-fit-blocks-requires-3
-fit-blocks-requires-3 c κs = let s = start-b (c .before .before .before) in (s .pre .0 .1, s .pre .1 .0 .2)
+fit-blocks-requires-3 c κs = let s = start-b (c .before .before .before) in (s .pre .0 .0, s .pre .0 .1, s .pre .1 .0 .2, s .pre .1 .1 .2)
 
 enum-known-line-c : tie.Need-enum-known-line-c
 enum-known-line-c c = search needs
@@ -211,19 +175,14 @@ enum-known-line-c c = search needs
 enum-told-3 : tie.Need-enum-told-3
 enum-told-3 c = search needs
 
-values-refusal-requires-3 : tie.Need-values-refusal-requires-3
-values-refusal-requires-3 c κs = search needs
+fitted-number-requires-3 : tie.Need-fitted-number-requires-3
+fitted-number-requires-3 c κs = search needs
 
 returns-3 : tie.Need-returns-3
-returns-3 c =
-    let w = c .before .before .before in
-    let s = start-c w in
-    let a = s .args in
-    fit-refused (a .n) (a .a .now) (a .b .now) (a .c .now) (a .d .now) (a .c .now) _ (s .pre .0 .0) (s .pre .0 .1) (s .pre .1 .0 .2)
-    (λ i. i .in-c) (w .fit-blocks3 .ensures) (c .before .enum-told3 .given .1) (c .values-refusal3 .ensures)
+returns-3 c = let w = c .before .before .before in absurd (fit-never (w .fit-blocks3 .ensures) (c .before .enum-told3 .given .1))
 
 fit-blocks-requires-4 : tie.Need-fit-blocks-requires-4
-fit-blocks-requires-4 c κs = let s = start-c (c .before .before .before) in (s .pre .0 .1, s .pre .1 .0 .3)
+fit-blocks-requires-4 c κs = let s = start-c (c .before .before .before) in (s .pre .0 .0, s .pre .0 .1, s .pre .1 .0 .3, s .pre .1 .1 .3)
 
 enum-known-line-d : tie.Need-enum-known-line-d
 enum-known-line-d c = search needs
@@ -231,16 +190,11 @@ enum-known-line-d c = search needs
 enum-told-4 : tie.Need-enum-told-4
 enum-told-4 c = search needs
 
-values-refusal-requires-4 : tie.Need-values-refusal-requires-4
-values-refusal-requires-4 c κs = search needs
+fitted-number-requires-4 : tie.Need-fitted-number-requires-4
+fitted-number-requires-4 c κs = search needs
 
 returns-4 : tie.Need-returns-4
-returns-4 c =
-    let w = c .before .before .before in
-    let s = start-d w in
-    let a = s .args in
-    fit-refused (a .n) (a .a .now) (a .b .now) (a .c .now) (a .d .now) (a .d .now) _ (s .pre .0 .0) (s .pre .0 .1) (s .pre .1 .0 .3)
-    (λ i. i .in-d) (w .fit-blocks4 .ensures) (c .before .enum-told4 .given .1) (c .values-refusal4 .ensures)
+returns-4 c = let w = c .before .before .before in absurd (fit-never (w .fit-blocks4 .ensures) (c .before .enum-told4 .given .1))
 
 mul-t26 : tie.Need-mul-t26
 mul-t26 c = record { fits = omega (arith, seconds (start c)) }
@@ -255,13 +209,13 @@ returns-5 : tie.Need-returns-5
 returns-5 c =
     let l = c .before in
     let h : 0 < l .limits .result = omega (arith, c .if1 .taken) in
-    refuse (t (start (l .before))) (l .limits .result) h (passed (l .before) ∙ from-limits l h)
+    refuse (t (start (l .before))) (l .limits .result) h (from-limits l h)
 
 scatter-blocks-requires : tie.Need-scatter-blocks-requires
 scatter-blocks-requires c κs =
     let four = c .before .before in
     let s = start four in
-    (s .pre .0 .0, s .pre .0 .1, s .pre .1 .0 .1, fine four .in-b)
+    (s .pre .0 .0, s .pre .0 .1, s .pre .1 .0 .1, s .pre .1 .1 .1)
 
 enum-known-answer : tie.Need-enum-known-answer
 enum-known-answer c = search needs
@@ -279,10 +233,10 @@ returns-6 c =
     let number = c .scattered-number .ensures in
     let some : 0 < c .scattered-number .result = rw (number ∙ ap (λ (r : Scattered). scatterReply r .number) told) (subst scatterNumbered told (w .scatter-blocks .ensures .1)) in
     refuse (t (start (w .before .before .before))) (c .scattered-number .result) some
-    (passed (w .before .before .before) ∙ from-scatter (w .before) ∙ sym (number ∙ ap (λ (r : Reply ℤ). r .number) (sigma w) ∙ reply-number _ _ _))
+    (from-scatter (w .before) ∙ sym (number ∙ ap (λ (r : Reply ℤ). r .number) (sigma w) ∙ reply-number _ _ _))
 
 returns-7 : tie.Need-returns-7
-returns-7 c = ap Found.Ten (ten-are c) ∙ accept (t (start (c .before .before .before .before .before .before))) (passed (c .before .before .before .before .before .before) ∙ from-scatter (c .before .before .before .before) ∙ sigma-is c .0)
+returns-7 c = ap Found.Ten (ten-are c) ∙ accept (t (start (c .before .before .before .before .before .before))) (from-scatter (c .before .before .before .before) ∙ sigma-is c .0)
 
 pub ten-numbers-spec : {M : Type 1} → statement M
 ten-numbers-spec =
@@ -291,22 +245,22 @@ ten-numbers-spec =
     fit-blocks-requires
     enum-known-line-a
     enum-told
-    values-refusal-requires
+    fitted-number-requires
     returns
     fit-blocks-requires-2
     enum-known-line-b
     enum-told-2
-    values-refusal-requires-2
+    fitted-number-requires-2
     returns-2
     fit-blocks-requires-3
     enum-known-line-c
     enum-told-3
-    values-refusal-requires-3
+    fitted-number-requires-3
     returns-3
     fit-blocks-requires-4
     enum-known-line-d
     enum-told-4
-    values-refusal-requires-4
+    fitted-number-requires-4
     returns-4
     mul-t26
     cast-t27
