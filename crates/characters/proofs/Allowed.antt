@@ -109,6 +109,32 @@ allowed-append (k ∷ ks) ms (x ∷ xs) ys l p q =
     less : suc (length ks) ≡ suc (length xs) → length ks ≡ length xs
     less e = omega arith
 
+-- kinds behind each other are tested one behind the other
+pub allowed-parts : (ks ms line : List ℕ) → allowed (ks ++ ms) line ≡ allowed ks line && allowed ms (drop (length ks) line)
+unfolding allowed
+allowed-parts [] ms line = refl
+allowed-parts (k ∷ ks) ms [] = refl
+allowed-parts (k ∷ ks) ms (b ∷ line) = ap (λ (t : Bool). allows k b && t) (allowed-parts ks ms line) ∙ sym (and-assoc (allows k b) _ _)
+
+-- so one more row of them
+pub row-added : {a b : Bool} (ks ms line : List ℕ) → a ≡ allowed ks line → b ≡ allowed ms (drop (length ks) line) → a && b ≡ allowed (ks ++ ms) line
+row-added ks ms line p q = ap₂ _&&_ p q ∙ sym (allowed-parts ks ms line)
+
+-- and a row that begins within what was tested before
+pub row-overlapping : {a b : Bool} (ks ms ns line : List ℕ) → a ≡ allowed (ks ++ ms) line → b ≡ allowed (ms ++ ns) (drop (length ks) line)
+    → a && b ≡ allowed (ks ++ (ms ++ ns)) line
+row-overlapping ks ms ns line p q =
+    let behind = drop (length ks) line in
+    ap₂ _&&_ (p ∙ allowed-parts ks ms line) (q ∙ allowed-parts ms ns behind)
+    ∙ twice (allowed ks line) (allowed ms behind) _
+    ∙ ap (λ (t : Bool). allowed ks line && t) (sym (allowed-parts ms ns behind))
+    ∙ sym (allowed-parts ks (ms ++ ns) line)
+  where
+    twice : (x y z : Bool) → (x && y) && (y && z) ≡ x && (y && z)
+    twice true true z = refl
+    twice true false z = refl
+    twice false y z = refl
+
 -- ---- the loops
 
 -- one column more is tested

@@ -1,14 +1,15 @@
 -- The row of refusals of the characters (specs/Characters.antt) for any form of line: what it tells where it is 0, and what makes it 0.
 -- Assumes nothing.
-use mathlib.Core.Path.{_≡_}
-use mathlib.Core.Bool.{true}
+use mathlib.Core.Path.{_≡_, sym, ap, _∙_}
+use mathlib.Core.Bool.{Bool, true, not, _||_}
 use mathlib.Core.List.{List}
-use Prim.Native.Nat.{ℕ, _+_, _≤_}
+use Prim.Native.Nat.{ℕ, _+_, _≤_, _<_}
+use native.Mathlib.Omega.{arith}
 use lib.Dec.{ltb}
 use lib.ListN.{length, drop}
 use borrow.Author.Tests.{ltb-false, le-ltb, not-false}
 use Rattle.limits.specs.Refusal.{_when_, _then_}
-use Rattle.limits.proofs.Laws.{then-zero, when-zero, or-false}
+use Rattle.limits.proofs.Laws.{then-zero, then-refused, then-passed, then-assoc, when-zero, or-false}
 use Rattle.characters.specs.Kinds.{kinds, allowed, printable, checked}
 use Rattle.characters.specs.Characters.{charactersNumber}
 
@@ -42,3 +43,35 @@ pub spelled-zero : {columns longest : ℕ} {kinds : List ℕ} (line : List ℕ) 
 unfolding charactersNumber _when_ _then_
 spelled-zero {columns} {longest} line s =
     simp (le-ltb (length line) (columns + 2) (s .least), le-ltb longest (length line) (s .most), s .check, s .columns, s .comment)
+
+-- ---- the row in two parts: length and CK, then the characters
+
+abbrev pub frame : (columns longest : ℕ) → List ℕ → ℕ
+frame columns longest line =
+    12 when (ltb (length line) (columns + 2) || ltb longest (length line)) then 14 when not (checked columns line)
+
+-- what the frame is refused for is what the line is refused for
+pub frame-refused : {number : ℕ} (columns longest : ℕ) (table line : List ℕ) → number ≡ frame columns longest line → (number ≡ 0 → ⊥) → number ≡ charactersNumber columns longest table line
+unfolding charactersNumber
+frame-refused {number} columns longest table line e h =
+    let rest = 13 when not (allowed table line) then 13 when not (printable (drop (columns + 2) line)) in
+    sym (then-refused number rest (some h)) ∙ ap (λ (n : ℕ). n then rest) e ∙ then-assoc _ _ rest
+  where
+    some : {n : ℕ} → (n ≡ 0 → ⊥) → 0 < n
+    some h = omega arith
+
+-- where it is not refused, the columns and CK are there
+pub frame-there : {number : ℕ} (columns longest : ℕ) (line : List ℕ) → number ≡ frame columns longest line → number ≡ 0 → columns + 2 ≤ length line
+frame-there columns longest line e z =
+    let twelve = then-zero _ _ (sym e ∙ z) .0 in
+    ltb-false (length line) (columns + 2) (or-false (ltb (length line) (columns + 2)) (ltb longest (length line)) (when-zero 11 _ twelve) .0)
+
+-- and what the characters are refused for is what the line is refused for
+pub frame-passed : {number text : ℕ} {fit : Bool} (columns longest : ℕ) (table line : List ℕ) → number ≡ frame columns longest line → number ≡ 0
+    → fit ≡ allowed table line → text ≡ 13 when not fit then 13 when not (printable (drop (columns + 2) line)) → text ≡ charactersNumber columns longest table line
+unfolding charactersNumber
+frame-passed columns longest table line e z f t =
+    let comment = 13 when not (printable (drop (columns + 2) line)) in
+    t ∙ ap (λ (b : Bool). 13 when not b then comment) f
+    ∙ sym (then-passed (frame columns longest line) _ (sym e ∙ z))
+    ∙ then-assoc _ _ _

@@ -3,7 +3,11 @@
 // characters are accepted is read by crate reading.
 ghost use mathlib.Core.Path.{_≡_};
 ghost use Prim.Native.Nat.{_+_, _≤_};
-ghost use lib.ListN.{length};
+ghost use mathlib.Core.Bool.{not, _||_};
+ghost use lib.Dec.{ltb};
+ghost use mathlib.Core.List.{_∷_};
+ghost use lib.ListN.{length, take, drop};
+ghost use Rattle.limits.specs.Refusal.{_when_, _then_};
 ghost use Rattle.characters.specs.Kinds.{within, letterFits, allows, kinds, oldKinds, allowed, printable, checked};
 ghost use Rattle.characters.specs.Characters.{charactersNumber};
 use limits::then;
@@ -14,13 +18,10 @@ const LONGEST: usize = 140;
 
 const OLD_LONGEST: usize = 128;
 
-// The columns of an old line before CK.
-const OLD_COLUMNS: usize = 101;
+// The columns before CK, and those of an old line.
+const COLUMNS: usize = 111;
 
-// The kinds of the columns before CK: L a constellation letter, 9 a digit, F a hexadecimal digit, + a sign, Z a character of FRC, and a
-// space for itself.
-const KINDS: [u8; 111] =
-    *b"L99 FF 99999 999999 9999 999 9999 +9999999999 +99999 +9999999999 +99999 9999 999 9999 +999 9999 +999 99 99 ZZZ ";
+const OLD_COLUMNS: usize = 101;
 
 fn within(low: u8, high: u8, b: u8) -> bool
     ensures { λ r. ⌜ r ≡ within low high b ⌝ }
@@ -34,7 +35,8 @@ fn letter_fits(b: u8) -> bool
     (b == b'G') | (b == b'R') | (b == b'E') | (b == b'C') | (b == b'J')
 }
 
-// Whether a column of this kind may hold the byte.
+// Whether a column of this kind may hold the byte. The kinds are L a constellation letter, 9 a digit, F a hexadecimal digit, + a sign, Z a
+// character of FRC, and a space for itself.
 fn allows(kind: u8, b: u8) -> bool
     ensures { λ r. ⌜ r ≡ allows kind b ⌝ }
 {
@@ -59,6 +61,14 @@ fn columns_fit(kinds: &[u8], line: &[u8]) -> bool
     fit
 }
 
+// The same of the columns behind so many.
+fn row_fits(kinds: &[u8], before: usize, line: &[u8]) -> bool
+    requires { ⌜ before + length (now kinds) ≤ length (now line) ⌝ }
+    ensures { λ r. ⌜ r ≡ allowed (now (kinds .entry)) (drop before (now (line .entry))) ⌝ }
+{
+    columns_fit(kinds, &line[before..])
+}
+
 // Whether all bytes of a comment may stand there.
 fn comment_fits(text: &[u8]) -> bool
     ensures { λ r. ⌜ r ≡ printable (now (text .entry)) ⌝ }
@@ -79,35 +89,63 @@ fn checked(columns: usize, line: &[u8]) -> bool
     (line[columns] == fields::hex_digit(sum / 16)) & (line[columns + 1] == fields::hex_digit(sum))
 }
 
-// 12, 14 and 13, but for what the values of the fields tell, of a line whose columns before CK are of these kinds.
-fn form_refusal(kinds: &[u8], longest: usize, line: &[u8]) -> u32
-    ensures { λ r. ⌜ r ≡ charactersNumber (length (now (kinds .entry))) longest (now (kinds .entry)) (now (line .entry)) ⌝ }
+// 12 and 14, of a line with so many columns before CK.
+fn frame_refusal(columns: usize, longest: usize, line: &[u8]) -> u32
+    requires { ⌜ columns ≤ 111 ⌝ }
+    ensures { λ r. ⌜
+        r ≡ 12 when (ltb (length (now (line .entry))) (columns + 2) || ltb longest (length (now (line .entry)))) then 14 when not (checked columns (now (line .entry))) ⌝ }
 {
-    let columns = kinds.len();
     if (line.len() < columns + 2) | (longest < line.len()) {
         return 12;
     }
-    if !checked(columns, line) {
-        return 14;
-    }
-    let fit = when(13, !columns_fit(kinds, line));
-    let comment = when(13, !comment_fits(&line[columns + 2..]));
-    then(fit, comment)
+    when(14, !checked(columns, line))
 }
 
-// The same of a line of ours.
+// 13, but for what the values of the fields tell, where it is known whether the columns hold what they may hold.
+fn text_refusal(fit: bool, columns: usize, line: &[u8]) -> u32
+    requires { ⌜ columns + 2 ≤ length (now line) ⌝ }
+    ensures { λ r. ⌜ r ≡ 13 when not fit then 13 when not (printable (drop (columns + 2) (now (line .entry)))) ⌝ }
+{
+    let comment = comment_fits(&line[columns + 2..]);
+    then(when(13, !fit), when(13, !comment))
+}
+
+// Whether columns 1 to 96, the first of which is of this kind, hold what they may hold. A row is sixteen columns, as the compiler tests so
+// many at once. Each row has its own kinds: the compiler takes them for a constant, where one table for all would be copied to the stack.
+fn first_fit(kind: u8, line: &[u8]) -> bool
+    requires { ⌜ 96 ≤ length (now line) ⌝ }
+    ensures { λ r. ⌜ r ≡ allowed (kind ∷ take 95 (drop 1 kinds)) (now (line .entry)) ⌝ }
+{
+    let mut first = *b"L99 FF 99999 999";
+    first[0] = kind;
+    row_fits(&first, 0, line)
+        & row_fits(b"999 9999 999 999", 16, line)
+        & row_fits(b"9 +9999999999 +9", 32, line)
+        & row_fits(b"9999 +9999999999", 48, line)
+        & row_fits(b" +99999 9999 999", 64, line)
+        & row_fits(b" 9999 +999 9999 ", 80, line)
+}
+
+// 12, 14 and 13 of a line of ours. The last row has sixteen columns too, so that column 96 is tested twice.
 pub fn refusal(line: &[u8]) -> u32
     ensures { λ r. ⌜ r ≡ charactersNumber 111 140 kinds (now (line .entry)) ⌝ }
 {
-    let kinds = KINDS;
-    form_refusal(&kinds, LONGEST, line)
+    let frame = frame_refusal(COLUMNS, LONGEST, line);
+    if frame != 0 {
+        return frame;
+    }
+    let fit = first_fit(b'L', line) & row_fits(b" +999 99 99 ZZZ ", 95, line);
+    text_refusal(fit, COLUMNS, line)
 }
 
-// The same of an old line, whose first column is blank.
+// The same of an old line, whose first column is blank. Columns 86 to 96 are tested twice.
 pub fn old_refusal(old: &[u8]) -> u32
     ensures { λ r. ⌜ r ≡ charactersNumber 101 128 oldKinds (now (old .entry)) ⌝ }
 {
-    let mut kinds = KINDS;
-    kinds[0] = b' ';
-    form_refusal(&kinds[..OLD_COLUMNS], OLD_LONGEST, old)
+    let frame = frame_refusal(OLD_COLUMNS, OLD_LONGEST, old);
+    if frame != 0 {
+        return frame;
+    }
+    let fit = first_fit(b' ', old) & row_fits(b" +999 9999 +999 ", 85, old);
+    text_refusal(fit, OLD_COLUMNS, old)
 }

@@ -37,6 +37,8 @@ pub fn read(line: &[u8]) -> Reading
     ensures answer { λ r. ⌜ readReply r ≡ readRule (now (line .entry)) ⌝ }
     ensures variant { λ r. ⌜ readNumbered r ⌝ }
 {
+    // the whole line, taken anew: so the compiler hands over its address and length, and not the place where both were just stored
+    let line = &line[0..];
     let characters = characters::refusal(line);
     if characters != 0 {
         return Reading::Refused(characters);
