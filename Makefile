@@ -4,7 +4,7 @@
 # make beside        the tests without the proofs from nothing
 # make proofs        the proofs from nothing (rt ci); PROVER_TMP=folder, here and for all that is proved, for the prover's files
 # make bench         the technician's cases and the published lines: what each gave and what it should be
-# make speed         the proved library beside the plain Rust implementation, on the same blocks and lines
+# make speed         the proved library beside plain Rust that is written for speed, on the same blocks and lines, and a day over its number of blocks
 # make instructions  the instructions of both, part by part, with valgrind
 # make turns         six kinds of block in another build of the library and in this one, in turns: make turns OTHER=folder/libtrackline.so.1
 # make fuzz          a bounded fuzz run over the C boundary, with clang: make fuzz SECONDS=120
@@ -16,7 +16,7 @@
 # make install       the programs, the libraries, the header, the manual pages: make install PREFIX=/usr/local DESTDIR=
 # make uninstall     remove what install put there, with the same PREFIX and DESTDIR; folders stay
 # make clean         remove target/, which holds everything that was built
-VERSION := 1.10.0
+VERSION := 1.11.0
 BLOCK ?= examples/sample.blk
 PREFIX ?= /usr/local
 SECONDS ?= 120
@@ -50,7 +50,7 @@ PROGRAM_SOURCES := $(shell find crates -name must-fail -prune -o -path 'crates/t
 PROGRAMS := $(PROGRAM) $(CGGTTS) tools/hireblock
 PAGES := $(wildcard man/*.[1-8])
 DOCUMENTS := docs/REFUSALS.md docs/HIRE-BLOCK.md docs/COMMON-VIEW.md docs/common-view.svg docs/SHARED-OFFSET.md docs/LAST-DIGIT.md docs/last-digit.svg docs/DELAYS.md docs/VERSION-01.md docs/TRUST.md
-EXAMPLES := examples/receiver.c examples/delays.c examples/sample.txt examples/sample.blk examples/short.txt examples/short.blk examples/worked.txt examples/worked.blk examples/changed.txt examples/changed.blk examples/first.cggtts examples/second.cggtts examples/week.cggtts examples/roof-a.cggtts examples/roof-b.cggtts examples/delays.txt examples/delays.store examples/dated.txt examples/oneday.txt examples/oneday.blk examples/oneday.cggtts examples/gps.cggtts examples/gps.v01 examples/published.v01
+EXAMPLES := examples/receiver.c examples/delays.c examples/day.c examples/sample.txt examples/sample.blk examples/short.txt examples/short.blk examples/worked.txt examples/worked.blk examples/changed.txt examples/changed.blk examples/first.cggtts examples/second.cggtts examples/week.cggtts examples/roof-a.cggtts examples/roof-b.cggtts examples/delays.txt examples/delays.store examples/dated.txt examples/oneday.txt examples/oneday.blk examples/oneday.cggtts examples/gps.cggtts examples/gps.v01 examples/published.v01
 TWO_TRACKS := $(wildcard examples/shared/*)
 # What follows a track to its last digit; beside the examples, of which it takes the worked track where none is named.
 FOLLOWER := tools/lastdigit tools/lastdigit_prose.py tools/lastdigit_picture.py
@@ -125,6 +125,8 @@ compared:
 	python3 tests/c/delays_example.py target/delays_example
 	$(CC) $(CFLAGS) $(STRICT) -Iinclude tests/c/day_test.c $(ARCHIVE) -o target/day_test
 	target/day_test
+	$(CC) $(CFLAGS) $(STRICT) -Iinclude examples/day.c $(ARCHIVE) -pthread -o target/day_example
+	python3 tests/c/day_example.py target/day_example
 	$(CC) $(CFLAGS) $(STRICT) -Iinclude examples/receiver.c $(ARCHIVE) -o target/receiver
 	target/receiver | cmp - crates/trackline/stdout
 	python3 tests/c/receiver.py target/receiver
@@ -154,6 +156,7 @@ described:
 	python3 tests/refusals/test_retired.py
 	python3 tests/clauses/test_clauses.py
 	python3 tests/edits/test_edits.py
+	python3 tests/daycost/test_daycost.py
 	tools/edits
 	python3 tests/published/expected.py --check
 	python3 tests/boundary/mutants.py --applies
@@ -194,6 +197,7 @@ described:
 	tools/definitions --check docs/TRUST.md
 	tools/architecture --check docs/ARCHITECTURE.md
 	tools/architecture --svg target/architecture.svg && cmp target/architecture.svg docs/architecture.svg
+	tools/daycost --check docs/SPEED.md
 	tools/clauses docs/CLAUSES.md
 	tests/install.sh
 
@@ -258,6 +262,7 @@ clean:
 
 speed: archive
 	$(CARGO) run --release --manifest-path tests/speed/Cargo.toml
+	$(CARGO) run --release --manifest-path tests/speed/Cargo.toml -- days
 
 instructions: archive
 	tests/speed/instructions.sh

@@ -30,9 +30,9 @@ extern "C" {
 #endif
 
 /* The version of the library that this header is of. */
-#define TRACKLINE_VERSION "1.10.0"
+#define TRACKLINE_VERSION "1.11.0"
 #define TRACKLINE_VERSION_MAJOR 1
-#define TRACKLINE_VERSION_MINOR 10
+#define TRACKLINE_VERSION_MINOR 11
 #define TRACKLINE_VERSION_PATCH 0
 
 /* Columns of a line, and bytes of a line with the longest comment behind them. */
@@ -416,13 +416,22 @@ uint32_t trackline_delays(const uint8_t *store, size_t store_len, uint32_t mjd, 
 uint32_t trackline_append(const uint8_t *store, size_t store_len, uint32_t mjd, int64_t intdly, int64_t cabdly, int64_t refdly,
                           int64_t gd, uint8_t *longer, size_t longer_len, size_t *written);
 
-/* So many lines trackline_day keeps on its stack while it judges the blocks. */
-#define TRACKLINE_DAY_KEPT 4096
+/* So many lines trackline_day keeps on its stack, at most, while it judges the blocks. */
+#define TRACKLINE_DAY_KEPT 10000
 
 /*
- * A day at once: the lines of hire blocks that stand back to back, each as long as its own sizes make it, as a line file. It is
- * written to the lent file, and how many bytes it has to *written: TRACKLINE_FILE_LINE_BYTES, 115, for each block. The line of
- * each block is the one that trackline_block makes of it. No block makes an empty file and 0, whatever is lent.
+ * So many bytes of stack a call of trackline_day needs at most, however few the blocks; measured, not proved. Too little is no
+ * refusal: the system ends the process. The call touches its stack page by page from above, so that a guard page below the
+ * thread's stack catches it and nothing else is overwritten. pthread_attr_setstacksize with twice as many is enough for a thread
+ * that does little else, and so are the usual 8 MiB.
+ */
+#define TRACKLINE_DAY_STACK 1200000
+
+/*
+ * A day at once, or a set of many dates: the lines of hire blocks that stand back to back, each as long as its own sizes make
+ * it, as a line file. It is written to the lent file, and how many bytes it has to *written: TRACKLINE_FILE_LINE_BYTES, 115, for
+ * each block. The line of each block is the one that trackline_block makes of it. No block makes an empty file and 0, whatever
+ * is lent.
  *
  * Either all blocks are accepted, or nothing is written and the first that offends is named in *block, counted from 0. Each
  * block in turn is tried as trackline_block tries it, without its 9. A last one that is cut is 11; where its first four bytes
@@ -432,14 +441,19 @@ uint32_t trackline_append(const uint8_t *store, size_t store_len, uint32_t mjd, 
  * Where the set is accepted *written is set and *block keeps what it had; where it is refused *block is set and *written keeps
  * what it had. Neither may be NULL. The two, and what is lent, must not overlap each other or the blocks.
  *
- * There is no heap in the library, so that the first TRACKLINE_DAY_KEPT lines are kept on the stack. Every call takes up to
- * 500,000 bytes of it, however few the blocks: a thread has to have so many left. Where that is too much, call trackline_block
- * for each block and put "\r\n" behind each line; the order is then the caller's to test, and trackline_merge of that file and
- * an empty one tests it.
+ * There is no heap in the library, so that lines are kept on the stack: a thread has to have TRACKLINE_DAY_STACK bytes of it
+ * left. 1.10.0 needed less, 500,000: a thread that was made for that must be given more. A program whose thread has less makes
+ * the call in a thread with more, as the example day.c does. Or it calls trackline_block for each block and puts "\r\n" behind
+ * each line; the order is then the caller's to test, and trackline_merge of that file and an empty one tests it.
  *
- * A set may be longer than TRACKLINE_DAY_KEPT blocks. Those behind are computed twice, once to be judged and once to be written.
- * Such a set is quicker in parts of TRACKLINE_DAY_KEPT blocks. Each part begins with the last block of the part before, so that
- * 16 is tried between them too. The line of that block is written twice, and is the same.
+ * A set may have any number of blocks. Those behind the first TRACKLINE_DAY_KEPT are computed twice, once to be judged and once
+ * to be written. None of the first is, whatever the blocks' lengths. Fewer lines are kept, 32 or 1024, where no more can be
+ * written, and less time goes into clearing them: where file_len has room for no more lines of 115 bytes, or blocks_len holds no
+ * more blocks of 698, the shortest.
+ *
+ * A set of more than TRACKLINE_DAY_KEPT blocks is quicker in parts of so many. Each part begins with the last block of the part
+ * before, so that 16 is tried between them too. The line of that block is written twice, and is the same. All or nothing then
+ * holds of each part alone: one that was written stays where a later one is refused, and *block counts within its part.
  */
 uint32_t trackline_day(const uint8_t *blocks, size_t blocks_len, uint8_t *file, size_t file_len, size_t *written, size_t *block);
 

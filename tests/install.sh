@@ -165,6 +165,16 @@ HOME=$scratch/home bash -eu "$scratch/commands" >"$scratch/log" 2>&1 || {
     rm receiver
 ) & wait $! || fail "the command in the head of receiver.c"
 
+# the command in the head of the example of a day, and its call
+(
+    cd "$prefix/share/trackline/examples"
+    sed -n 's/^ \*     //p' day.c >"$scratch/commands"
+    [ "$(wc -l <"$scratch/commands")" -eq 2 ]
+    PKG_CONFIG_PATH=$prefix/lib/pkgconfig bash -eu "$scratch/commands"
+    env -u LD_LIBRARY_PATH ./day oneday.blk | cmp - oneday.cggtts
+    rm day
+) & wait $! || fail "the command in the head of day.c"
+
 # the commands in the samples' own heads, with the installed programs
 (
     cd "$prefix/share/trackline/examples"

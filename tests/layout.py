@@ -60,7 +60,7 @@ def wrong_in_header(text):
     wanted.update({'WIDTH_' + name: width for name, (at, width) in paper().items() if at < 26})
     wanted.update({'WIDTH_PS': 8, 'WIDTH_GROUP': 40, 'MEASUREMENTS': 780, 'LEAST_GROUPS': 4, 'GROUPS': 52,
                    'BLOCK_BYTES': LENGTH, 'LINE_BYTES': 113, 'LONGEST_LINE': 140, 'FILE_LINE_BYTES': 115, 'OLD_BYTES': 103, 'LONGEST_OLD': 128,
-                   'FILE_MOST_LINES': 10000, 'DAY_KEPT': lines_kept(), **LIMITS, **STORE})
+                   'FILE_MOST_LINES': 10000, 'DAY_KEPT': lines_kept(), 'DAY_STACK': 1200000, **LIMITS, **STORE})
     version = re.search(r'(?m)^VERSION := (.*)$', (ROOT / 'Makefile').read_text()).group(1)
     wanted.update(zip(('VERSION_MAJOR', 'VERSION_MINOR', 'VERSION_PATCH'), map(int, version.split('.'))))
     if re.findall(r'(?m)^#define TRACKLINE_VERSION "(.*)"$', text) != [version]:

@@ -6,9 +6,10 @@
 
 For each mutant the plain Rust implementation is copied, made wrong in one way, built as an archive with the C
 functions, and put in the place of the proved one. The boundary test must then fail. A twin is wrong in the same way in
-the implementation that the archive is compared with: there what the test itself knows of the answers must notice it.
-Before them an archive is made without an edit, and must pass. Everything is built in a folder of its own. It takes about
-forty minutes and is no part of `make test`.
+the implementation that the archive is compared with: there what the test itself knows of the answers must notice it. The
+third kind is wrong in the plain Rust that is written for speed, tests/fast, and nowhere else. Before each kind an archive is
+made without an edit, and must pass. Everything is built in a folder of its own. It takes about forty minutes and is no part
+of `make test`.
 """
 import os
 import pathlib
@@ -18,7 +19,7 @@ import sys
 import tempfile
 
 HERE = pathlib.Path(__file__).resolve().parent
-REFERENCE = HERE.parent / 'reference'
+REFERENCE, FAST = HERE.parent / 'reference', HERE.parent / 'fast'
 MANIFEST = '''[package]
 name = "line"
 version = "0.1.0"
@@ -29,6 +30,16 @@ crate-type = ["cdylib"]
 reference = { path = "../mutant/reference" }
 [profile.release]
 panic = "abort"
+'''
+# In a twin's test, in the place of tests/fast: that one would notice what the test itself has to.
+SAME = '''
+pub use reference::{append, block, day, down, line, lookup_values, merge, read_values, start, up, view_values};
+pub fn comment_from(line: &[u8]) -> usize {
+    line.len() - reference::comment(line).len()
+}
+pub fn path([xs, ys, zs, xa, ya, za]: [f64; 6]) -> Result<f64, u32> {
+    reference::path(reference::Point { x: xs, y: ys, z: zs }, reference::Point { x: xa, y: ya, z: za })
+}
 '''
 EXPORTS = '''
 use reference::{Delays, Labels, Numbers, Point};
@@ -794,7 +805,7 @@ MUTANTS = [
     ('day that ends with bytes of no sizes', 'day.rs', DAY_END, 'while !rest.is_empty() && sizes(rest) != Err(1) {'),
     ('day without its last block', 'day.rs', DAY_END, 'while rest.len() > own_length(rest) || count == 0 && !rest.is_empty() {'),
     ('day without its first block', 'day.rs', DAY_COPY, 'let lines = &lines[lines.len().min(115)..];\n    ' + DAY_COPY),
-    ('day of 4096 blocks', 'day.rs', DAY_END, 'while !rest.is_empty() && count < 4096 {'),
+    ('day of 10,000 blocks', 'day.rs', DAY_END, 'while !rest.is_empty() && count < 10_000 {'),
     # its order
     ('day with equal keys', 'day.rs', DAY_KEYS, 'if before.is_some_and(|before| before > keys) {'),
     ('day in any order', 'day.rs', DAY_KEYS, 'if before.is_some_and(|before| before == keys) {'),
@@ -805,7 +816,8 @@ MUTANTS = [
     ('day by the satellite before the letter', 'day.rs', DAY_KEYS,
      'if before.is_some_and(|before| (before.0, before.1, before.3, before.2) >= (keys.0, keys.1, keys.3, keys.2)) {'),
     ('day behind its first block alone', 'day.rs', 'Some(keys), count + 1', 'before.or(Some(keys)), count + 1'),
-    ('day in any order from 4096 on', 'day.rs', DAY_KEYS, DAY_KEYS.replace('if ', 'if lines.len() != 4096 * 115 && ')),
+    ('day in any order from 10,000 on', 'day.rs', DAY_KEYS, DAY_KEYS.replace('if ', 'if lines.len() != 10_000 * 115 && ')),
+    ('day in any order from 1024 on', 'day.rs', DAY_KEYS, DAY_KEYS.replace('if ', 'if lines.len() != 1024 * 115 && ')),
     ('day in any order from 32 on', 'day.rs', DAY_KEYS, DAY_KEYS.replace('if ', 'if lines.len() != 32 * 115 && ')),
     ('day with 16 before the block', 'day.rs', DAY_BLOCK,
      'if bytes.len() > 58 && before.is_some_and(|before| before >= keys(&labels(bytes))) { return Err(16); }\n    ' + DAY_BLOCK),
@@ -814,7 +826,7 @@ MUTANTS = [
     ('day counted from 1', 'day.rs', DAY_FOLLOW, DAY_FOLLOW.replace('block: count', 'block: count + 1')),
     ('day that names the block before', 'day.rs', DAY_FOLLOW, DAY_FOLLOW.replace('block: count', 'block: count.max(1) - 1')),
     ('day counted to 255', 'day.rs', DAY_FOLLOW, DAY_FOLLOW.replace('block: count', 'block: count % 256')),
-    ('day counted to 4095', 'day.rs', DAY_FOLLOW, DAY_FOLLOW.replace('block: count', 'block: count % 4096')),
+    ('day counted to 9999', 'day.rs', DAY_FOLLOW, DAY_FOLLOW.replace('block: count', 'block: count % 10_000')),
     ('day that names the last offending block', 'day.rs', DAY_END,
      'let mut found = None;\n    ' + DAY_END, 'day.rs', DAY_FOLLOW,
      'let keys = match follow(first, before, &mut lines) { Ok(keys) => keys, Err(number) => { found = Some(Offence { number, block: '
@@ -839,10 +851,10 @@ MUTANTS = [
     ('day with line feed alone', 'day.rs', 'b"\\r\\n"', 'b" \\n"'),
     ('day in lines for bytes', 'day.rs', 'Ok(lines.len())', 'Ok(lines.len() / 115)'),
     ('day in columns for bytes', 'day.rs', 'Ok(lines.len())', 'Ok(113 * count)'),
-    ('day with the first line from 4096 on', 'day.rs', DAY_COPY,
-     'for i in 4096..count { lines.copy_within(..115, 115 * i); }\n    ' + DAY_COPY),
-    ('day with the first line from 512 on', 'day.rs', DAY_COPY,
-     'for i in 512..count { lines.copy_within(..115, 115 * i); }\n    ' + DAY_COPY),
+    ('day with the first line from 10,000 on', 'day.rs', DAY_COPY,
+     'for i in 10_000..count { lines.copy_within(..115, 115 * i); }\n    ' + DAY_COPY),
+    ('day with the first line from 1024 on', 'day.rs', DAY_COPY,
+     'for i in 1024..count { lines.copy_within(..115, 115 * i); }\n    ' + DAY_COPY),
     ('day with written set on a refusal', 'EXPORTS', '*block = offence.block; offence.number', '*block = offence.block; *written = 0; offence.number'),
     ('day with block set where it accepts', 'EXPORTS', 'reference::day(bytes(blocks, blocks_len), lent(file, file_len)) {\n        Ok(length) => {',
      'reference::day(bytes(blocks, blocks_len), lent(file, file_len)) {\n        Ok(length) => { *block = 0;'),
@@ -1081,6 +1093,18 @@ TWINS = [
     ('up: FR 1, twice', 'version01.rs', UP_BEHIND, UP_BEHIND.replace('"00 ', '"01 ')),
     ('up: 9 before 8, twice', 'version01.rs', GO_UP, '    if lent.len() < 113 && raised(old, hc, frc) == Err(8) { return 9; }\n' + GO_UP),
 ]
+# put into tests/fast alone
+FASTS = [
+    ('fast: ties go down', 'track.rs', 'floor::<BITS>(x + d / 2, d)', 'floor::<BITS>(x + (d - 1) / 2, d)'),
+    ('fast: a day with equal keys', 'day.rs', 'if next <= last {', 'if next < last {'),
+    ('fast: a day that names the block before', 'day.rs', 'Offence { number, block: count }', 'Offence { number, block: count.max(1) - 1 }'),
+    ('fast: a day with line feed before return', 'text.rs', '00\\r\\n"', '00\\n\\r"'),
+    ('fast: a day with one digit of IOE', 'text.rs', 'put3(line, 77, labels.ioe.into());', 'put3(line, 77, u32::from(labels.ioe) % 10);'),
+    ('fast: a day written on 9', 'day.rs', 'else {\n        return Err(Offence { number: 9', 'else {\n        let room = lent.len();\n'
+     '        lent.copy_from_slice(&lines[..room]);\n        return Err(Offence { number: 9'),
+]
+
+KINDS = (MUTANTS, TWINS, FASTS)
 
 
 def edited(text, old, new):
@@ -1089,28 +1113,38 @@ def edited(text, old, new):
     return text.replace(old, new)
 
 
-def write_mutant(folder, edits):
-    """The implementation and the exports, with these edits."""
-    source = folder / 'mutant' / 'reference' / 'src'
+def copied(sources, folder):
+    shutil.rmtree(folder, ignore_errors=True)
+    shutil.copytree(sources, folder, copy_function=shutil.copyfile)
+
+
+def write_mutant(folder, edits, kind):
+    """The implementation, the one written for speed and the exports, with these edits."""
+    source, fast = folder / 'mutant' / 'reference' / 'src', folder / 'mutant' / 'fast' / 'src'
     exports = EXPORTS
-    shutil.rmtree(source, ignore_errors=True)
-    shutil.copytree(REFERENCE / 'src', source, copy_function=shutil.copyfile)
+    copied(REFERENCE / 'src', source)
+    if kind is not MUTANTS:
+        copied(FAST / 'src', fast)
     for name, old, new in zip(edits[::3], edits[1::3], edits[2::3]):
         if name == 'EXPORTS':
             exports = edited(exports, old, new)
         else:
-            (source / name).write_text(edited((source / name).read_text(), old, new))
+            path = (fast if kind is FASTS else source) / name
+            path.write_text(edited(path.read_text(), old, new))
+    if kind is TWINS:
+        (fast / 'lib.rs').write_text(SAME)
     (folder / 'line' / 'src' / 'lib.rs').write_text(exports)
 
 
 def prepare(folder):
     (folder / 'line' / 'src').mkdir(parents=True)
     (folder / 'line' / 'Cargo.toml').write_text(MANIFEST)
-    (folder / 'mutant' / 'reference').mkdir(parents=True)
-    shutil.copyfile(REFERENCE / 'Cargo.toml', folder / 'mutant' / 'reference' / 'Cargo.toml')
+    for package in (REFERENCE, FAST):
+        (folder / 'mutant' / package.name).mkdir(parents=True)
+        shutil.copyfile(package / 'Cargo.toml', folder / 'mutant' / package.name / 'Cargo.toml')
     # the implementation reads the published lines from beside it, and its tests are not built
     shutil.copytree(HERE.parent / 'published', folder / 'mutant' / 'published')
-    # the test beside a wrong implementation, for twins
+    # the test beside a wrong implementation, for twins and for the one written for speed
     shutil.copytree(HERE, folder / 'mutant' / 'boundary', copy_function=shutil.copyfile)
 
 
@@ -1124,46 +1158,53 @@ def cargo(folder, package, target):
         raise SystemExit('mutants: no build\n' + result.stderr)
 
 
-def passes(folder, edits, twin):
+def passes(folder, edits, kind):
     """Whether the boundary test passes with this mutant."""
-    write_mutant(folder, edits)
+    write_mutant(folder, edits, kind)
     cargo(folder, folder / 'line', folder / 'target')
-    package, target = (folder / 'mutant' / 'boundary', folder / 'twins') if twin else (HERE, folder / 'test')
+    in_library = kind is MUTANTS
+    package, target = (HERE, folder / 'test') if in_library else (folder / 'mutant' / 'boundary', folder / 'beside')
     program = target / 'release' / 'boundary'
-    # a twin is in the test too; any other stands in the shared library alone
-    if twin or not program.exists():
+    # what is wrong in the shared library alone leaves the test as it was built
+    if not in_library or not program.exists():
         cargo(folder, package, target)
     return subprocess.run([str(program)], capture_output=True).returncode == 0
 
 
 def applies():
     """Whether each mutant has a name of its own, and can be made."""
-    names = [mutant[0] for mutant in MUTANTS + TWINS]
+    names = [mutant[0] for kind in KINDS for mutant in kind]
     with tempfile.TemporaryDirectory() as name:
         folder = pathlib.Path(name)
         prepare(folder)
-        for mutant in MUTANTS + TWINS:
-            write_mutant(folder, mutant[1:])
-    print('mutants: %d, of which %d are put into both; each can be made' % (len(names), len(TWINS)))
+        for kind, mutant in ((kind, mutant) for kind in KINDS for mutant in kind):
+            write_mutant(folder, mutant[1:], kind)
+    print('mutants: %d, of which %d are put into both and %d into tests/fast; each can be made' % (len(names), len(TWINS), len(FASTS)))
     return 0 if len(names) == len(set(names)) else 1
+
+
+def tried(folder, kind, chosen):
+    """Those of a kind that the test does not notice."""
+    if chosen and not passes(folder, (), kind):
+        raise SystemExit('mutants: the test fails on the implementation itself')
+    missed = []
+    for mutant in chosen:
+        noticed = not passes(folder, mutant[1:], kind)
+        print('%-8s %s' % ('noticed' if noticed else 'MISSED', mutant[0]), flush=True)
+        missed += [] if noticed else [mutant[0]]
+    return missed
 
 
 def main(words):
     if words == ['--applies']:
         return applies()
-    chosen = [m for m in MUTANTS + TWINS if not words or any(word in m[0] for word in words)]
+    chosen = [[mutant for mutant in kind if not words or any(word in mutant[0] for word in words)] for kind in KINDS]
     with tempfile.TemporaryDirectory() as name:
         folder = pathlib.Path(name)
         prepare(folder)
-        for twin in {mutant in TWINS for mutant in chosen}:
-            if not passes(folder, (), twin):
-                raise SystemExit('mutants: the test fails on the implementation itself')
-        missed = []
-        for mutant in chosen:
-            noticed = not passes(folder, mutant[1:], mutant in TWINS)
-            print('%-8s %s' % ('noticed' if noticed else 'MISSED', mutant[0]), flush=True)
-            missed += [] if noticed else [mutant[0]]
-    print('mutants: %d of %d noticed' % (len(chosen) - len(missed), len(chosen)))
+        missed = [mutant for kind, several in zip(KINDS, chosen) for mutant in tried(folder, kind, several)]
+    count = sum(map(len, chosen))
+    print('mutants: %d of %d noticed' % (count - len(missed), count))
     return 1 if missed else 0
 
 

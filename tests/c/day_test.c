@@ -311,7 +311,9 @@ static void test_long(void)
         exit(2);
     }
     for (uint32_t i = 0; i < MANY; i++) {
-        struct track track = {'G', (uint8_t)(1 + i % 99), 0, 50722, 120 + 960 * (i / 99), NULL, NULL};
+        /* 99 satellites at each of the 89 starts of a date; those of the next date begin at 00:14 */
+        uint32_t later = i / (89 * 99), start = i / 99 % 89;
+        struct track track = {'G', (uint8_t)(1 + i % 99), 0, 50722 + later, (later ? 840 : 120) + 960 * start, NULL, NULL};
         put_block(blocks + (size_t)i * BYTES, &track, TRACKLINE_LEAST_GROUPS);
     }
     file[(size_t)MANY * ENDED] = 77;

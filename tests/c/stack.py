@@ -1,5 +1,6 @@
 #!/usr/bin/env python3
-"""Runs tests/c/stack.c and compares what it measures with the figures in trackline(3) and docs/TRUST.md.
+"""Runs tests/c/stack.c and compares what it measures with the figures in trackline(3) and docs/TRUST.md, and what it promises
+of trackline_day, which is the header's TRACKLINE_DAY_STACK, with every document that names it.
 
     python3 tests/c/stack.py target/stack
 
@@ -23,6 +24,15 @@ DOCUMENTS = (
     ('docs/TRUST.md', r'`trackline_day` about ([\d.]+) kB', (('day', 'day of one block'),), 1000),
 )
 PROMISED = r'takes up to ([\d,]+) bytes .+? trackline_day up to ([\d,]+), .+? trackline_merge and trackline_view up to ([\d,]+)\. Each other function takes up to ([\d,]+)\.'
+
+# where documents say what trackline_day needs at most, and in what unit
+DAY = (
+    ('man/trackline.3', r'has to have ([\d,]+) bytes left, TRACKLINE_DAY_STACK,', 1),
+    ('man/trackline.3', r'and takes up to ([\d,]+) bytes of stack, from 500,000\.', 1),
+    ('man/cggtts.1', r'day needs ([\d.]+) MB of stack', 1e6),
+    ('README.md', r'needs `TRACKLINE_DAY_STACK` bytes of stack, ([\d.]+) MB', 1e6),
+    ('docs/TRUST.md', r'for the lines that it keeps, and may take ([\d.]+) kB;', 1000),
+)
 
 
 def number(text):
@@ -56,6 +66,10 @@ def main(program):
     others = {most for name, (_, most) in found.items() if name not in ('block', 'day', 'day of one block', 'merge', 'view')}
     if not promised or [number(word) for word in promised.groups()] != [found['block'][1], found['day'][1], *files, *others]:
         faults.append('man/trackline.3 does not promise what tests/c/stack.c tests')
+    for path, pattern, unit in DAY:
+        said = re.search(pattern, text_of(path))
+        if not said or round(number(said[1]) * unit) != found['day'][1]:
+            faults.append('%s: trackline_day needs up to %d bytes, and it says %s' % (path, found['day'][1], said[0] if said else 'nothing'))
     for fault in faults:
         print('stack: FAILED: %s' % fault, file=sys.stderr)
     return 1 if faults else 0

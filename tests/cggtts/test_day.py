@@ -6,11 +6,14 @@
 Blocks are made here byte by byte, their lines by the columns of the paper's sample, and the places of refusals are written out by
 hand. What is said of a refused block is compared with what cggtts check says of it alone.
 """
+import itertools
 import os
 import pty
 import random
 import re
+import resource
 import shutil
+import signal
 import struct
 import subprocess
 import sys
@@ -22,7 +25,7 @@ from papers import second_of, start_minutes, starts
 
 DAY, LINES = 'examples/oneday.blk', 'examples/oneday.cggtts'
 # so many blocks go to the library at once
-PART = 4096
+PART = 10_000
 
 
 def track(clock, satellite, mjd=50722, groups=4, **more):
@@ -51,6 +54,15 @@ def told(number, name, index, place, at, *rows, sort=''):
     return ''.join(['%s: refused %d: %s\n' % (name, number, MEANINGS[number])] + ['  %s\n' % row for row in (where, *rows)])
 
 
+def run_with_stack(kibibytes, *words):
+    """Status, standard output and standard error of a run with so much stack, and without a core file."""
+    def limits():
+        resource.setrlimit(resource.RLIMIT_STACK, (kibibytes << 10, kibibytes << 10))
+        resource.setrlimit(resource.RLIMIT_CORE, (0, 0))
+    done = subprocess.run([PROGRAM, *words], cwd=ROOT, stdin=subprocess.DEVNULL, capture_output=True, preexec_fn=limits)
+    return done.returncode, done.stdout, done.stderr
+
+
 class Accepted(Scratch):
     def test_the_example(self):
         lines, out = (ROOT / LINES).read_bytes(), self.folder / 'out'
@@ -59,6 +71,15 @@ class Accepted(Scratch):
         self.assertEqual(out.read_bytes(), lines)
         self.assertEqual(run('day', '-', data=(ROOT / DAY).read_bytes()), (0, lines, ''))
         self.assertEqual(run('merge', out, '/dev/null'), (0, lines, ''))
+
+    def test_stack(self):
+        """1.5 MiB are enough. With 1 MiB the system ends the program, and the file of lines stays as it was."""
+        lines, out, new = (ROOT / LINES).read_bytes(), self.kept('out', b'old'), self.folder / 'new'
+        self.assertEqual(run_with_stack(1536, 'day', DAY), (0, lines, b''))
+        for words in (('day', DAY), ('day', DAY, '-o', out), ('day', DAY, '-o', new)):
+            self.assertEqual(run_with_stack(1024, *words), (-signal.SIGSEGV, b'', b''))
+        self.assertEqual(out.read_bytes(), b'old')
+        self.assertEqual([path.name for path in self.folder.iterdir()], ['out'])
 
     def test_lines_by_their_columns(self):
         for k in range(1, 7):
@@ -219,14 +240,15 @@ class Sorted(Scratch):
 
 
 def many(count):
-    """So many short blocks in order, and their lines: all satellites of a start, then the next start."""
+    """So many short blocks in order, and their lines: all satellites of a start, then the next start, then the next date."""
     base, blocks, lines = bytearray(track('000200', 'G01')), [], []
-    minutes, clocks = start_minutes(50722), starts(50722)
-    for i in range(count):
-        base[5] = 1 + i % 99
-        struct.pack_into('<I', base, 16, 60 * minutes[i // 99])
-        blocks.append(bytes(base))
-        lines.append(ended(clocks[i // 99], 'G%02d' % (1 + i % 99)))
+    places = ((mjd, *place) for mjd in itertools.count(50722) for place in zip(start_minutes(mjd), starts(mjd)))
+    for i, (mjd, minute, clock) in zip(range(0, count, 99), places):
+        struct.pack_into('<II', base, 12, mjd, 60 * minute)
+        for satellite in range(1, 1 + min(99, count - i)):
+            base[5] = satellite
+            blocks.append(bytes(base))
+            lines.append(ended(clock, 'G%02d' % satellite, mjd))
     return blocks, lines
 
 
@@ -272,7 +294,7 @@ class Progress(Scratch):
 
     def test_a_long_work(self):
         gone = b'\r' + b' ' * 60 + b'\r'
-        self.assertEqual(self.watched(1.3), b'\r  4096 of 4101 blocks\r  4101 of 4101 blocks' + gone)
+        self.assertEqual(self.watched(1.3), b'\r  10000 of 10005 blocks\r  10005 of 10005 blocks' + gone)
 
     def test_a_short_work(self):
         self.assertEqual(self.watched(0), b'')

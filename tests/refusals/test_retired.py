@@ -23,12 +23,12 @@ PLACES = {
     'card': ('docs/REFUSALS.md', r'(?m)^\| (\d+) \|'),
     'pages': ('man/*.[1-8]', r'(?m)^\.B (\d+)$'),
     'plain Rust': ('tests/reference/src/*.rs', r'\b(?:Err|ok_or)\((\d+)(?:_?u32)?\)|\bnumber: (\d+)\b|\breturn (\d+);'),
+    'plain Rust written for speed': ('tests/fast/src/*.rs', r'\b(?:Err|ok_or)\((\d+)(?:_?u32)?\)|\bnumber: (\d+)\b|\breturn (\d+);'),
     'tool': ('tools/lastdigit', r'(?m)^ +(?:tests = \[)?\((\d+), |\breturn (\d+)$'),
 }
 # what C programs try, and what a header defines; some numbers there are other things, so 10 alone is looked for
 TRIED = re.compile(r'\bcase (\d+)[uUlL]*\s*:|\b(?:refusal|number|answer)\w* *[=!]= *(\d+)\b')
 DEFINED = re.compile(r'(?m)^ *# *define +(\w+) +\(?(\d+)[uUlL]*\)?(?:\s|$)')
-OTHERWISE = {'TRACKLINE_VERSION_MINOR'}
 # where a program tries 10 to say that it is retired, and nothing else of it
 TOLD = {'cggtts/messages.c': 'number == 10 ? "the number is retired" :'}
 C = ('include/*.h', 'cggtts/*.[ch]', 'examples/*.c')
@@ -88,7 +88,7 @@ def tried(name, text):
     """What a C file has of 10: a case, a comparison, or a name for it."""
     text = text.replace(TOLD.get(name, '\0'), '', 1)
     found = ['tries' for match in TRIED.finditer(text) if str(RETIRED) in match.groups()]
-    found += [match[1] for match in DEFINED.finditer(text) if int(match[2]) == RETIRED and match[1] not in OTHERWISE]
+    found += [match[1] for match in DEFINED.finditer(text) if int(match[2]) == RETIRED]
     return ['%s: %s %d' % (name, word, RETIRED) for word in found]
 
 
@@ -191,6 +191,7 @@ class Retired(unittest.TestCase):
                 ('cggtts/messages.c', '"the number is retired"', '"a value is too large"'),
                 ('cggtts/messages.c', 'return number == 10 ?', 'return number == 10 ? "" : number == 10 ?'),
                 ('tests/reference/src/path.rs', 'Err(24)', 'Err(10)'),
+                ('tests/fast/src/path.rs', 'Err(24)', 'Err(10)'),
                 ('tools/lastdigit', '(3, beyond(', '(10, False),\n             (3, beyond('),
                 ('cggtts/check.c', '9 does not arise', '9 and 10 do not arise')):
             self.assertTrue(old in FILES[name], (name, old))

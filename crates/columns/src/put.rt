@@ -1,5 +1,5 @@
-// The columns of a line, written into 113 bytes. A writer of a column also writes the space that ends it. Offsets count from 0, so they
-// are one less than the columns of document 01.
+// The columns of a line, written into the 113 bytes that are lent for it. A writer of a column also writes the space that ends it. Offsets
+// count from 0, so they are one less than the columns of document 01.
 ghost use mathlib.Core.Path.{_≡_};
 ghost use mathlib.Core.List.{[], _∷_};
 ghost use Prim.Native.Nat.{_+_, _≤_, _<_};
@@ -7,7 +7,7 @@ ghost use lib.ListN.{length};
 ghost use Rattle.fields.specs.Text.{decimal, signed, hexadecimal};
 ghost use Rattle.lent.specs.Placed.{placed};
 ghost use Rattle.columns.specs.Placed.{ended, Put};
-ghost use Rattle.columns.specs.Text.{lineLength, clock, trackColumns, clockColumns, delayColumns, spaced};
+ghost use Rattle.columns.specs.Text.{lineLength, clock, trackColumns, clockColumns, delayColumns, spaced, lineText};
 use labels::Labels;
 use labels::Numbers;
 use whole::magnitude;
@@ -27,21 +27,21 @@ fn signed_at(bytes: &mut [u8], at: usize, width: usize, value: i64)
     fields::signed(value, &mut bytes[at..at + width]);
 }
 
-fn put_byte(line: &mut [u8; 113], at: usize, byte: u8)
+fn put_byte(line: &mut [u8], at: usize, byte: u8)
     requires { ⌜ (length (now line) ≡ lineLength) × (at < lineLength) ⌝ }
     ensures { λ _. ⌜ Put (now (line .entry)) (now (line .exit)) at (byte ∷ []) ⌝ }
 {
     line[at] = byte;
 }
 
-fn put_digits(line: &mut [u8; 113], at: usize, width: usize, value: u64)
+fn put_digits(line: &mut [u8], at: usize, width: usize, value: u64)
     requires { ⌜ (length (now line) ≡ lineLength) × (at + width ≤ lineLength) ⌝ }
     ensures { λ _. ⌜ Put (now (line .entry)) (now (line .exit)) at (decimal width value) ⌝ }
 {
     digits_at(line, at, width, value);
 }
 
-fn put_decimal(line: &mut [u8; 113], at: usize, width: usize, value: u64)
+fn put_decimal(line: &mut [u8], at: usize, width: usize, value: u64)
     requires { ⌜ (length (now line) ≡ lineLength) × (at + width < lineLength) ⌝ }
     ensures { λ _. ⌜ Put (now (line .entry)) (now (line .exit)) at (ended (decimal width value)) ⌝ }
 {
@@ -49,7 +49,7 @@ fn put_decimal(line: &mut [u8; 113], at: usize, width: usize, value: u64)
     put_byte(line, at + width, b' ');
 }
 
-fn put_signed(line: &mut [u8; 113], at: usize, width: usize, value: i64)
+fn put_signed(line: &mut [u8], at: usize, width: usize, value: i64)
     requires { ⌜ (length (now line) ≡ lineLength) × (at + width < lineLength) ⌝ }
     ensures { λ _. ⌜ Put (now (line .entry)) (now (line .exit)) at (ended (signed width value)) ⌝ }
 {
@@ -58,7 +58,7 @@ fn put_signed(line: &mut [u8; 113], at: usize, width: usize, value: i64)
 }
 
 // Two hexadecimal digits, with no space behind them.
-pub fn put_hexadecimal(line: &mut [u8; 113], at: usize, value: u8)
+fn put_hexadecimal(line: &mut [u8], at: usize, value: u8)
     requires { ⌜ (length (now line) ≡ lineLength) × (at + 2 ≤ lineLength) ⌝ }
     ensures { λ _. ⌜ Put (now (line .entry)) (now (line .exit)) at (hexadecimal value) ⌝ }
 {
@@ -67,7 +67,7 @@ pub fn put_hexadecimal(line: &mut [u8; 113], at: usize, value: u8)
 }
 
 // Columns 1 to 4.
-fn put_satellite(line: &mut [u8; 113], constellation: u8, satellite: u8)
+fn put_satellite(line: &mut [u8], constellation: u8, satellite: u8)
     requires { ⌜ length (now line) ≡ lineLength ⌝ }
     ensures { λ _. ⌜ Put (now (line .entry)) (now (line .exit)) 0 (ended (constellation ∷ decimal 2 satellite)) ⌝ }
 {
@@ -76,7 +76,7 @@ fn put_satellite(line: &mut [u8; 113], constellation: u8, satellite: u8)
 }
 
 // Columns 5 to 7.
-fn put_class(line: &mut [u8; 113], cl: u8)
+fn put_class(line: &mut [u8], cl: u8)
     requires { ⌜ length (now line) ≡ lineLength ⌝ }
     ensures { λ _. ⌜ Put (now (line .entry)) (now (line .exit)) 4 (ended (hexadecimal cl)) ⌝ }
 {
@@ -85,7 +85,7 @@ fn put_class(line: &mut [u8; 113], cl: u8)
 }
 
 // Columns 14 to 20: the start as hhmmss.
-fn put_clock(line: &mut [u8; 113], second: u32)
+fn put_clock(line: &mut [u8], second: u32)
     requires { ⌜ length (now line) ≡ lineLength ⌝ }
     ensures { λ _. ⌜ Put (now (line .entry)) (now (line .exit)) 13 (ended (clock second)) ⌝ }
 {
@@ -95,7 +95,7 @@ fn put_clock(line: &mut [u8; 113], second: u32)
 }
 
 // Columns 108 to 111.
-fn put_code(line: &mut [u8; 113], frc1: u8, frc2: u8, frc3: u8)
+fn put_code(line: &mut [u8], frc1: u8, frc2: u8, frc3: u8)
     requires { ⌜ length (now line) ≡ lineLength ⌝ }
     ensures { λ _. ⌜ Put (now (line .entry)) (now (line .exit)) 107 (ended (frc1 ∷ frc2 ∷ frc3 ∷ [])) ⌝ }
 {
@@ -106,7 +106,7 @@ fn put_code(line: &mut [u8; 113], frc1: u8, frc2: u8, frc3: u8)
 }
 
 // Columns 1 to 34.
-pub fn put_track(line: &mut [u8; 113], labels: Labels, trkl: i64)
+fn put_track(line: &mut [u8], labels: Labels, trkl: i64)
     requires { ⌜ length (now line) ≡ lineLength ⌝ }
     ensures { λ _. ⌜ Put (now (line .entry)) (now (line .exit)) 0 (spaced (trackColumns labels trkl)) ⌝ }
 {
@@ -120,7 +120,7 @@ pub fn put_track(line: &mut [u8; 113], labels: Labels, trkl: i64)
 }
 
 // Columns 35 to 77.
-pub fn put_clocks(line: &mut [u8; 113], numbers: Numbers)
+fn put_clocks(line: &mut [u8], numbers: Numbers)
     requires { ⌜ length (now line) ≡ lineLength ⌝ }
     ensures { λ _. ⌜ Put (now (line .entry)) (now (line .exit)) 34 (spaced (clockColumns numbers)) ⌝ }
 {
@@ -132,7 +132,7 @@ pub fn put_clocks(line: &mut [u8; 113], numbers: Numbers)
 }
 
 // Columns 78 to 111.
-pub fn put_delays(line: &mut [u8; 113], labels: Labels, numbers: Numbers)
+fn put_delays(line: &mut [u8], labels: Labels, numbers: Numbers)
     requires { ⌜ length (now line) ≡ lineLength ⌝ }
     ensures { λ _. ⌜ Put (now (line .entry)) (now (line .exit)) 77 (spaced (delayColumns labels numbers)) ⌝ }
 {
@@ -144,4 +144,16 @@ pub fn put_delays(line: &mut [u8; 113], labels: Labels, numbers: Numbers)
     put_decimal(line, 101, 2, labels.fr as u64);
     put_decimal(line, 104, 2, labels.hc as u64);
     put_code(line, labels.frc1, labels.frc2, labels.frc3);
+}
+
+// All columns, the checksum of the first 111 last.
+pub fn put_line(line: &mut [u8], labels: Labels, numbers: Numbers)
+    requires { ⌜ length (now line) ≡ lineLength ⌝ }
+    ensures { λ _. ⌜ now (line .exit) ≡ lineText labels numbers ⌝ }
+{
+    put_track(line, labels, numbers.trkl);
+    put_clocks(line, numbers);
+    put_delays(line, labels, numbers);
+    let sum = fields::checksum(&line[..111]);
+    put_hexadecimal(line, 111, sum);
 }

@@ -2,3 +2,4 @@
 pub mod Correct
 -- What the crate answers to Track.
 pub mod Answer
+pub mod Block

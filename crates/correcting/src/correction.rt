@@ -3,6 +3,7 @@ use super::Corrected;
 use limits::scan;
 use series::Smoothed;
 use series::smooth;
+use series::smoothed_number;
 ghost use mathlib.Core.Path.{_≡_};
 ghost use mathlib.Core.Bool.{false};
 ghost use mathlib.Core.List.{[], _∷_};
@@ -13,19 +14,8 @@ ghost use Rattle.series.specs.Fit.{valuesLimit};
 ghost use Rattle.whole.specs.Words.{Within};
 ghost use Rattle.limits.specs.Lists.{anyBeyond};
 ghost use Rattle.exact.specs.Corrected.{at, steps, toA, toB};
-ghost use Rattle.series.specs.Answers.{smoothReply};
 ghost use Rattle.correcting.specs.Correct.{geometryLimit, given, valueA, valueB, valueC, valueD, wrongSizes};
 ghost use Rattle.correcting.specs.Answer.{othersBeyond, filled, wholeBlocks, blocksRule};
-
-// The number of Smooth's answer: that of the refusal, 0 where there is none.
-fn smoothed_number(answer: Smoothed) -> u32
-    ensures { λ r. ⌜ r ≡ smoothReply answer .number ⌝ }
-{
-    match answer {
-        Smoothed::Value(_) => 0,
-        Smoothed::Refused(number) => number,
-    }
-}
 
 // The corrected values of one block.
 pub struct Values {
@@ -36,7 +26,7 @@ pub struct Values {
 }
 
 // A, B, C and D of document 01 at one block: smoothed in tenths, the corrections in picoseconds.
-fn corrected(
+pub fn corrected(
     smoothed: i64,
     int: i64,
     cab: i64,

@@ -5,14 +5,17 @@
 
 mod correction;
 mod inputs;
+mod single;
 
 use correction::correct_blocks;
 use inputs::columns_beyond;
 use inputs::sizes_wrong;
 use limits::delays_beyond;
+pub use single::correct_block;
 ghost use mathlib.Core.Path.{_≡_};
 ghost use Rattle.correcting.specs.Correct.{given, valueA, valueB, valueC, valueD};
 ghost use Rattle.correcting.specs.Answer.{correctedNumber, correctRule, correctedBlocks, filled};
+ghost use Rattle.correcting.specs.Block.{blockNumber};
 
 // What correct answers: that the rows have their values, or the number of the refusal; and how many measurements the limit test has read.
 pub enum Corrected {
@@ -27,6 +30,27 @@ pub fn corrected_number(corrected: Corrected) -> u32
     match corrected {
         Corrected::Values { read: _ } => 0,
         Corrected::Refused { number, read: _ } => number,
+    }
+}
+
+// What a block's values are, or the number of the refusal.
+pub enum Block {
+    Values { a: i64, b: i64, c: i64, d: i64 },
+    Refused(u32),
+}
+
+// The number of the refusal, 0 where there is none.
+pub fn block_number(block: Block) -> u32
+    ensures { λ r. ⌜ r ≡ blockNumber block ⌝ }
+{
+    match block {
+        Block::Values {
+            a: _,
+            b: _,
+            c: _,
+            d: _,
+        } => 0,
+        Block::Refused(number) => number,
     }
 }
 

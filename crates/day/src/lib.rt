@@ -13,14 +13,15 @@ use limits::when;
 mod walk;
 
 const LINE: usize = 115;
-// An accepted block has 698 bytes at least, so LEAST x K bytes have at most K of them.
-const LEAST: usize = 698;
 // How many lines are kept: of a few blocks, of some, and of more. docs/DECISIONS.md says why.
 const FEW: usize = 32;
 
-const SOME: usize = 512;
+const SOME: usize = 1024;
 
-const MANY: usize = 4096;
+const MANY: usize = 10000;
+
+// The length of a block of 4.
+const SHORTEST: usize = 698;
 
 // How many bytes are written, or the refusal and the block that it names.
 pub enum Written {
@@ -93,15 +94,22 @@ fn run_many(blocks: &[u8], file: &mut [u8]) -> Written
     run(blocks, &mut kept, file)
 }
 
-// By the length of the blocks.
+// The most lines that can be written: no accepted block is shorter than one of 4, and more than there is room for are refused.
+fn most(blocks: &[u8], room: usize) -> usize {
+    let held = blocks.len() / SHORTEST;
+    if room < held { room } else { held }
+}
+
+// By the most lines that can be written, so that none of up to MANY is made twice.
 fn run_sized(blocks: &[u8], file: &mut [u8]) -> Written
     ensures answer { λ r. ⌜ r ≡ dayRule (now (blocks .entry)) (length (now (file .entry))) ⌝ }
     ensures written { λ _. ⌜ now (file .exit) ≡ dayAfter (now (blocks .entry)) (now (file .entry)) ⌝ }
 {
-    if blocks.len() <= LEAST * FEW {
+    let count = most(blocks, file.len() / LINE);
+    if count <= FEW {
         return run_few(blocks, file);
     }
-    if blocks.len() <= LEAST * SOME {
+    if count <= SOME {
         return run_some(blocks, file);
     }
     run_many(blocks, file)

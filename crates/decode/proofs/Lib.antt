@@ -1,3 +1,4 @@
 pub mod Little
 pub mod Signeds
 pub mod Rows
+pub mod Pieces

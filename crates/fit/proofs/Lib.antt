@@ -1,3 +1,4 @@
 pub mod Tracks
+pub mod Unpacked
 pub mod Accuracy
 pub mod Retired

@@ -1,7 +1,7 @@
 -- Laws of a track's answer (specs/Track.antt): what is known of corrected values that are inside their limit, what a number with its
 -- record comes to, and how the answer follows from the corrected values.
 -- Assumes nothing.
-use mathlib.Core.Path.{_≡_, refl, sym, ap, _∙_, subst}
+use mathlib.Core.Path.{_≡_, refl, sym, ap, _∙_}
 use mathlib.Core.Bool.{false}
 use mathlib.Core.List.{List}
 use Prim.Native.Nat.{ℕ, zero, suc, _^_, _≤_, _<_}
@@ -16,7 +16,6 @@ use Rattle.whole.specs.Words.{back-of}
 use Rattle.limits.specs.Refusal.{_when_, _then_}
 use Rattle.limits.proofs.Laws.{then-refused, then-passed, then-assoc}
 use Rattle.fit.specs.declared.TrackRecord.{TrackRecord}
-use Rattle.fit.specs.declared.Tracked.{Tracked}
 use Rattle.exact.specs.Corrected.{Given, at, steps}
 use Rattle.limits.specs.Lists.{anyBeyond}
 use Rattle.limits.specs.Reply.{Reply}
@@ -105,23 +104,6 @@ module _ (t : TrackRecord) where
   found-ten e f = ten-by (numbersRule t) e f
 
 -- ---- the numbers alone
-
--- what Track answers, by its case
-pub hands-refused : (g : Given) (t : Tracked) → t ≡ trackRule g → 0 < t .refusal → Found.Refused (t .refusal) ≡ foundIn g
-unfolding trackRule tracked foundIn found
-hands-refused g t e = subst (λ (t : Tracked). 0 < t .refusal → Found.Refused (t .refusal) ≡ found (trackNumber g) (results g .numbers)) (sym e) (by (trackNumber g))
-  where
-    by : (k : ℕ) → 0 < tracked k (results g) .refusal → Found.Refused (tracked k (results g) .refusal) ≡ found k (results g .numbers)
-    by zero h = absurd (not-suc-le-zero h)
-    by (suc k) h = refl
-
-pub hands-ten : (g : Given) (t : Tracked) → t ≡ trackRule g → t .refusal ≡ 0 → Found.Ten (t .«record» .numbers) ≡ foundIn g
-unfolding trackRule tracked foundIn found
-hands-ten g t e = subst (λ (t : Tracked). t .refusal ≡ 0 → Found.Ten (t .«record» .numbers) ≡ found (trackNumber g) (results g .numbers)) (sym e) (by (trackNumber g))
-  where
-    by : (k : ℕ) → tracked k (results g) .refusal ≡ 0 → Found.Ten (tracked k (results g) .«record» .numbers) ≡ found k (results g .numbers)
-    by zero h = refl
-    by (suc k) h = absurd (omega (arith, h))
 
 -- what such a case tells
 pub found-number : (g : Given) (x : Found) → x ≡ foundIn g → foundNumber x ≡ trackNumber g

@@ -1,2 +1,3 @@
 pub mod Track
 pub mod Found
+pub mod Packed

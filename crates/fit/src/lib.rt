@@ -5,12 +5,14 @@
 // What is given is in whole picoseconds; smoothed and corrected values are in tenths of one (document 02, Job 8).
 
 mod answers;
+mod packed;
 mod results;
 
 use correcting::Corrected;
 use correcting::correct;
 use correcting::corrected_number;
 pub use limits::Numbers;
+pub use packed::track_packed;
 use results::refused;
 use results::ten_numbers;
 pub use series::Fitted;

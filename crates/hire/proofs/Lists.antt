@@ -1,92 +1,56 @@
--- The lists that Track is given out of a block (specs/Hire.antt).
+-- The lists that Track is given out of a block (specs/Hire.antt) are those of its two packed parts.
 -- Assumes nothing.
-use mathlib.Core.Path.{_≡_, refl, sym, ap, _∙_, subst}
-use mathlib.Core.Bool.{true, false}
-use mathlib.Core.List.{List, _++_}
-use Prim.Native.Nat.{ℕ, _+_, _*_, _≤_}
+use mathlib.Core.Path.{_≡_, ap, _∙_}
+use mathlib.Core.List.{List}
+use Prim.Native.Nat.{ℕ, _+_, _*_, _-_, _/_, _≤_, _<_}
 use native.Mathlib.Omega.{arith}
-use lib.Dec.{T, leb, leb→le}
-use lib.IntN.{ℤ}
-use lib.ListN.{length, take}
-use lib.Seq.{length-take-le, take-at}
-use mir.Facts.{and-yes}
-use Rattle.limits.specs.Blocks.{blocksFit}
-use Rattle.limits.specs.Refusal.{_when_, _then_}
-use Rattle.decode.specs.Number.{signedsAt}
-use Rattle.decode.proofs.Signeds.{length-signeds}
-use Rattle.exact.specs.Corrected.{Given, steps}
-use Rattle.exact.specs.Accurate.{AccurateTrack}
+use borrow.Author.Tests.{eq-eqb, ne-eqb}
+use lib.ListN.{length, take, drop, length-drop}
+use lib.Seq.{length-take-le}
+use Rattle.decode.specs.Number.{signedAt, signedsAt}
+use Rattle.decode.proofs.Pieces.{signeds-piece, signeds-from}
 use Rattle.fit.specs.declared.Found.{Found}
-use Rattle.correcting.specs.Correct.{wrongSizes}
-use Rattle.fit.specs.Track.{trackNumber}
-use Rattle.fit.specs.Found.{foundNumber, foundNumbers, found, foundIn}
-use Rattle.hire.specs.Hire.{correctionsFrom, delayedIn, givenIn}
+use Rattle.fit.specs.Found.{foundIn}
+use Rattle.fit.specs.Packed.{packed}
+use Rattle.hire.specs.Hire.{blocksIn, blockLength, delayedIn, givenIn, blockGiven}
+use Rattle.hire.specs.Found.{blockFound}
 
--- ---- rows
+-- a block of n that is as long as its sizes make it
+module _ (b : List ℕ) (n : ℕ) (whole : length b ≡ blockLength n) where
+  room : 58 + 120 * n ≤ length b
+  room = omega arith
 
--- the first places of a row are filled, as many as the count
-pub first-filled : (b : List ℕ) (at stride count : ℕ) (out filled rest : List ℤ) → count ≤ length out
-    → filled ≡ signedsAt b at stride (length (take count out)) → take count (filled ++ rest) ≡ signedsAt b at stride count
-first-filled b at stride count out filled rest h e =
-    ap (λ (l : List ℤ). take count (l ++ rest)) (e ∙ ap (signedsAt b at stride) (length-take-le count out h))
-    ∙ take-at (signedsAt b at stride count) rest count (length-signeds b at stride count)
+  -- its measurements
+  measurements-length : length (take (120 * n) (drop 58 b)) ≡ 120 * n
+  measurements-length = let h : 120 * n ≤ length b - 58 = omega arith in length-take-le (120 * n) (drop 58 b) (rw (length-drop 58 b) h)
 
-module _ (b : List ℕ) (at stride count : ℕ) (row : List ℤ) (e : take count row ≡ signedsAt b at stride count) where
-  pub part-counted : count ≡ length (take count row)
-  part-counted = sym (ap length e ∙ length-signeds b at stride count)
+  measurements-are : signedsAt (take (120 * n) (drop 58 b)) 0 8 (length (take (120 * n) (drop 58 b)) / 8) ≡ signedsAt b 58 8 (15 * n)
+  measurements-are =
+      let count : length (take (120 * n) (drop 58 b)) / 8 ≡ 15 * n = rw measurements-length (omega arith) in
+      ap (signedsAt (take (120 * n) (drop 58 b)) 0 8) count ∙ signeds-piece b 58 (120 * n) room 0 8 (15 * n) (λ i h. within i h)
+    where
+      within : (i : ℕ) → i < 15 * n → 0 + 8 * i + 8 ≤ 120 * n
+      within i h = omega arith
 
--- they have room for a track that there may be
-pub fits-most : (n : ℕ) → blocksFit n ≡ true → n ≤ 52
-unfolding blocksFit
-fits-most n e = leb→le n 52 (and-yes (leb 4 n) (leb n 52) (subst T (sym e) tt) .1)
+  -- and its groups of corrections
+  pub groups-are : length (drop (58 + 120 * n) b) / 40 ≡ n
+  groups-are = let e : length b - (58 + 120 * n) ≡ 40 * n = omega arith in ap (λ (k : ℕ). k / 40) (length-drop (58 + 120 * n) b ∙ e) ∙ omega arith
 
--- ---- Track's answer
+  column-is : (at : ℕ) → signedsAt (drop (58 + 120 * n) b) at 40 (length (drop (58 + 120 * n) b) / 40) ≡ signedsAt b (58 + 120 * n + at) 40 n
+  column-is at = ap (signedsAt (drop (58 + 120 * n) b) at 40) groups-are ∙ signeds-from b (58 + 120 * n) room at 40 n
 
--- What is promised of a track of n blocks.
-abbrev pub Promised : (b : List ℕ) → Found → (n : ℕ) → Type 0
-Promised b x n = (x ≡ foundIn (givenIn n b)) × (foundNumber x ≡ 0 → AccurateTrack steps n (givenIn n b) (foundNumbers x))
+  pub packed-is : packed (take (120 * n) (drop 58 b)) (signedAt b 26) (signedAt b 34) (signedAt b 42) (signedAt b 50) (drop (58 + 120 * n) b) ≡ givenIn n b
+  unfolding packed givenIn
+  packed-is =
+      let e : 58 + 120 * n + 0 ≡ 58 + 120 * n = omega arith in
+      let first = column-is 0 ∙ ap (λ (k : ℕ). signedsAt b k 40 n) e in
+      λ z. delayedIn b (measurements-are z) (first z) (column-is 8 z) (column-is 16 z) (column-is 24 z) (column-is 32 z)
 
--- the answer to the lists of n blocks
-module _ (n : ℕ) (b : List ℕ) {m g r i t c : List ℤ}
-    (em : m ≡ signedsAt b 58 8 (15 * n))
-    (eg : g ≡ signedsAt b (correctionsFrom n) 40 n)
-    (er : r ≡ signedsAt b (correctionsFrom n + 8) 40 n)
-    (ei : i ≡ signedsAt b (correctionsFrom n + 16) 40 n)
-    (et : t ≡ signedsAt b (correctionsFrom n + 24) 40 n)
-    (ec : c ≡ signedsAt b (correctionsFrom n + 32) 40 n) where
-  lists-are : delayedIn b m g r i t c ≡ givenIn n b
-  unfolding givenIn
-  lists-are = λ k. delayedIn b (em k) (eg k) (er k) (ei k) (et k) (ec k)
+-- the answer by the length
+pub whole-found : (b : List ℕ) → length b ≡ blockLength (blocksIn b) → foundIn (blockGiven b) ≡ blockFound b
+unfolding blockFound
+whole-found b e = rw (eq-eqb (length b) (blockLength (blocksIn b)) e)
 
-  pub answered : (x : Found)
-      → (x ≡ foundIn (delayedIn b m g r i t c))
-      × (foundNumber x ≡ 0 → AccurateTrack steps (length g) (delayedIn b m g r i t c) (foundNumbers x))
-      → Promised b x n
-  answered x p = (
-    p .0 ∙ ap foundIn lists-are,
-    λ z. subst (λ (G : Given). AccurateTrack steps n G (foundNumbers x)) lists-are
-        (subst (λ (k : ℕ). AccurateTrack steps k (delayedIn b m g r i t c) (foundNumbers x)) (ap length eg ∙ length-signeds b (correctionsFrom n) 40 n) (p .1 z)),
-  )
-
--- and to blocks that are too few or too many
-miscounted-refused : (g : Given) → wrongSizes g ≡ true → foundIn g ≡ Found.Refused 1
-unfolding foundIn found trackNumber _when_ _then_
-miscounted-refused g e = rw e
-
-unfit-sizes : (n : ℕ) (b : List ℕ) → blocksFit n ≡ false → wrongSizes (givenIn n b) ≡ true
-unfolding wrongSizes givenIn
-unfit-sizes n b e = simp (length-signeds b (correctionsFrom n) 40 n, e)
-
-unfit-refused : (n : ℕ) (b : List ℕ) → blocksFit n ≡ false → foundIn (givenIn n b) ≡ Found.Refused 1
-unfit-refused n b e = miscounted-refused (givenIn n b) (unfit-sizes n b e)
-
--- which are as good as none
-pub unfit-alike : (n : ℕ) (b : List ℕ) → blocksFit n ≡ false → (x : Found) → x ≡ foundIn (givenIn 0 b) → Promised b x n
-unfolding blocksFit
-unfit-alike n b e x p = (
-  p ∙ unfit-refused 0 b refl ∙ sym (unfit-refused n b e),
-  λ z. absurd (refused z (ap foundNumber (p ∙ unfit-refused 0 b refl))),
-)
-  where
-    refused : foundNumber x ≡ 0 → foundNumber x ≡ 1 → ⊥
-    refused z k = omega arith
+pub other-found : (b : List ℕ) → (length b ≡ blockLength (blocksIn b) → ⊥) → Found.Refused 11 ≡ blockFound b
+unfolding blockFound
+other-found b h = rw (ne-eqb (length b) (blockLength (blocksIn b)) h)

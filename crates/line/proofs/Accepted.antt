@@ -1,11 +1,12 @@
 -- What an answer 0 of Line tells: no condition of a refusal holds.
 -- Assumes nothing.
-use mathlib.Core.Path.{_≡_, sym, ap, ap₂, _∙_}
+use mathlib.Core.Path.{_≡_, sym, ap, _∙_}
 use mathlib.Core.List.{List, _++_}
 use mathlib.Core.Bool.{true, not}
 use Prim.Native.Nat.{ℕ, _≤_}
-use lib.ListN.{length, take, drop}
-use lib.Seq.{take-length}
+use native.Mathlib.Nat.{zero-add}
+use native.Mathlib.Omega.{arith}
+use lib.ListN.{length, drop}
 use borrow.Author.Tests.{ltb-false, not-false, eq-eqb, ne-eqb}
 use Rattle.limits.specs.Refusal.{_when_, _then_}
 use Rattle.limits.specs.Limits.{limitsRule, dsgRule}
@@ -15,6 +16,8 @@ use Rattle.labels.specs.declared.Labels.{Labels}
 use Rattle.limits.specs.declared.Numbers.{Numbers}
 use Rattle.labels.specs.Labels.{labelsFit, trackLengthFits}
 use Rattle.labels.specs.Content.{contentRule}
+use Rattle.lent.specs.Placed.{placed, placedWithin}
+use Rattle.lent.proofs.Placing.{within}
 use Rattle.line.specs.Line.{lineAnswer, lineAfter}
 use Rattle.columns.specs.Text.{lineLength, lineText}
 use Rattle.columns.proofs.Widths.{line-width}
@@ -54,9 +57,11 @@ pub after-is : (l : Labels) (n : Numbers) (lent : List ℕ) → lineAnswer l n (
 unfolding lineAfter
 after-is l n lent e = simp (eq-eqb (lineAnswer l n (length lent)) 0 e)
 
-pub written : (l : Labels) (n : Numbers) (lent text after : List ℕ) → lineAnswer l n (length lent) ≡ 0 → text ≡ lineText l n
-    → after ≡ take (length text) text ++ drop (length text) lent → after ≡ lineAfter l n lent
-written l n lent text after e t a =
+pub written : (l : Labels) (n : Numbers) (lent after : List ℕ) → lineAnswer l n (length lent) ≡ 0 → after ≡ placedWithin lent 0 (lineText l n)
+    → after ≡ lineAfter l n lent
+unfolding placed
+written l n lent after e a =
     a
-    ∙ ap₂ (λ (x : List ℕ) (k : ℕ). x ++ drop k lent) (take-length text ∙ t) (ap length t ∙ line-width l n)
+    ∙ within lent 0 (lineText l n) (omega (arith, line-width l n, accepted l n (length lent) e .room))
+    ∙ ap (λ (k : ℕ). lineText l n ++ drop k lent) (zero-add (length (lineText l n)) ∙ line-width l n)
     ∙ sym (after-is l n lent e)

@@ -1,13 +1,15 @@
 -- Laws of Block (specs/Block.antt): which number comes first, and that the numbers in the columns of an accepted line are accurate.
 -- Assumes nothing.
 use mathlib.Core.Path.{_≡_, refl, sym, ap, _∙_, subst}
+use mathlib.Core.Bool.{Bool, true, false, true≢false, not}
 use mathlib.Core.List.{List}
 use Prim.Native.Nat.{ℕ, zero, suc, _<_}
 use native.Mathlib.Omega.{arith}
 use lib.ListN.{length}
-use borrow.Author.Tests.{ne-eqb}
-use Rattle.limits.specs.Refusal.{_then_}
-use Rattle.limits.proofs.Laws.{then-refused, then-passed}
+use lib.Dec.{ltb, eqb}
+use borrow.Author.Tests.{ne-eqb, eqb-true}
+use Rattle.limits.specs.Refusal.{_when_, _then_}
+use Rattle.limits.proofs.Laws.{then-zero, when-zero, then-refused, then-passed}
 use Rattle.exact.specs.Corrected.{Given, steps}
 use Rattle.exact.specs.Accurate.{AccurateTrack}
 use Rattle.fit.specs.declared.Found.{Found}
@@ -18,7 +20,9 @@ use Rattle.fit.proofs.Tracks.{found-number, found-numbers}
 use Rattle.limits.specs.declared.Numbers.{Numbers}
 use Rattle.columns.specs.Columns.{readNumbers}
 use Rattle.line.specs.Line.{lineAnswer, lineAfter}
-use Rattle.hire.specs.Hire.{blocksIn, blockLabels, blockGiven}
+use Rattle.hire.specs.Hire.{blocksIn, sizesFit, blockLength, blockLabels, blockGiven}
+use Rattle.hire.specs.Found.{blockFound}
+use Rattle.hire.proofs.Lists.{whole-found}
 use Rattle.line.specs.Block.{blockNumbers, sizesNumber, blockAnswer, blockAfter}
 use Rattle.line.proofs.ReadBack.{numbers-read}
 
@@ -37,6 +41,18 @@ pub track-record : (g : Given) (t : Tracked) → t ≡ trackRule g → t .refusa
 unfolding trackRule tracked
 track-record g t e h =
     ap (λ (t : Tracked). t .«record») e ∙ ap (λ (n : ℕ). tracked n (results g) .«record») (sym (track-number g t e) ∙ h)
+
+-- a block whose sizes and length pass is given to Track
+pub sizes-found : (b : List ℕ) → sizesNumber b ≡ 0 → blockFound b ≡ foundIn (blockGiven b)
+unfolding sizesNumber
+sizes-found b e =
+    let sizes = then-zero (11 when ltb (length b) 4) _ e .1 in
+    let other = when-zero 10 (not (eqb (length b) (blockLength (blocksIn b)))) (then-zero (1 when not (sizesFit b)) _ sizes .1) in
+    sym (whole-found b (eqb-true (length b) (blockLength (blocksIn b)) (not-false _ other)))
+  where
+    not-false : (x : Bool) → not x ≡ false → x ≡ true
+    not-false true h = refl
+    not-false false h = absurd (true≢false h)
 
 -- ---- the answer, test by test
 

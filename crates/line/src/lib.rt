@@ -29,8 +29,7 @@ pub fn line(labels: Labels, numbers: Numbers, lent: &mut [u8]) -> u32
     if answer != 0 {
         return answer;
     }
-    let text = columns::text(labels, numbers);
-    bytes::copy(&text, lent);
+    columns::write(labels, numbers, lent);
     0
 }
 

@@ -28,6 +28,16 @@ pub enum Smoothed {
     Refused(u32),
 }
 
+// The number of Smooth's answer: that of the refusal, 0 where there is none.
+pub fn smoothed_number(answer: Smoothed) -> u32
+    ensures { λ r. ⌜ r ≡ smoothReply answer .number ⌝ }
+{
+    match answer {
+        Smoothed::Value(_) => 0,
+        Smoothed::Refused(number) => number,
+    }
+}
+
 // What Fit answers: the midpoint in 0.1 ns with the slope in 0.1 ps/s, or the number of the refusal.
 pub enum Fitted {
     Line { midpoint: i64, slope: i64 },

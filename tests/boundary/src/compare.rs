@@ -1,5 +1,6 @@
 //! Runs one case through the archive and through the plain Rust implementation, and compares the answers and every
-//! byte of what is lent, of the bytes around it and of what is given.
+//! byte of what is lent, of the bytes around it and of what is given. The plain Rust that is written for speed, beside which the archive is
+//! measured, must do the same.
 
 mod days;
 mod files;
@@ -54,18 +55,22 @@ pub struct Compare {
     pub lents: BTreeMap<(&'static str, u32, Lent), u64>,
 }
 
-/// One case: guard, what is lent, guard; before the call, after each of the two.
+/// Where nothing is lent.
+const NOTHING: Sides<u8> = Sides { at: 0, before: vec![], wanted: vec![], got: vec![], fast: vec![] };
+
+/// One case: guard, what is lent, guard; before the call, after each of the two, and after the plain Rust that is written for speed.
 struct Sides<T> {
     /// where what is lent begins
     at: usize,
     before: Vec<T>,
     wanted: Vec<T>,
     got: Vec<T>,
+    fast: Vec<T>,
 }
 
 impl<T: Clone + PartialEq + Debug> Sides<T> {
     fn new(before: Vec<T>, at: usize) -> Sides<T> {
-        Sides { at, wanted: before.clone(), got: before.clone(), before }
+        Sides { at, wanted: before.clone(), got: before.clone(), fast: before.clone(), before }
     }
 
     /// Both did the same; the plain Rust implementation too must keep what is lent when it refuses.
@@ -139,6 +144,16 @@ impl Compare {
         self.shown();
     }
 
+    /// The plain Rust that is written for speed must give the same answer, and leave the same in what is lent.
+    fn fast<A: PartialEq + Debug, T: PartialEq>(&mut self, family: &str, wanted: A, got: A, sides: &Sides<T>) {
+        if wanted != got || sides.wanted != sides.fast {
+            let at = sides.wanted.iter().zip(&sides.fast).position(|(a, b)| a != b).map(|at| at as i64 - sides.at as i64);
+            eprintln!("DIFFERENT in {family}: the fast plain Rust; the answer should be {wanted:?}, was {got:?}");
+            at.iter().for_each(|place| eprintln!("  first that differs: {place} of what is lent"));
+            self.shown();
+        }
+    }
+
     /// Counts what was shown, and stops where it is enough.
     fn shown(&mut self) {
         self.differences += 1;
@@ -154,8 +169,10 @@ impl Compare {
         let (moved, shift) = self.moved(block);
         let handed = block.map(|_| &moved[shift..]);
         let wanted = reference::block(block.unwrap_or_default(), &mut lines.wanted[at.clone()]);
+        let fast = fast::block(block.unwrap_or_default(), &mut lines.fast[at.clone()]);
         let lent_bytes = (lent != Lent::Null).then(|| &mut lines.got[at]);
         let got = library::block(handed, lent_bytes);
+        self.fast(family, wanted, fast, &lines);
         let intact = handed == block;
         self.count("block", lent, wanted);
         if wanted != got || !lines.agree(wanted) || !intact {
@@ -170,8 +187,10 @@ impl Compare {
     pub fn line(&mut self, family: &str, labels: &Labels, numbers: &Numbers, lent: Lent) -> u32 {
         let (mut lines, at) = self.lines(lent);
         let wanted = reference::line(labels, numbers, &mut lines.wanted[at.clone()]);
+        let fast = fast::line(labels, numbers, &mut lines.fast[at.clone()]);
         let lent_bytes = (lent != Lent::Null).then(|| &mut lines.got[at]);
         let got = library::line(labels, numbers, lent_bytes);
+        self.fast(family, wanted, fast, &lines);
         self.count("line", lent, wanted);
         if wanted != got || !lines.agree(wanted) {
             self.show(family, &(labels, numbers, lent), wanted, got, lines.difference(as_text));
@@ -186,10 +205,12 @@ impl Compare {
         let handed = line.map(|_| &moved[shift..]);
         let given = line.unwrap_or_default();
         let wanted = reference::read_values(given, &mut rows.wanted[at.clone()]);
+        let fast = fast::read_values(given, &mut rows.fast[at.clone()]);
         let lent_values = (lent != Lent::Null).then(|| &mut rows.got[at]);
         let got = library::read(handed, lent_values);
         self.count("read", lent, wanted);
         let wanted_from = given.len() - reference::comment(given).len();
+        self.fast(family, (wanted, wanted_from), (fast, fast::comment_from(given)), &rows);
         let got_from = library::comment(handed);
         *self.answers.entry(("comment", reference::read(given).err().unwrap_or(0))).or_default() += 1;
         if wanted != got || !rows.agree(wanted) || wanted_from != got_from || handed != line {
@@ -205,6 +226,7 @@ impl Compare {
     pub fn start(&mut self, mjd: u32, second: u32) {
         let wanted = reference::start(mjd, second);
         let got = library::start(mjd, second);
+        self.fast("starts", wanted, fast::start(mjd, second), &NOTHING);
         *self.answers.entry(("start", wanted)).or_default() += 1;
         if wanted != got {
             self.show("starts", &(mjd, second), wanted, got, None);

@@ -10,9 +10,9 @@ use reference::seeded::Seeded;
 use reference::{keys, Labels, FILE_LINE_BYTES, LEAST_BLOCKS, MOST_BLOCKS};
 use std::collections::BTreeMap;
 
-/// As many lines as trackline_day keeps while the blocks are judged: those behind them are made once more. Where few bytes are
-/// given it has room for 32 or for 512.
-const KEPT: usize = 4096;
+/// As many lines as trackline_day keeps at most while the blocks are judged: those behind them are made once more. It keeps 32 or
+/// 1024 where the bytes hold no more blocks of the first one's length.
+const KEPT: usize = 10_000;
 
 /// How often two faults met: the ranks of the one that decides and of the other, and whether both are of one block.
 #[derive(Default)]
@@ -46,13 +46,16 @@ pub fn run(compare: &mut Compare, seeded: &mut Seeded, scale: usize) -> Met {
     }
     all_keys(compare, seeded);
     nothing(compare);
-    for kept in [32, 512, KEPT] {
+    for kept in [32, 1024, KEPT] {
         for count in [kept - 1, kept, kept + 1] {
             long(compare, seeded, kept, count, set_of);
             long(compare, seeded, kept, count, shortest_of);
         }
     }
     long(compare, seeded, KEPT, 2 * KEPT + 1, shortest_of);
+    // the first block is longer than the others
+    long(compare, seeded, 32, 300, full_first);
+    long(compare, seeded, 1024, 2_000, full_first);
     met
 }
 
@@ -149,6 +152,14 @@ fn set_of(labels: Vec<Labels>, seeded: &mut Seeded) -> Vec<Vec<u8>> {
 /// Blocks of four, so that as many stand in as many bytes as can.
 fn shortest_of(labels: Vec<Labels>, seeded: &mut Seeded) -> Vec<Vec<u8>> {
     labels.into_iter().map(|labels| Case { labels, ..good_of(LEAST_BLOCKS, seeded) }.bytes()).collect()
+}
+
+/// A full block and then blocks of four: many more than there are blocks of the first one's length in the bytes.
+fn full_first(labels: Vec<Labels>, seeded: &mut Seeded) -> Vec<Vec<u8>> {
+    let first = Case { labels: labels[0], ..good_of(MOST_BLOCKS, seeded) }.bytes();
+    let mut set = shortest_of(labels, seeded);
+    set[0] = first;
+    set
 }
 
 fn good_set(count: usize, seeded: &mut Seeded) -> Vec<Vec<u8>> {

@@ -21,7 +21,7 @@ fn speed_proved_merge(files: &[u8], lent: &mut [u8]) -> u32 {
 #[no_mangle]
 fn speed_plain_merge(files: &[u8], lent: &mut [u8]) -> u32 {
     let (first, second) = files.split_at(files.len() / 2);
-    reference::merge(first, second, lent).err().unwrap_or(0)
+    fast::merge(first, second, lent).err().unwrap_or(0)
 }
 
 #[inline(never)]
@@ -35,7 +35,7 @@ fn speed_proved_view(files: &[u8], lent: &mut [i64]) -> u32 {
 #[no_mangle]
 fn speed_plain_view(files: &[u8], lent: &mut [i64]) -> u32 {
     let (first, second) = files.split_at(files.len() / 2);
-    reference::view_values(first, second, lent)
+    fast::view_values(first, second, lent)
 }
 
 /// One file behind the other.
@@ -75,37 +75,25 @@ fn two_receivers(lines: usize, seeded: &mut Seeded) -> Vec<u8> {
     joined(first, second, lines)
 }
 
-/// Ten pairs of files of so many lines, and of twice as many.
-fn both<T: Clone + Default + PartialEq + Debug + 'static>(
-    count: usize,
-    lines: usize,
-    pair_of: impl Fn(usize) -> Pair<T>,
-    mut files_of: impl FnMut(usize) -> Vec<u8>,
-) {
-    let times = [lines, 2 * lines].map(|lines| {
-        let pairs: Vec<Vec<u8>> = (0..10).map(|_| files_of(lines)).collect();
-        println!("two line files of {lines} lines each");
-        let pair = pair_of(lines);
-        pair.agree(&pairs, Some(0));
-        pair.whole(count, &pairs) / (2 * lines) as f64
-    });
-    println!("  a line of either file {:8.1} ns, with twice the lines {:8.1}", times[0], times[1]);
-    println!("  twice the lines take {:.3} times as long", 2.0 * times[1] / times[0]);
+/// The time of a line of either file, in ten pairs of files.
+fn timed<T: Clone + Default + PartialEq + Debug>(count: usize, lines: usize, pair: Pair<T>, mut files: impl FnMut() -> Vec<u8>) {
+    let pairs: Vec<Vec<u8>> = (0..10).map(|_| files()).collect();
+    pair.whole(count, &format!("a line, {lines} in each file"), 2 * lines, &pairs, Some(0));
 }
 
 /// Files of so many lines and of twice as many merged; the common view of files of half as many lines and of so many, which
 /// are at most the 10,000 that it takes.
 pub fn run(count: usize, lines: usize, seeded: &mut Seeded) {
     let lines = lines.div_ceil(10) * 10;
-    let merge = |lines: usize| Pair {
-        input: "pair of files",
-        proved: speed_proved_merge,
-        plain: speed_plain_merge,
-        lent: FILE_LINE_BYTES * 2 * lines,
-    };
-    both(count, lines, merge, |lines| two_files(lines, seeded));
-    let view =
-        |_| Pair { input: "common view", proved: speed_proved_view, plain: speed_plain_view, lent: REPORT_VALUES };
+    for lines in [lines, 2 * lines] {
+        let lent = FILE_LINE_BYTES * 2 * lines;
+        let merge = Pair { function: "trackline_merge", proved: speed_proved_merge, plain: speed_plain_merge, lent };
+        timed(count, lines, merge, || two_files(lines, seeded));
+    }
     let viewed = lines.min(LONGEST_FILE / FILE_LINE_BYTES);
-    both(count, viewed / 2, view, |lines| two_receivers(lines, seeded));
+    for lines in [viewed / 2, viewed] {
+        let lent = REPORT_VALUES;
+        let view = Pair { function: "trackline_view", proved: speed_proved_view, plain: speed_plain_view, lent };
+        timed(count, lines, view, || two_receivers(lines, seeded));
+    }
 }

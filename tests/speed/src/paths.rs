@@ -1,4 +1,4 @@
-//! The length of a path: the archive beside plain Rust that takes the root of a float and mends it by 128-bit squares.
+//! The length of a path: the archive beside plain Rust.
 
 use crate::library;
 use crate::timing::Pair;
@@ -24,64 +24,28 @@ fn speed_proved_path(given: &[u8], lent: &mut [u64]) -> u32 {
 #[inline(never)]
 #[no_mangle]
 fn speed_plain_path(given: &[u8], lent: &mut [u64]) -> u32 {
-    let mut length = 0.0;
-    let answer = plain(coordinates(given), &mut length);
-    lent[0] = length.to_bits();
-    answer
-}
-
-/// Beside 2^52 a float has no digits behind the point; from there on floats are whole, infinities and what is no number apart.
-fn is_whole(v: f64) -> bool {
-    const BESIDE: f64 = 4_503_599_627_370_496.0;
-    let v = v.abs();
-    if v < BESIDE {
-        v + BESIDE - BESIDE == v
-    } else {
-        v.is_finite()
-    }
-}
-
-/// As one writes it for speed.
-fn plain(six: [f64; 6], length: &mut f64) -> u32 {
-    if !six.iter().all(|v| is_whole(*v)) {
-        return 23;
-    }
-    if six.iter().any(|v| v.abs() > MOST) {
-        return 24;
-    }
-    let square = |i: usize| {
-        let difference = (six[i] as i64 - six[i + 3] as i64).unsigned_abs();
-        u128::from(difference) * u128::from(difference)
-    };
-    let sum = square(0) + square(1) + square(2);
-    let squared = |root: u64| u128::from(root) * u128::from(root);
-    let mut root = (sum as f64).sqrt() as u64;
-    while squared(root) > sum {
-        root -= 1;
-    }
-    while squared(root + 1) <= sum {
-        root += 1;
-    }
-    *length = root as f64;
-    0
+    let answer = fast::path(coordinates(given));
+    lent[0] = answer.unwrap_or(0.0).to_bits();
+    answer.err().unwrap_or(0)
 }
 
 /// One coordinate that is refused: what it is called, its place, itself and the answer. The first one is refused at once, by both.
 const REFUSED: [(&str, usize, f64, u32); 11] = [
-    ("path with a half, the first", 0, 0.5, 23),
-    ("path with a half, the last", 5, 0.5, 23),
-    ("path with a subnormal, the first", 0, 5e-324, 23),
-    ("path with an infinity, the first", 0, f64::INFINITY, 23),
-    ("path with an infinity, the last", 5, f64::INFINITY, 23),
-    ("path with no number, the first", 0, f64::NAN, 23),
-    ("path with a half outside, the first", 0, 60_000_000_000.5, 23),
-    ("path outside, the first", 0, 60_000_000_000.0, 24),
-    ("path outside, the last", 5, -60_000_000_000.0, 24),
-    ("path far outside, the first", 0, 1e300, 24),
-    ("path far outside, the last", 5, 1e300, 24),
+    ("with a half, the first", 0, 0.5, 23),
+    ("with a half, the last", 5, 0.5, 23),
+    ("with a subnormal, the first", 0, 5e-324, 23),
+    ("with an infinity, the first", 0, f64::INFINITY, 23),
+    ("with an infinity, the last", 5, f64::INFINITY, 23),
+    ("with no number, the first", 0, f64::NAN, 23),
+    ("with a half outside, the first", 0, 60_000_000_000.5, 23),
+    ("outside, the first", 0, 60_000_000_000.0, 24),
+    ("outside, the last", 5, -60_000_000_000.0, 24),
+    ("far outside, the first", 0, 1e300, 24),
+    ("far outside, the last", 5, 1e300, 24),
 ];
 
-const PATH: Pair<u64> = Pair { input: "path", proved: speed_proved_path, plain: speed_plain_path, lent: 1 };
+const PATH: Pair<u64> =
+    Pair { function: "trackline_path", proved: speed_proved_path, plain: speed_plain_path, lent: 1 };
 
 fn bytes(six: [f64; 6]) -> Vec<u8> {
     six.iter().flat_map(|v| v.to_le_bytes()).collect()
@@ -102,8 +66,8 @@ pub fn run(count: usize, number: usize, seeded: &mut Seeded) {
     let orbits: Vec<Vec<u8>> = (0..number).map(|_| bytes(as_in_orbit(seeded))).collect();
     let any = |seeded: &mut Seeded| std::array::from_fn(|_| seeded.spread(MOST as i64) as f64);
     let anywhere: Vec<Vec<u8>> = (0..number).map(|_| bytes(any(seeded))).collect();
-    for (what, inputs) in [("path of a satellite", &orbits), ("path between any points", &anywhere)] {
-        timed(count, what, inputs, 0);
+    for (what, inputs) in [("of a satellite", &orbits), ("between any points", &anywhere)] {
+        PATH.whole(count, what, 1, inputs, Some(0));
     }
     for (what, place, value, answer) in REFUSED {
         let spoil = |given: &Vec<u8>| {
@@ -111,12 +75,6 @@ pub fn run(count: usize, number: usize, seeded: &mut Seeded) {
             six[place] = value;
             bytes(six)
         };
-        timed(count, what, &orbits.iter().map(spoil).collect::<Vec<_>>(), answer);
+        PATH.whole(count, what, 1, &orbits.iter().map(spoil).collect::<Vec<_>>(), Some(answer));
     }
-}
-
-fn timed(count: usize, what: &'static str, inputs: &[Vec<u8>], answer: u32) {
-    let pair = Pair { input: what, ..PATH };
-    pair.agree(inputs, Some(answer));
-    pair.whole(count, inputs);
 }

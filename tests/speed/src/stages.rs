@@ -13,13 +13,13 @@ pub const fn stage(part: &'static str, answer: u32, spoil: fn(&mut Vec<u8>)) -> 
     Stage { part, answer, spoil }
 }
 
-/// In the order in which the proved library refuses, named as in the table of docs/SPEED.md. Plain Rust tests the measurements before the
-/// corrections, so its part "limits of corrections" has the measurements' limits too.
+/// In the order of the refusals, named as in the table of docs/SPEED.md. Plain Rust sums for the fits while it corrects, so that its part
+/// "four fits" has the quotients alone.
 pub const STAGES: [Stage; 6] = [
     stage("length and sizes", 1, |block| block[2] -= 1),
-    stage("decoding", 2, first_of_both_beyond),
-    stage("limits of corrections", 2, last_clock_beyond),
-    stage("scan, smoothing, correcting, four fits", 5, negative_troposphere),
+    stage("measurements: decoding, limits, smoothing", 2, first_geometry_beyond),
+    stage("corrections: decoding, limits, correcting", 2, last_clock_beyond),
+    stage("four fits", 5, negative_troposphere),
     stage("scatter", 7, |block| block[5] = 0),
     stage("labels and start, text", 0, |_| {}),
 ];
@@ -37,11 +37,10 @@ fn correction(block: &[u8], which: usize, j: usize) -> usize {
     58 + 120 * blocks(block) + 40 * j + 8 * which
 }
 
-/// The first number that either side tests: the first geometry, and in plain Rust the first measurement.
-fn first_of_both_beyond(block: &mut Vec<u8>) {
+/// The first number that either side tests behind the measurements and the delays.
+fn first_geometry_beyond(block: &mut Vec<u8>) {
     let geometry = correction(block, GEOMETRY, 0);
     put(block, geometry, i64::MAX);
-    put(block, 58, i64::MAX);
 }
 
 fn last_clock_beyond(block: &mut Vec<u8>) {

@@ -24,7 +24,7 @@ fn speed_proved_delays(store: &[u8], lent: &mut [i64]) -> u32 {
 #[inline(never)]
 #[no_mangle]
 fn speed_plain_delays(store: &[u8], lent: &mut [i64]) -> u32 {
-    reference::lookup_values(store, ASKED, lent)
+    fast::lookup_values(store, ASKED, lent)
 }
 
 #[inline(never)]
@@ -37,7 +37,7 @@ fn speed_proved_append(store: &[u8], lent: &mut [u8]) -> u32 {
 #[inline(never)]
 #[no_mangle]
 fn speed_plain_append(store: &[u8], lent: &mut [u8]) -> u32 {
-    reference::append(store, LATER, &NEW, lent).err().unwrap_or(0)
+    fast::append(store, LATER, &NEW, lent).err().unwrap_or(0)
 }
 
 fn stores(version: u16, entries: usize, seeded: &mut Seeded) -> Vec<Vec<u8>> {
@@ -45,18 +45,19 @@ fn stores(version: u16, entries: usize, seeded: &mut Seeded) -> Vec<Vec<u8>> {
 }
 
 pub fn run(count: usize, seeded: &mut Seeded) {
-    let lookup = Pair { input: "lookup", proved: speed_proved_delays, plain: speed_plain_delays, lent: SET_VALUES };
-    let append = Pair { input: "append", proved: speed_proved_append, plain: speed_plain_append, lent: LONGEST_STORE };
+    let (proved, plain) = (speed_proved_delays, speed_plain_delays);
+    let lookup = Pair { function: "trackline_delays", proved, plain, lent: SET_VALUES };
+    let (proved, plain) = (speed_proved_append, speed_plain_append);
+    let append = Pair { function: "trackline_append", proved, plain, lent: LONGEST_STORE };
     for version in [1, 2] {
         for entries in [10, MOST_ENTRIES] {
-            println!("stores of version {version} with {entries} entries");
             let asked = stores(version, entries, seeded);
-            lookup.agree(&asked, if entries == MOST_ENTRIES { Some(0) } else { None });
-            lookup.whole(4 * count, &asked);
+            let answer = (entries == MOST_ENTRIES).then_some(0);
+            lookup.whole(count, &format!("version {version}, {entries} entries"), 1, &asked, answer);
         }
-        println!("stores of version {version} with {} entries", MOST_ENTRIES - 1);
-        let longer = stores(version, MOST_ENTRIES - 1, seeded);
-        append.agree(&longer, Some(0));
-        append.whole(4 * count, &longer);
+    }
+    for version in [1, 2] {
+        let entries = MOST_ENTRIES - 1;
+        append.whole(count, &format!("version {version}, {entries} entries"), 1, &stores(version, entries, seeded), Some(0));
     }
 }

@@ -9,8 +9,8 @@ use std::time::Duration;
 pub type Operation<T> = fn(&[u8], &mut [T]) -> u32;
 
 pub struct Pair<T: 'static> {
-    /// what an input is called
-    pub input: &'static str,
+    /// the C function
+    pub function: &'static str,
     pub proved: Operation<T>,
     pub plain: Operation<T>,
     /// how much is lent
@@ -34,17 +34,49 @@ fn processor_time() -> Duration {
     Duration::new(time.seconds as u64, time.nanoseconds as u32)
 }
 
-/// Least, median and greatest.
+/// Least, median and greatest, and the half of the values that lies in the middle.
 struct Spread {
     least: f64,
     median: f64,
     most: f64,
+    middle: f64,
 }
 
 fn spread(values: impl Iterator<Item = f64>) -> Spread {
     let mut values: Vec<f64> = values.collect();
     values.sort_by(f64::total_cmp);
-    Spread { least: values[0], median: values[values.len() / 2], most: values[values.len() - 1] }
+    let n = values.len();
+    Spread { least: values[0], median: values[n / 2], most: values[n - 1], middle: values[3 * n / 4] - values[n / 4] }
+}
+
+fn ratio(times: &[(f64, f64)]) -> Spread {
+    spread(times.iter().map(|t| t.0 / t.1))
+}
+
+/// Whether the median of the ratios would hardly move with more rounds: by about half a percent. It goes by the width of the
+/// middle half over the root of the number of rounds.
+fn settled(times: &[(f64, f64)]) -> bool {
+    let ratio = ratio(times);
+    ratio.middle <= 0.005 * ratio.median * (times.len() as f64).sqrt()
+}
+
+/// No more than so many times the rounds that were asked for.
+const MOST_TURNS: usize = 10;
+
+/// As many digits as tell something.
+fn shown(ns: f64) -> String {
+    if ns < 100.0 {
+        format!("{ns:.1}")
+    } else {
+        format!("{ns:.0}")
+    }
+}
+
+/// The head of the table that `whole` prints rows of.
+pub fn head() {
+    println!("times are ns of one input's units, least and median of the rounds; a ratio is the median of the rounds' own ratios, from least to greatest");
+    println!("| function | input | proved, least | median | plain Rust, least | median | proved / plain Rust |");
+    println!("|---|---|---:|---:|---:|---:|---:|");
 }
 
 /// Inputs of each stage, few enough that all stages can take turns in a round.
@@ -86,18 +118,28 @@ impl<T: Clone + Default + PartialEq + Debug> Pair<T> {
         }
     }
 
-    /// The time of all inputs. Gives the archive's median for one.
-    pub fn whole(&self, count: usize, inputs: &[Vec<u8>]) -> f64 {
-        let times = self.rounds(count, inputs);
-        println!("{} times a {}, {count} rounds: least, median, greatest", inputs.len(), self.input);
-        let (proved, plain) = (spread(times.iter().map(|t| t.0)), spread(times.iter().map(|t| t.1)));
-        let median = proved.median;
-        for (name, s) in [("proved", proved), ("plain Rust", plain)] {
-            println!("  {name:22} {:8.0} {:8.0} {:8.0}  ns", s.least, s.median, s.most);
+    /// A row of the table: the time of a unit, of which each input has so many.
+    pub fn whole(&self, count: usize, input: &str, units: usize, inputs: &[Vec<u8>], answer: Option<u32>) {
+        self.agree(inputs, answer);
+        self.row(input, units, &self.rounds(count, inputs));
+    }
+
+    /// The same with more rounds where the ratios are spread so wide that they are needed.
+    pub fn settled(&self, count: usize, input: &str, units: usize, inputs: &[Vec<u8>], answer: Option<u32>) {
+        self.agree(inputs, answer);
+        let mut times = self.rounds(count, inputs);
+        while !settled(&times) && times.len() < MOST_TURNS * count {
+            times.extend(self.rounds(count, inputs));
         }
-        let ratio = spread(times.iter().map(|t| t.0 / t.1));
-        println!("  {:22} {:8.3} {:8.3} {:8.3}", "proved / plain Rust", ratio.least, ratio.median, ratio.most);
-        median
+        self.row(input, units, &times);
+    }
+
+    fn row(&self, input: &str, units: usize, times: &[(f64, f64)]) {
+        let (proved, plain) = (spread(times.iter().map(|t| t.0)), spread(times.iter().map(|t| t.1)));
+        let ratio = ratio(times);
+        let [a, b, c, d] = [proved.least, proved.median, plain.least, plain.median].map(|ns| shown(ns / units as f64));
+        let ratio = format!("{:.2} ({:.2} to {:.2})", ratio.median, ratio.least, ratio.most);
+        println!("| `{}` | {input} | {a} | {b} | {c} | {d} | {ratio} |", self.function);
     }
 
     /// The least pass of each over inputs that are refused at each stage.
@@ -119,28 +161,19 @@ impl<T: Clone + Default + PartialEq + Debug> Pair<T> {
         least
     }
 
-    /// What it costs to refuse at each stage.
-    pub fn refused(&self, count: usize, inputs: &[Vec<u8>], stages: &[Stage]) {
-        let inputs = &inputs[..inputs.len().min(STAGE_INPUTS)];
-        println!("{} that are refused: ns a {}", inputs.len(), self.input);
-        println!("  {:42} {:>8} {:>10}", "", "proved", "plain Rust");
-        for (stage, least) in stages.iter().zip(self.least_of(count, inputs, stages)) {
-            println!("  {:42} {:8.0} {:10.0}", stage.part, least.0, least.1);
-        }
-    }
-
     /// What each stage costs more than the stage before it.
-    pub fn split(&self, count: usize, inputs: &[Vec<u8>], stages: &[Stage]) {
+    pub fn split(&self, count: usize, input: &str, inputs: &[Vec<u8>], stages: &[Stage]) {
         let inputs = &inputs[..inputs.len().min(STAGE_INPUTS)];
         let least = self.least_of(count, inputs, stages);
-        println!("the cost of each part, by {} that are refused behind it: ns a {}", inputs.len(), self.input);
-        println!("  {:42} {:>8} {:>10}", "", "proved", "plain Rust");
+        println!("the parts of a {input}, by {} that are refused behind each: ns, least", inputs.len());
+        println!("| part | proved | plain Rust |");
+        println!("|---|---:|---:|");
         let mut before = (0.0, 0.0);
         for (stage, now) in stages.iter().zip(least) {
-            println!("  {:42} {:8.0} {:10.0}", stage.part, now.0 - before.0, now.1 - before.1);
+            println!("| {} | {:.0} | {:.0} |", stage.part, now.0 - before.0, now.1 - before.1);
             before = now;
         }
-        println!("  {:42} {:8.0} {:10.0}", "all", before.0, before.1);
+        println!("| all | {:.0} | {:.0} |", before.0, before.1);
     }
 
     /// One call of each on an input that is refused behind a part.

@@ -7,11 +7,12 @@ use Prim.Native.Nat.{_<_}
 use lib.ListN.{length}
 use Rattle.labels.specs.declared.Labels.{Labels}
 use Rattle.limits.specs.declared.Numbers.{Numbers}
-use Rattle.fit.specs.Found.{foundNumber, foundNumbers}
+use Rattle.fit.specs.Found.{foundNumber, foundNumbers, foundIn}
+use Rattle.hire.specs.Hire.{blockGiven}
 use Rattle.fit.proofs.Tracks.{found-number, found-some}
 use Rattle.line.specs.Line.{lineAnswer, lineAfter}
 use Rattle.line.specs.Block.{sizesNumber}
-use Rattle.line.proofs.Blocks.{sizes-refuse, track-refuses, refused, written}
+use Rattle.line.proofs.Blocks.{sizes-found, sizes-refuse, track-refuses, refused, written}
 use Rattle.line.proofs.block.Statement.{statement}
 use Rattle.line.proofs.block.Tie as tie
 
@@ -30,6 +31,10 @@ returns c =
 -- the sizes and the length are not refused
 passed : (c : tie.Else1) → sizesNumber (c .before .before .before .before .args .block .now) ≡ 0
 passed c = sym (c .before .sizes-refusal .ensures) ∙ c .if1 .left
+
+-- what Track finds of it
+found-is : (c : tie.After-track) → c .track .result ≡ foundIn (blockGiven (c .before .before .before .before .before .args .block .now))
+found-is c = c .track .ensures .0 ∙ sizes-found _ (passed (c .before))
 
 track-requires : tie.Need-track-requires
 track-requires c κs = search needs
@@ -52,9 +57,9 @@ returns-2 c =
     let l = a .lent .now in
     let told = c .before .enum-told .given .1 in
     let number = c .found-number .ensures in
-    let h : 0 < c .found-number .result = rw (number ∙ ap foundNumber told) (found-some _ (t .track .ensures .0) told) in
+    let h : 0 < c .found-number .result = rw (number ∙ ap foundNumber told) (found-some _ (found-is t) told) in
     refused b l (c .found-number .result) h
-    (track-refuses b (length l) (passed e) (c .found-number .result) (number ∙ found-number _ (t .track .result) (t .track .ensures .0)) h)
+    (track-refuses b (length l) (passed e) (c .found-number .result) (number ∙ found-number _ (t .track .result) (found-is t)) h)
 
 labels-requires : tie.Need-labels-requires
 labels-requires c κs = search needs
@@ -79,7 +84,7 @@ returns-3 c =
     let told = k .before .found .given .1 in
     let labels = n .labels .ensures in
     let numbers = sym (ap foundNumbers told) in
-    written b l x (passed e) (t .track .ensures .0) (t .track .ensures .1) (ap foundNumber told)
+    written b l x (passed e) (found-is t) (t .track .ensures .1) (ap foundNumber told)
     (w .line .result) (w .line .last .1 .1 .0)
     (w .line .ensures .0 ∙ ap₂ (λ (y : Labels) (m : Numbers). lineAnswer y m (length l)) labels numbers)
     (w .line .ensures .1 ∙ ap₂ (λ (y : Labels) (m : Numbers). lineAfter y m l) labels numbers)

@@ -23,6 +23,8 @@ impl Compare {
         let before: [usize; 5] = std::array::from_fn(|_| self.seeded.bits() as usize);
         let (mut wanted_numbers, mut numbers) = (before, before);
         let result = reference::day(given, &mut files.wanted[at.clone()]);
+        let fast = fast::day(given, &mut files.fast[at.clone()]);
+        self.fast(family, result, fast, &files);
         match result {
             Ok(length) => wanted_numbers[1] = length,
             Err(offence) => wanted_numbers[3] = offence.block,

@@ -28,6 +28,8 @@ impl Compare {
         let mut written = before;
         let result = reference::merge(given.0, given.1, &mut files.wanted[at.clone()]);
         let wanted = result.err().unwrap_or(0);
+        let fast = fast::merge(given.0, given.1, &mut files.fast[at.clone()]);
+        self.fast(family, result, fast, &files);
         let lent_bytes = (lent != Lent::Null).then(|| &mut files.got[at]);
         let got = library::merge(handed.0, handed.1, lent_bytes, &mut written[1]);
         *self.answers.entry(("merge", wanted)).or_default() += 1;
@@ -58,6 +60,8 @@ impl Compare {
         let handed = (first.map(|_| &moved_first[first_shift..]), second.map(|_| &moved_second[second_shift..]));
         let given = (first.unwrap_or_default(), second.unwrap_or_default());
         let wanted = reference::view_values(given.0, given.1, &mut rows.wanted[at.clone()]);
+        let fast = fast::view_values(given.0, given.1, &mut rows.fast[at.clone()]);
+        self.fast(family, wanted, fast, &rows);
         let lent_values = (lent != Lent::Null).then(|| &mut rows.got[at.clone()]);
         let got = library::view(handed.0, handed.1, lent_values);
         self.count("view", lent, wanted);

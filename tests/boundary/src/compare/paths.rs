@@ -1,6 +1,6 @@
 //! The length of a path.
 
-use super::Compare;
+use super::{Compare, NOTHING};
 use crate::library;
 use reference::Point;
 
@@ -12,6 +12,7 @@ impl Compare {
     pub fn path(&mut self, family: &str, six: [f64; 6]) -> Length {
         let [xs, ys, zs, xa, ya, za] = six;
         let wanted = reference::path(Point { x: xs, y: ys, z: zs }, Point { x: xa, y: ya, z: za });
+        self.fast(family, wanted.map(f64::to_bits), fast::path(six).map(f64::to_bits), &NOTHING);
         // three numbers, of which the middle one is lent
         let before = f64::from_bits(self.seeded.bits());
         let mut lent = [before; 3];

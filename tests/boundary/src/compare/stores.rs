@@ -18,6 +18,8 @@ impl Compare {
         let (moved, shift) = self.moved(store);
         let handed = store.map(|_| &moved[shift..]);
         let wanted = reference::lookup_values(store.unwrap_or_default(), mjd, &mut rows.wanted[at.clone()]);
+        let fast = fast::lookup_values(store.unwrap_or_default(), mjd, &mut rows.fast[at.clone()]);
+        self.fast(family, wanted, fast, &rows);
         let lent_values = (lent != Lent::Null).then(|| &mut rows.got[at.clone()]);
         let got = library::delays(handed, mjd, lent_values);
         self.count("delays", lent, wanted);
@@ -50,6 +52,8 @@ impl Compare {
         let mut written = before;
         let result = reference::append(store.unwrap_or_default(), mjd, set, &mut longer.wanted[at.clone()]);
         let wanted = result.err().unwrap_or(0);
+        let fast = fast::append(store.unwrap_or_default(), mjd, set, &mut longer.fast[at.clone()]);
+        self.fast(family, result, fast, &longer);
         let lent_bytes = (lent != Lent::Null).then(|| &mut longer.got[at.clone()]);
         let got = library::append(handed, mjd, set, lent_bytes, &mut written[1]);
         *self.answers.entry(("append", wanted)).or_default() += 1;

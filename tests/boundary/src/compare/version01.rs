@@ -10,11 +10,12 @@ pub type Supplied = (u8, [u8; 3]);
 /// What was written, or the refusal.
 pub type Written = Result<Vec<u8>, u32>;
 
-/// One way: its name, how many bytes it writes, and its two implementations.
+/// One way: its name, how many bytes it writes, and its implementations.
 struct Way<'a> {
     of: &'static str,
     bytes: usize,
     plain: &'a dyn Fn(&[u8], &mut [u8]) -> u32,
+    fast: &'a dyn Fn(&[u8], &mut [u8]) -> u32,
     proved: &'a dyn Fn(Bytes, LentBytes) -> u32,
 }
 
@@ -25,6 +26,8 @@ impl Compare {
         let (moved, shift) = self.moved(line);
         let handed = line.map(|_| &moved[shift..]);
         let wanted = (way.plain)(line.unwrap_or_default(), &mut lines.wanted[at.clone()]);
+        let fast = (way.fast)(line.unwrap_or_default(), &mut lines.fast[at.clone()]);
+        self.fast(family, wanted, fast, &lines);
         let lent_bytes = (lent != Lent::Null).then(|| &mut lines.got[at.clone()]);
         let got = (way.proved)(handed, lent_bytes);
         let intact = handed == line;
@@ -38,14 +41,16 @@ impl Compare {
     }
 
     pub fn down(&mut self, family: &str, line: Bytes, lent: Lent) -> Written {
-        let way = Way { of: "down", bytes: OLD_BYTES, plain: &reference::down, proved: &library::down };
+        let (plain, fast, proved) = (&reference::down, &fast::down, &library::down);
+        let way = Way { of: "down", bytes: OLD_BYTES, plain, fast, proved };
         self.way(family, &way, line, lent)
     }
 
     pub fn up(&mut self, family: &str, old: Bytes, (hc, frc): Supplied, lent: Lent) -> Written {
         let plain = |old: &[u8], lent: &mut [u8]| reference::up(old, hc, frc, lent);
+        let fast = |old: &[u8], lent: &mut [u8]| fast::up(old, hc, frc, lent);
         let proved = |old: Bytes, lent: LentBytes| library::up(old, hc, frc, lent);
-        let way = Way { of: "up", bytes: LINE_BYTES, plain: &plain, proved: &proved };
+        let way = Way { of: "up", bytes: LINE_BYTES, plain: &plain, fast: &fast, proved: &proved };
         self.way(family, &way, old, lent)
     }
 }

@@ -8,8 +8,11 @@ use borrow.Author.Needs.{needs}
 use Rattle.columns.proofs.put.put_byte.Statement.{statement}
 use Rattle.columns.proofs.put.put_byte.Tie as tie
 
-element-write-line : tie.Need-element-write-line
-element-write-line c = search needs
+slice-write-line : tie.Need-slice-write-line
+slice-write-line c = search needs
+
+same-length : tie.Need-same-length
+same-length c = search needs
 
 returns : tie.Need-returns
 returns c =
@@ -17,4 +20,4 @@ returns c =
     (placed-byte (c .args .line .now) (c .args .at) (c .args .byte) (omega arith))
 
 pub put-byte-spec : {M : Type 1} → statement M
-put-byte-spec = tie.close (tie.spec element-write-line returns)
+put-byte-spec = tie.close (tie.spec slice-write-line same-length returns)

@@ -15,10 +15,15 @@ put-hexadecimal-requires c κs = search needs
 put-byte-requires : tie.Need-put-byte-requires
 put-byte-requires c κs = search needs
 
+same-length : tie.Need-same-length
+same-length c = search needs
+
 returns : tie.Need-returns
 returns c =
-    let a = c .before .before .before .before in
-    onto (a .pre) (omega arith) (ap (λ (n : ℕ). 4 + n) (length-hexadecimal (a .args .cl))) (c .before .before .put-hexadecimal .ensures) (c .put-byte .ensures)
+    let space = c .before .before in
+    let digits = space .before .before .before .before in
+    let a = digits .before .before .before in
+    onto (a .pre) (omega arith) (ap (λ (n : ℕ). 4 + n) (length-hexadecimal (a .args .cl))) (digits .put-hexadecimal .ensures) (space .put-byte .ensures)
 
 pub put-class-spec : {M : Type 1} → statement M
-put-class-spec = tie.close (tie.spec put-hexadecimal-requires put-byte-requires returns)
+put-class-spec = tie.close (tie.spec put-hexadecimal-requires put-byte-requires same-length returns)

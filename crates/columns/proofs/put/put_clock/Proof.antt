@@ -32,20 +32,26 @@ cast-put-decimal c = search needs
 put-decimal-requires : tie.Need-put-decimal-requires
 put-decimal-requires c κs = search needs
 
+same-length : tie.Need-same-length
+same-length c = search needs
+
 returns : tie.Need-returns
 unfolding clock
 returns c =
-    let a = c .before .before .before .before .before .before in
+    let third = c .before .before in
+    let next = third .before .before .before .before in
+    let first = next .before .before .before .before in
+    let a = first .before .before .before in
     let hour = decimal 2 (a .args .second / 3600) in
     let minute = decimal 2 (a .args .second / 60 % 60) in
     let second = decimal 2 (a .args .second % 60) in
-    subst (λ (t : List ℕ). Put (a .args .line .now) (c .put-decimal .last .0) 13 t)
+    subst (λ (t : List ℕ). Put (a .args .line .now) (third .put-decimal .last .0) 13 t)
     (append-assoc hour minute (ended second)
     ∙ ap (λ (t : List ℕ). hour ++ t) (sym (append-assoc minute second (32 ∷ [])))
     ∙ sym (append-assoc hour (minute ++ second) (32 ∷ [])))
     (onto (a .pre) (omega arith) (ap (λ (n : ℕ). 13 + n) (length-append hour minute ∙ ap₂ _+_ (length-decimal 2 _) (length-decimal 2 _)))
-    (onto (a .pre) (omega arith) (ap (λ (n : ℕ). 13 + n) (length-decimal 2 _)) (c .before .before .before .before .put-digits .ensures) (c .before .before .put-digits2 .ensures))
-    (c .put-decimal .ensures))
+    (onto (a .pre) (omega arith) (ap (λ (n : ℕ). 13 + n) (length-decimal 2 _)) (first .put-digits .ensures) (next .put-digits2 .ensures))
+    (third .put-decimal .ensures))
 
 pub put-clock-spec : {M : Type 1} → statement M
 put-clock-spec =
@@ -57,4 +63,4 @@ put-clock-spec =
     put-digits-requires-2
     cast-put-decimal
     put-decimal-requires
-    returns)
+    same-length returns)

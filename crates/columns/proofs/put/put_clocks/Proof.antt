@@ -10,6 +10,7 @@ use Rattle.fields.specs.Text.{decimal, signed}
 use Rattle.fields.proofs.Laws.{length-decimal, length-signed}
 use Rattle.columns.specs.Text.{clockColumns, spaced}
 use Rattle.columns.proofs.Placing.{begin, column, end}
+use mathlib.Core.Path.{sym, _∙_}
 use borrow.Author.Needs.{needs}
 use Rattle.columns.proofs.put.put_clocks.Statement.{statement}
 use Rattle.columns.proofs.put.put_clocks.Tie as tie
@@ -40,15 +41,25 @@ numbers-fit : (c : tie.Start) → SFits w64 (c .args .numbers .refsv)
     × SFits w64 (c .args .numbers .dsg)
 numbers-fit c = (search needs, search needs, search needs, search needs, search needs)
 
+-- where the function begins
+abbrev begun : tie.After-slice-known6 → tie.Start
+begun c =
+    let p3 = c .before .before .before .before .before .before .before .before .before .before .before .before .before in
+    p3 .before .before .before .before .before .before .before .before .before .before .before .before .before .before
+
+same-length : tie.Need-same-length
+same-length c = c .before .before .put-decimal .ensures .long ∙ sym (begun c .pre)
+
 returns : tie.Need-returns
 unfolding clockColumns
 returns c =
-    let m = c .before in
-    let p4 = m .before .before .before in
-    let p3 = p4 .before .before .before in
-    let p2 = p3 .before .before .before in
-    let p1 = p2 .before .before .before in
-    let a = p1 .before .before .before in
+    let p5 = c .before .before in
+    let m = p5 .before in
+    let p4 = m .before .before .before .before .before in
+    let p3 = p4 .before .before .before .before .before in
+    let p2 = p3 .before .before .before .before .before in
+    let p1 = p2 .before .before .before .before .before in
+    let a = begun c in
     let n = a .args .numbers in
     let f = numbers-fit a in
     record {
@@ -63,8 +74,8 @@ returns c =
           (simp (toZ-ofZ (f .1)) at (p2 .put-signed2 .ensures)))
           (simp (toZ-ofZ (f .2)) at (p3 .put-signed3 .ensures)))
           (simp (toZ-ofZ (f .3)) at (p4 .put-signed4 .ensures)))
-          (simp (m .magnitude .ensures, toZ-ofZ (f .4)) at (c .put-decimal .ensures)));
-      long = c .put-decimal .ensures .long;
+          (simp (m .magnitude .ensures, toZ-ofZ (f .4)) at (p5 .put-decimal .ensures)));
+      long = p5 .put-decimal .ensures .long;
     }
 
 pub put-clocks-spec : {M : Type 1} → statement M
@@ -77,4 +88,4 @@ put-clocks-spec =
     put-signed-requires-4
     magnitude-requires
     put-decimal-requires
-    returns)
+    same-length returns)

@@ -19,12 +19,19 @@ put-byte-requires-3 c κs = search needs
 put-byte-requires-4 : tie.Need-put-byte-requires-4
 put-byte-requires-4 c κs = search needs
 
+same-length : tie.Need-same-length
+same-length c = search needs
+
 returns : tie.Need-returns
 returns c =
-    let a = c .before .before .before .before .before .before .before .before in
-    onto (a .pre) (omega arith) refl (c .before .before .before .before .before .before .put-byte .ensures)
-    (onto (c .before .before .before .before .before .before .put-byte .ensures .long) (omega arith) refl (c .before .before .before .before .put-byte2 .ensures)
-    (onto (c .before .before .before .before .put-byte2 .ensures .long) (omega arith) refl (c .before .before .put-byte3 .ensures) (c .put-byte4 .ensures)))
+    let p4 = c .before .before in
+    let p3 = p4 .before .before .before .before in
+    let p2 = p3 .before .before .before .before in
+    let p1 = p2 .before .before .before .before in
+    let a = p1 .before .before .before in
+    onto (a .pre) (omega arith) refl (p1 .put-byte .ensures)
+    (onto (p1 .put-byte .ensures .long) (omega arith) refl (p2 .put-byte2 .ensures)
+    (onto (p2 .put-byte2 .ensures .long) (omega arith) refl (p3 .put-byte3 .ensures) (p4 .put-byte4 .ensures)))
 
 pub put-code-spec : {M : Type 1} → statement M
 put-code-spec =
@@ -34,4 +41,4 @@ put-code-spec =
     put-byte-requires-2
     put-byte-requires-3
     put-byte-requires-4
-    returns)
+    same-length returns)

@@ -18,11 +18,16 @@ add-put-byte c = search needs
 put-byte-requires : tie.Need-put-byte-requires
 put-byte-requires c κs = search needs
 
+same-length : tie.Need-same-length
+same-length c = search needs
+
 returns : tie.Need-returns
 returns c =
-    let a = c .before .before .before .before in
+    let space = c .before .before in
+    let digits = space .before .before .before .before in
+    let a = digits .before .before .before in
     onto (a .pre .0) (omega arith) (ap (λ (n : ℕ). a .args .at + n) (length-decimal (a .args .width) (a .args .value)))
-    (c .before .before .put-digits .ensures) (c .put-byte .ensures)
+    (digits .put-digits .ensures) (space .put-byte .ensures)
 
 pub put-decimal-spec : {M : Type 1} → statement M
-put-decimal-spec = tie.close (tie.spec put-digits-requires add-put-byte put-byte-requires returns)
+put-decimal-spec = tie.close (tie.spec put-digits-requires add-put-byte put-byte-requires same-length returns)

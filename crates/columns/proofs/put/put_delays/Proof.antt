@@ -1,6 +1,6 @@
 -- `columns::put::put_delays` meets its contract: its columns, one behind the other.
 -- Assumes nothing.
-use mathlib.Core.Path.{refl}
+use mathlib.Core.Path.{refl, sym, _∙_}
 use mir.Syntax.{w64}
 use mir.Val.{SFits}
 use mir.Facts.{toZ-ofZ}
@@ -58,17 +58,28 @@ numbers-fit : (c : tie.Start) → SFits w64 (c .args .numbers .mdtr)
     × SFits w64 (c .args .numbers .smdi)
 numbers-fit c = (search needs, search needs, search needs, search needs)
 
+-- where the function begins
+abbrev begun : tie.After-slice-known9 → tie.Start
+begun c =
+    let smdi = c .before .before .before .before .before .before .before .before .before .before .before .before .before .before .before .before in
+    let smdt = smdi .before .before .before .before .before .before .before .before .before .before .before in
+    smdt .before .before .before .before .before .before .before .before .before .before .before .before .before .before .before
+
+same-length : tie.Need-same-length
+same-length c = c .before .before .put-code .ensures .long ∙ sym (begun c .pre)
+
 returns : tie.Need-returns
 unfolding delayColumns
 returns c =
-    let hc = c .before .before in
-    let fr = hc .before .before .before in
-    let smdi = fr .before .before .before in
-    let mdio = smdi .before .before .before in
-    let smdt = mdio .before .before .before .before in
-    let mdtr = smdt .before .before .before in
-    let ioe = mdtr .before .before .before .before in
-    let a = ioe .before .before .before in
+    let frc = c .before .before in
+    let hc = frc .before .before .before .before in
+    let fr = hc .before .before .before .before .before in
+    let smdi = fr .before .before .before .before .before in
+    let mdio = smdi .before .before .before .before .before in
+    let smdt = mdio .before .before .before .before .before .before in
+    let mdtr = smdt .before .before .before .before .before in
+    let ioe = mdtr .before .before .before .before .before .before in
+    let a = begun c in
     let f = numbers-fit a in
     record {
       is = end
@@ -88,8 +99,8 @@ returns c =
           (simp (toZ-ofZ (f .1), toZ-ofZ (f .3)) at (smdi .put-signed2 .ensures)))
           (fr .put-decimal4 .ensures))
           (hc .put-decimal5 .ensures))
-          (c .put-code .ensures));
-      long = c .put-code .ensures .long;
+          (frc .put-code .ensures));
+      long = frc .put-code .ensures .long;
     }
 
 pub put-delays-spec : {M : Type 1} → statement M
@@ -109,4 +120,4 @@ put-delays-spec =
     cast-put-decimal-3
     put-decimal-requires-5
     put-code-requires
-    returns)
+    same-length returns)

@@ -23,13 +23,18 @@ hex-digit-requires-2 c κs = search needs
 put-byte-requires-2 : tie.Need-put-byte-requires-2
 put-byte-requires-2 c κs = search needs
 
+same-length : tie.Need-same-length
+same-length c = search needs
+
 returns : tie.Need-returns
 unfolding hexadecimal
 returns c =
-    let a = c .before .before .before .before .before .before in
+    let low = c .before .before in
+    let high = low .before .before .before .before .before in
+    let a = high .before .before .before .before in
     onto (a .pre .0) (omega arith) refl
-    (simp (c .before .before .before .before .hex-digit .ensures) at (c .before .before .before .put-byte .ensures))
-    (simp (c .before .hex-digit2 .ensures) at (c .put-byte2 .ensures))
+    (simp (high .before .hex-digit .ensures) at (high .put-byte .ensures))
+    (simp (low .before .hex-digit2 .ensures) at (low .put-byte2 .ensures))
 
 pub put-hexadecimal-spec : {M : Type 1} → statement M
 put-hexadecimal-spec =
@@ -40,4 +45,4 @@ put-hexadecimal-spec =
     add-put-byte
     hex-digit-requires-2
     put-byte-requires-2
-    returns)
+    same-length returns)

@@ -13,10 +13,15 @@ put-byte-requires c κs = search needs
 put-decimal-requires : tie.Need-put-decimal-requires
 put-decimal-requires c κs = search needs
 
+same-length : tie.Need-same-length
+same-length c = search needs
+
 returns : tie.Need-returns
 returns c =
-    let a = c .before .before .before .before in
-    onto (a .pre) (omega arith) refl (c .before .before .put-byte .ensures) (c .put-decimal .ensures)
+    let number = c .before .before in
+    let letter = number .before .before .before .before in
+    let a = letter .before .before .before in
+    onto (a .pre) (omega arith) refl (letter .put-byte .ensures) (number .put-decimal .ensures)
 
 pub put-satellite-spec : {M : Type 1} → statement M
-put-satellite-spec = tie.close (tie.spec put-byte-requires put-decimal-requires returns)
+put-satellite-spec = tie.close (tie.spec put-byte-requires put-decimal-requires same-length returns)

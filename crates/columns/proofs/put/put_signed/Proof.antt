@@ -22,14 +22,19 @@ add-put-byte c = search needs
 put-byte-requires : tie.Need-put-byte-requires
 put-byte-requires c κs = search needs
 
+same-length : tie.Need-same-length
+same-length c = search needs
+
 returns : tie.Need-returns
 returns c =
-    let a = c .before .before .before .before in
-    let digits = c .before .before .signed-at .ensures ∙ ap (λ (z : ℤ). placed (a .args .line .now) (a .args .at) (signed (a .args .width) z)) (toZ-ofZ (a .fits .value)) in
+    let space = c .before .before in
+    let number = space .before .before .before .before in
+    let a = number .before .before .before in
+    let digits = number .signed-at .ensures ∙ ap (λ (z : ℤ). placed (a .args .line .now) (a .args .at) (signed (a .args .width) z)) (toZ-ofZ (a .fits .value)) in
     let width = length-signed (a .args .width) (a .args .value) in
     onto (a .pre .0) (omega arith) (ap (λ (n : ℕ). a .args .at + n) width)
     (put (a .args .line .now) (a .args .at) (signed (a .args .width) (a .args .value)) (a .pre .0) (omega (arith, width)) digits)
-    (c .put-byte .ensures)
+    (space .put-byte .ensures)
 
 pub put-signed-spec : {M : Type 1} → statement M
-put-signed-spec = tie.close (tie.spec signed-at-requires add-put-byte put-byte-requires returns)
+put-signed-spec = tie.close (tie.spec signed-at-requires add-put-byte put-byte-requires same-length returns)

@@ -1,6 +1,6 @@
 -- `columns::put::put_track` meets its contract: its columns, one behind the other.
 -- Assumes nothing.
-use mathlib.Core.Path.{ap}
+use mathlib.Core.Path.{ap, sym, _∙_}
 use Prim.Native.Nat.{suc}
 use mir.Facts.{toZ-ofZ}
 use native.Mathlib.Omega.{arith}
@@ -45,16 +45,27 @@ cast-put-decimal-3 c = search needs
 put-decimal-requires-4 : tie.Need-put-decimal-requires-4
 put-decimal-requires-4 c κs = search needs
 
+-- where the function begins
+abbrev begun : tie.After-slice-known8 → tie.Start
+begun c =
+    let trkl = c .before .before .before .before .before .before .before .before .before .before .before .before in
+    let mjd = trkl .before .before .before .before .before .before .before .before .before in
+    mjd .before .before .before .before .before .before .before .before .before .before .before .before
+
+same-length : tie.Need-same-length
+same-length c = c .before .before .put-decimal4 .ensures .long ∙ sym (begun c .pre)
+
 returns : tie.Need-returns
 unfolding trackColumns
 returns c =
-    let elv = c .before .before .before in
-    let trkl = elv .before .before .before in
-    let start = trkl .before .before .before in
-    let mjd = start .before .before in
-    let class = mjd .before .before .before in
-    let satellite = class .before .before in
-    let a = satellite .before .before in
+    let azth = c .before .before in
+    let elv = azth .before .before .before .before .before in
+    let trkl = elv .before .before .before .before .before in
+    let start = trkl .before .before .before .before .before in
+    let mjd = start .before .before .before .before in
+    let class = mjd .before .before .before .before .before in
+    let satellite = class .before .before .before .before in
+    let a = begun c in
     record {
       is = end
           (column (length-decimal 4 _)
@@ -71,8 +82,8 @@ returns c =
           (start .put-clock .ensures))
           (simp (trkl .before .magnitude .ensures, toZ-ofZ (a .fits .trkl)) at (trkl .put-decimal2 .ensures)))
           (elv .put-decimal3 .ensures))
-          (c .put-decimal4 .ensures));
-      long = c .put-decimal4 .ensures .long;
+          (azth .put-decimal4 .ensures));
+      long = azth .put-decimal4 .ensures .long;
     }
 
 pub put-track-spec : {M : Type 1} → statement M
@@ -90,4 +101,4 @@ put-track-spec =
     put-decimal-requires-3
     cast-put-decimal-3
     put-decimal-requires-4
-    returns)
+    same-length returns)

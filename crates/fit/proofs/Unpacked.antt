@@ -1,0 +1,225 @@
+-- Laws of numbers that are still packed in bytes (specs/Packed.antt): a block of measurements is the row of its own piece, and a group of corrections
+-- has the numbers of its row.
+-- Assumes nothing.
+use mathlib.Core.Path.{_≡_, refl, sym, ap, ap₂, _∙_, subst}
+use mathlib.Core.Bool.{Bool, true, false, not, _||_}
+use mathlib.Core.List.{List, []}
+use Prim.Native.Nat.{ℕ, zero, suc, _+_, _*_, _/_, _^_, _≤_, _<_}
+use native.Mathlib.Nat.{le-trans}
+use native.Mathlib.Omega.{arith}
+use lib.Dec.{eqb, lit≤}
+use lib.IntN.{ℤ, pos, natAbs, _*ℤ_}
+use lib.ListN.{length, take, drop, set, replicate}
+use Rattle.limits.specs.Blocks.{blocksFit}
+use Rattle.limits.specs.Lists.{anyBeyond}
+use Rattle.limits.specs.Refusal.{_when_, _then_}
+use Rattle.limits.proofs.Blocks.{blocks-within}
+use Rattle.limits.proofs.Laws.{then-zero, when-zero}
+use Rattle.limits.proofs.Lists.{counts, within-limit, limit-within}
+use Rattle.limits.proofs.Scans.{none-outside}
+use Rattle.series.specs.Fit.{valuesLimit}
+use Rattle.series.specs.Smooth.{smoothed}
+use Rattle.series.proofs.Weights.{smoothed-bound}
+use Rattle.decode.specs.Number.{signedAt, signedsAt}
+use Rattle.decode.proofs.Signeds.{length-signeds, signeds-at}
+use Rattle.decode.proofs.Pieces.{signed-piece, signeds-part}
+use Rattle.exact.specs.Accurate.{AccurateTrack}
+use Rattle.exact.specs.Corrected.{Given, at, steps, block, toA, toB}
+use Rattle.correcting.specs.declared.Corrected.{Corrected}
+use Rattle.correcting.specs.Correct.{blocks, smoothedAt, valueA, valueB, valueC, valueD, places, wrongSizes, outOfLimits}
+use Rattle.correcting.specs.Answer.{corrected, filled, wholeBlocks, blocksRule, othersBeyond}
+use Rattle.correcting.proofs.Arrays.{places-at, places-bound, filled-places}
+use Rattle.correcting.proofs.Refusals.{sized, limits-parts}
+use Rattle.fit.specs.declared.Found.{Found}
+use Rattle.fit.specs.Track.{recordOf, results, trackNumber}
+use Rattle.fit.specs.Found.{foundNumber, foundNumbers, found, judgedOf, foundIn}
+use Rattle.fit.specs.Packed.{grouped, packed, smoothedOf}
+use Rattle.fit.proofs.Accuracy.{results-accurate}
+use Rattle.fit.proofs.Tracks.{found-number, found-numbers}
+
+-- the measurements of n blocks
+module _ (m : List ℕ) (n : ℕ) (fits : 120 * n ≤ length m) where
+  abbrev pub unpacked : List ℤ
+  unpacked = signedsAt m 0 8 (15 * n)
+
+  pub unpacked-length : length unpacked ≡ 15 * n
+  unpacked-length = length-signeds m 0 8 (15 * n)
+
+  -- those of one block
+  pub unpacked-part : (j : ℕ) → j < n → signedsAt (take 120 (drop (120 * j) m)) 0 8 15 ≡ take 15 (drop (15 * j) unpacked)
+  unpacked-part j h =
+      let e : 120 * j ≡ 8 * (15 * j) = omega arith in
+      let room : 15 * j + 15 ≤ 15 * n = omega arith in
+      let all : 8 * (15 * n) ≤ length m = omega arith in
+      ap (λ (k : ℕ). signedsAt (take 120 (drop k m)) 0 8 15) e ∙ signeds-part m (15 * j) 15 (15 * n) room all
+
+-- a number of one group of n
+pub unpacked-group : (k : List ℕ) (n j from : ℕ) → 40 * n ≤ length k → j < n → from + 8 ≤ 40
+    → signedAt (take 40 (drop (40 * j) k)) from ≡ at (signedsAt k from 40 n) j
+unpacked-group k n j from fits h g =
+    let room : 40 * j + 40 ≤ length k = omega arith in
+    signed-piece k (40 * j) 40 room from g ∙ ap (signedAt k) (omega arith) ∙ sym (signeds-at k from 40 n j h)
+
+-- ---- what is found of packed numbers
+
+-- what the answer to the blocks of a list tells
+module _ (l : List ℤ) {x : Corrected} (e : x ≡ blocksRule l) where
+  refused-by : (b : Bool) (count : ℕ) → x ≡ corrected (2 when b) count → {number read : ℕ} → x ≡ Corrected.Refused number read → (number ≡ 2) × (b ≡ true)
+  unfolding corrected _when_
+  refused-by true count h {number} {read} f = let z : number ≡ 2 = cc in (z, refl)
+  refused-by false count h {number} {read} f = absurd (differ h f)
+    where
+      differ : x ≡ Corrected.Values count → x ≡ Corrected.Refused number read → ⊥
+      differ h f = let z : _≡_ {A = ℕ} 0 1 = cc in omega arith
+
+  pub blocks-refused : {number read : ℕ} → x ≡ Corrected.Refused number read → (number ≡ 2) × (anyBeyond (10 ^ 12) l ≡ true)
+  unfolding blocksRule
+  blocks-refused f = refused-by (anyBeyond (10 ^ 12) l) _ e f
+
+  values-by : (b : Bool) (count : ℕ) → x ≡ corrected (2 when b) count → {read : ℕ} → x ≡ Corrected.Values read → b ≡ false
+  unfolding corrected _when_
+  values-by true count h {read} f = absurd (differ h f)
+    where
+      differ : x ≡ Corrected.Refused 2 count → x ≡ Corrected.Values read → ⊥
+      differ h f = let z : _≡_ {A = ℕ} 0 1 = cc in omega arith
+  values-by false count h f = refl
+
+  pub blocks-values : {read : ℕ} → x ≡ Corrected.Values read → anyBeyond (10 ^ 12) l ≡ false
+  unfolding blocksRule
+  blocks-values f = values-by (anyBeyond (10 ^ 12) l) _ e f
+
+-- two rows that are filled alike
+filled-alike : (n : ℕ) (f f' : ℕ → ℤ) (row : List ℤ) → ((j : ℕ) → j < n → f j ≡ f' j) → filled n f row ≡ filled n f' row
+unfolding filled
+filled-alike zero f f' row h = refl
+filled-alike (suc n) f f' row h =
+    ap₂ (λ (k : List ℤ) (z : ℤ). set k n z) (filled-alike n f f' row (λ j k. h j (omega arith))) (h n (omega arith))
+
+-- where nothing is outside, every block is whole, and the row holds its smoothed values
+module _ (l : List ℤ) (n : ℕ) (all : length l ≡ 15 * n) (most : n ≤ 52) (inside : anyBeyond (10 ^ 12) l ≡ false) {y : List ℤ}
+    (e : y ≡ filled (wholeBlocks l) (smoothedOf l) (replicate 52 (pos 0))) where
+  whole-blocks : wholeBlocks l ≡ n
+  unfolding wholeBlocks
+  whole-blocks = ap (λ (m : ℕ). m / 15) (none-outside _ _ l inside ∙ all) ∙ whole n
+    where
+      whole : (n : ℕ) → 15 * n / 15 ≡ n
+      whole n = omega arith
+
+  smoothed-row : y ≡ places n (smoothedOf l)
+  smoothed-row = e ∙ ap (λ (m : ℕ). filled m (smoothedOf l) (replicate 52 (pos 0))) whole-blocks ∙ filled-places n (smoothedOf l) most
+
+  pub smoothed-at : (j : ℕ) → j < n → at y j ≡ smoothedOf l j
+  smoothed-at j h = ap (λ (k : List ℤ). at k j) smoothed-row ∙ places-at n (smoothedOf l) j h
+
+  smoothed-most : (j : ℕ) → natAbs (smoothedOf l j) ≤ valuesLimit
+  unfolding smoothedOf
+  smoothed-most j = le-trans (smoothed-bound (λ i. at l (15 * j + i)) (λ i. within-limit (10 ^ 12) l inside (15 * j + i))) (lit≤ tt)
+
+  pub smoothed-inside : anyBeyond valuesLimit y ≡ false
+  smoothed-inside =
+      limit-within valuesLimit y
+      (λ i. subst (λ (k : List ℤ). natAbs (at k i) ≤ valuesLimit) (sym smoothed-row) (places-bound (smoothedOf l) n valuesLimit smoothed-most i))
+
+-- an accepted answer is accurate
+pub found-accurate : (g : Given) (x : Found) → x ≡ foundIn g → foundNumber x ≡ 0 → AccurateTrack steps (blocks g) g (foundNumbers x)
+unfolding trackNumber
+found-accurate g x e z =
+    let t : trackNumber g ≡ 0 = sym (found-number g x e) ∙ z in
+    let s = sized g (when-zero 0 (wrongSizes g) (then-zero (1 when wrongSizes g) _ t .0)) .size-blocks in
+    subst (AccurateTrack steps (blocks g) g) (sym (found-numbers g x e z)) (results-accurate g (omega (arith, s .0)))
+
+-- the cases of a track's answer
+module _ (g : Given) where
+  pub sizes-found : wrongSizes g ≡ true → Found.Refused 1 ≡ foundIn g
+  unfolding foundIn found trackNumber _when_ _then_
+  sizes-found e = rw e
+
+  module _ (e : wrongSizes g ≡ false) where
+    pub limits-found : outOfLimits g ≡ true → Found.Refused 2 ≡ foundIn g
+    unfolding foundIn found trackNumber _when_ _then_
+    limits-found f = rw (e, f)
+
+    pub judged-found : outOfLimits g ≡ false → judgedOf (results g) ≡ foundIn g
+    unfolding foundIn judgedOf trackNumber _when_ _then_
+    judged-found f = rw (e, f)
+
+module _ (m k : List ℕ) (int cab refdly gd : ℤ) where
+  abbrev pub given-packed : Given
+  given-packed = packed m int cab refdly gd k
+
+  abbrev pub groups : ℕ
+  groups = length k / 40
+
+  pub packed-blocks : blocks given-packed ≡ groups
+  unfolding packed
+  packed-blocks = length-signeds k 0 40 groups
+
+  -- too few or too many blocks, or another number of measurements
+  pub unfit-sizes : not (blocksFit groups) ≡ true → wrongSizes given-packed ≡ true
+  unfolding wrongSizes packed
+  unfit-sizes e = simp (length-signeds k 0 40 groups, e)
+
+  pub miscounted-sizes : not (blocksFit groups) ≡ false → eqb (length m / 8) (15 * groups) ≡ false → wrongSizes given-packed ≡ true
+  unfolding wrongSizes packed
+  miscounted-sizes e f = simp (length-signeds k 0 40 groups, length-signeds m 0 8 (length m / 8), e, f)
+
+  module _ (fit : not (blocksFit groups) ≡ false) (count : length m / 8 ≡ 15 * groups) where
+    pub few-blocks : (4 ≤ groups) × (groups ≤ 52)
+    few-blocks = blocks-within groups fit
+
+    pub sizes-right : wrongSizes given-packed ≡ false
+    unfolding wrongSizes packed
+    sizes-right =
+        rw (
+          length-signeds k 0 40 groups,
+          fit,
+          counts (15 * groups) (signedsAt m 0 8 (length m / 8)) (length-signeds m 0 8 (length m / 8) ∙ count),
+          counts groups (signedsAt k 8 40 groups) (length-signeds k 8 40 groups),
+          counts groups (signedsAt k 16 40 groups) (length-signeds k 16 40 groups),
+          counts groups (signedsAt k 24 40 groups) (length-signeds k 24 40 groups),
+          counts groups (signedsAt k 32 40 groups) (length-signeds k 32 40 groups),
+        )
+
+    abbrev pub measured : List ℤ
+    measured = signedsAt m 0 8 (15 * groups)
+
+    measured-is : given-packed .measurements ≡ measured
+    unfolding packed
+    measured-is = ap (signedsAt m 0 8) count
+
+    pub measured-length : length measured ≡ 15 * groups
+    measured-length = length-signeds m 0 8 (15 * groups)
+
+    pub limits-are : outOfLimits given-packed ≡ anyBeyond (10 ^ 12) measured || othersBeyond (grouped groups [] int cab refdly gd k)
+    unfolding othersBeyond packed
+    limits-are = limits-parts given-packed ∙ ap (λ (l : List ℤ). anyBeyond (10 ^ 12) l || othersBeyond (grouped groups [] int cab refdly gd k)) measured-is
+
+    smoothed-is : (j : ℕ) → smoothedOf measured j ≡ smoothedAt given-packed j
+    unfolding smoothedAt smoothedOf block packed
+    smoothed-is j = ap (λ (l : List ℤ). smoothed (λ i. at l (15 * j + i))) (sym measured-is)
+
+    -- the rows of the corrected values are those of the record
+    module _ (y : List ℤ) (is : (j : ℕ) → j < groups → at y j ≡ smoothedOf measured j) where
+      pub a-row : filled groups (λ j. toA (grouped groups [] int cab refdly gd k) (pos steps) j (at y j)) (replicate 52 (pos 0)) ≡ places groups (valueA given-packed)
+      unfolding valueA toA packed
+      a-row = filled-alike groups _ (valueA given-packed) (replicate 52 (pos 0)) (λ j h. ap (toA (grouped groups [] int cab refdly gd k) (pos steps) j) (is j h ∙ smoothed-is j)) ∙ filled-places groups _ (few-blocks .1)
+
+      pub b-row : filled groups (λ j. toB (grouped groups [] int cab refdly gd k) (pos steps) j (at y j)) (replicate 52 (pos 0)) ≡ places groups (valueB given-packed)
+      unfolding valueB toA toB packed
+      b-row = filled-alike groups _ (valueB given-packed) (replicate 52 (pos 0)) (λ j h. ap (toB (grouped groups [] int cab refdly gd k) (pos steps) j) (is j h ∙ smoothed-is j)) ∙ filled-places groups _ (few-blocks .1)
+
+    pub c-row : filled groups (λ j. pos steps *ℤ at (signedsAt k 24 40 groups) j) (replicate 52 (pos 0)) ≡ places groups (valueC given-packed)
+    unfolding valueC packed
+    c-row = filled-places groups _ (few-blocks .1)
+
+    pub d-row : filled groups (λ j. pos steps *ℤ at (signedsAt k 16 40 groups) j) (replicate 52 (pos 0)) ≡ places groups (valueD given-packed)
+    unfolding valueD packed
+    d-row = filled-places groups _ (few-blocks .1)
+
+    -- and so their record is the track's
+    pub packed-results : {a b c d : List ℤ} → a ≡ places groups (valueA given-packed) → b ≡ places groups (valueB given-packed)
+        → c ≡ places groups (valueC given-packed) → d ≡ places groups (valueD given-packed) → recordOf groups a b c d ≡ results given-packed
+    unfolding results
+    packed-results A B C D =
+        (λ z. recordOf groups (A z) (B z) (C z) (D z))
+        ∙ ap (λ (n : ℕ). recordOf n (places n (valueA given-packed)) (places n (valueB given-packed)) (places n (valueC given-packed)) (places n (valueD given-packed))) (sym packed-blocks)
