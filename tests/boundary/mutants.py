@@ -8,12 +8,15 @@ For each mutant the plain Rust implementation is copied, made wrong in one way, 
 functions, and put in the place of the proved one. The boundary test must then fail. A twin is wrong in the same way in
 the implementation that the archive is compared with: there what the test itself knows of the answers must notice it. The
 third kind is wrong in the plain Rust that is written for speed, tests/fast, and nowhere else. Before each kind an archive is
-made without an edit, and must pass. Everything is built in a folder of its own. It takes about forty minutes and is no part
-of `make test`.
+made without an edit, and must pass. Everything is built in a folder of its own. The test is told which subject to compare
+first, so that a mutant is noticed soon: that of the file, or of the C function in EXPORTS, that the mutant changes. It is no
+part of `make test`.
 """
 import os
 import pathlib
+import re
 import shutil
+import signal
 import subprocess
 import sys
 import tempfile
@@ -230,6 +233,13 @@ PUT_ROOM = 'if lent.len() < text.len() {'
 PUT_TEXT = 'lent[..text.len()].copy_from_slice(&text);'
 GO_DOWN = '    put(lowered(line), lent)'
 GO_UP = '    put(raised(old, hc, frc), lent)'
+# the subjects of the boundary test, with the files without .rs and the C functions without trackline_ that each is about
+SUBJECTS = {
+    'blocks': 'block fit lib track', 'lines': 'line', 'starts': 'schedule start', 'readings': 'comment read reader',
+    'merges': 'files merge', 'views': 'view', 'stores': 'append delays', 'days': 'day text', 'paths': 'path',
+    'version01': 'down up version01',
+}
+FIRST = {part: subject for subject, parts in SUBJECTS.items() for part in parts.split()}
 # name, then file, text and what to write for it, as often as needed
 MUTANTS = [
     # what the paper calls plausible and wrong
@@ -1158,6 +1168,16 @@ def cargo(folder, package, target):
         raise SystemExit('mutants: no build\n' + result.stderr)
 
 
+def first_subject(edits, kind):
+    """What the test compares first: a twin in the fit of a track shows in shared offsets. Nothing for no edit."""
+    if not edits:
+        return ''
+    part = edits[0].removesuffix('.rs')
+    if part == 'EXPORTS':
+        part = re.findall(r'trackline_(\w+)', EXPORTS[:EXPORTS.index(edits[1])])[-1]
+    return 'offsets' if kind is TWINS and part in ('fit', 'track') else FIRST.get(part, '')
+
+
 def passes(folder, edits, kind):
     """Whether the boundary test passes with this mutant."""
     write_mutant(folder, edits, kind)
@@ -1168,7 +1188,11 @@ def passes(folder, edits, kind):
     # what is wrong in the shared library alone leaves the test as it was built
     if not in_library or not program.exists():
         cargo(folder, package, target)
-    return subprocess.run([str(program)], capture_output=True).returncode == 0
+    environment = dict(os.environ, FIRST_SUBJECT=first_subject(edits, kind))
+    ended = subprocess.run([str(program)], env=environment, capture_output=True).returncode
+    if -ended in (signal.SIGINT, signal.SIGTERM, signal.SIGKILL):
+        raise SystemExit('mutants: the test was ended from outside')
+    return ended == 0
 
 
 def applies():

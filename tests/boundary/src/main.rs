@@ -2,7 +2,10 @@
 //! pairs of line files, stores of delays, sets of blocks and lines of version 01, and tries that what is added to all
 //! measurements alike drops out.
 //!
-//!     boundary [SEED [SCALE]]
+//!     [FIRST_SUBJECT=NAME] boundary [SEED [SCALE]]
+//!
+//! All subjects are compared, in the order of SUBJECTS; the one that FIRST_SUBJECT names comes before the others. Each has
+//! a seed of its own, so that the order changes no case.
 //!
 //! Prints how many cases each answer, each pair of faults and each lent line or row of values had. Fails where the two
 //! differ in an answer or in a byte, and where a refusal or a pair of faults that can be reached was not.
@@ -42,31 +45,45 @@ use std::process::ExitCode;
 const LINES: [Lent; 6] = [Lent::Null, Lent::Of(0), Lent::Of(112), Lent::Of(113), Lent::Of(114), Lent::Of(4096)];
 const ROWS: [Lent; 5] = [Lent::Null, Lent::Of(0), Lent::Of(22), Lent::Of(23), Lent::Of(24)];
 
+/// What is compared, in the usual order: what takes longest comes last.
+const SUBJECTS: [&str; 12] = [
+    "stores",
+    "version01",
+    "days",
+    "lines",
+    "blocks",
+    "readings",
+    "merges",
+    "views",
+    "paths",
+    "offsets",
+    "starts",
+    "dates",
+];
+
+/// What the subjects with reports of their own have met.
+#[derive(Default)]
+struct Met {
+    stored: stores::Met,
+    days: days::Met,
+    merged: file_faults::Pairs,
+    viewed: file_faults::Pairs,
+    shifted: offsets::Tried,
+}
+
 fn main() -> ExitCode {
     let arguments: Vec<u64> = std::env::args().skip(1).map(|a| a.parse().expect("a number")).collect();
     let seed = arguments.first().copied().unwrap_or(1);
     let scale = arguments.get(1).copied().unwrap_or(1) as usize;
-    let mut compare = Compare::new(seed);
-    let stored = stores::run(&mut compare, &mut Seeded::new(seed + 9), scale);
-    version01::run(&mut compare, &mut Seeded::new(seed + 12), scale);
-    let days = days::run(&mut compare, &mut Seeded::new(seed + 10), scale);
-    lines::run(&mut compare, &mut Seeded::new(seed + 1), scale);
-    blocks::run(&mut compare, &mut Seeded::new(seed + 2), scale);
-    readings::run(&mut compare, &mut Seeded::new(seed + 4), scale);
-    let merged = merges::run(&mut compare, &mut Seeded::new(seed + 6), scale);
-    let viewed = views::run(&mut compare, &mut Seeded::new(seed + 7), scale);
-    paths::run(&mut compare, &mut Seeded::new(seed + 11), scale);
-    let shifted = offsets::run(&mut compare, &mut Seeded::new(seed + 8), scale);
-    // what takes longest comes last
-    starts::run(&mut compare, &mut Seeded::new(seed + 3), scale);
-    readings::dates(&mut compare, &mut Seeded::new(seed + 5));
+    let (mut compare, mut met) = (Compare::new(seed), Met::default());
+    in_order().iter().for_each(|subject| run(subject, &mut compare, &mut met, seed, scale));
     let mut missing = report(&compare);
-    missing.extend(merges::report(&compare, &merged));
-    missing.extend(views::report(&compare, &viewed));
+    missing.extend(merges::report(&compare, &met.merged));
+    missing.extend(views::report(&compare, &met.viewed));
     missing.extend(paths::report(&compare));
-    missing.extend(offsets::report(&shifted));
-    missing.extend(stores::report(&compare, &stored));
-    missing.extend(days::report(&compare, &days));
+    missing.extend(offsets::report(&met.shifted));
+    missing.extend(stores::report(&compare, &met.stored));
+    missing.extend(days::report(&compare, &met.days));
     missing.extend(version01::report(&compare));
     missing.iter().for_each(|what| eprintln!("MISSING: {what}"));
     if compare.agreed() && missing.is_empty() {
@@ -75,6 +92,34 @@ fn main() -> ExitCode {
     }
     println!("boundary: FAILED");
     ExitCode::FAILURE
+}
+
+/// All subjects, that of FIRST_SUBJECT before the others; the usual order where it names none.
+fn in_order() -> [&'static str; 12] {
+    let first = std::env::var("FIRST_SUBJECT").unwrap_or_default();
+    let mut subjects = SUBJECTS;
+    subjects.sort_by_key(|subject| *subject != first);
+    subjects
+}
+
+/// Compares one subject, with its own seed.
+fn run(subject: &str, compare: &mut Compare, met: &mut Met, seed: u64, scale: usize) {
+    let seeded = |own: u64| Seeded::new(seed + own);
+    match subject {
+        "lines" => lines::run(compare, &mut seeded(1), scale),
+        "blocks" => blocks::run(compare, &mut seeded(2), scale),
+        "starts" => starts::run(compare, &mut seeded(3), scale),
+        "readings" => readings::run(compare, &mut seeded(4), scale),
+        "dates" => readings::dates(compare, &mut seeded(5)),
+        "merges" => met.merged = merges::run(compare, &mut seeded(6), scale),
+        "views" => met.viewed = views::run(compare, &mut seeded(7), scale),
+        "offsets" => met.shifted = offsets::run(compare, &mut seeded(8), scale),
+        "stores" => met.stored = stores::run(compare, &mut seeded(9), scale),
+        "days" => met.days = days::run(compare, &mut seeded(10), scale),
+        "paths" => paths::run(compare, &mut seeded(11), scale),
+        "version01" => version01::run(compare, &mut seeded(12), scale),
+        _ => unreachable!("no subject of SUBJECTS: {subject}"),
+    }
 }
 
 /// Prints the counts; gives what should have been seen and was not, or should not and was.

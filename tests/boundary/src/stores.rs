@@ -16,13 +16,14 @@ const ROWS: [Lent; 5] = [Lent::Null, Lent::Of(0), Lent::Of(3), Lent::Of(4), Lent
 const FOUR: Lent = Lent::Of(SET_VALUES);
 
 /// Each two faults of lookups and of appends.
+#[derive(Default)]
 pub struct Met {
     lookups: Pairs<Fault>,
     appends: Pairs<Fault>,
 }
 
 pub fn run(compare: &mut Compare, seeded: &mut Seeded, scale: usize) -> Met {
-    let mut met = Met { lookups: Pairs::new(), appends: Pairs::new() };
+    let mut met = Met::default();
     for _ in 0..20 * scale {
         faults(compare, seeded, &mut met);
     }
