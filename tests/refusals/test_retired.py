@@ -55,7 +55,6 @@ EXCEPTIONS = {
     'docs/TRUST.md': ('steps in a ps; 10 are taken',),
     'man/cggtts.1': ('700 written, 10 equal to a written one', '($4/10)'),
     'cggtts/picture.c': ('The smallest of 1, 2, 5, 10 .. units',),
-    'crates/trackline/specs/Printed.antt': ('line feed (10)',),
     'crates/whole/specs/Linear/Examples.antt': ('a + b = 10',),
 }
 # of other texts, how one speaks of 10: behind such a word, or as what it is or does

@@ -10,10 +10,10 @@ use Rattle.whole.specs.Sum.{sum}
 use Rattle.whole.specs.Nearest.{nearest}
 use Rattle.whole.specs.Table.{tabulate}
 use Rattle.limits.specs.Refusal.{_when_, _then_}
-use Rattle.limits.specs.Limits.{outside, dsgRule}
+use Rattle.limits.specs.Limits.{outside, dsgNumber}
 use Rattle.exact.specs.Weights.{weights, place}
 use Rattle.limits.specs.Blocks.{blocksFit}
-use Rattle.limits.specs.Lists.{anyOutside, rangeRule}
+use Rattle.limits.specs.Lists.{anyOutside, rangeNumber}
 use Rattle.series.specs.Smooth.{smoothed, smoothRule}
 use Rattle.series.specs.Fit.{total, moment, midpoint, slope, fitRule}
 use Rattle.series.specs.Scatter.{residual, squares, threshold, climb, dsg, scatterRule}
@@ -55,5 +55,5 @@ cases =
     ∷ []
 
 pub worked : map (λ (c : Case × List ℤ). run (c .0)) cases ≡ map (λ (c : Case × List ℤ). c .1) cases
-unfolding cases blocksFit sum nearest _when_ _then_ outside dsgRule anyOutside rangeRule tabulate weights smoothed smoothRule place total moment midpoint slope fitRule residual squares threshold climb dsg scatterRule
+unfolding cases blocksFit sum nearest _when_ _then_ outside dsgNumber anyOutside rangeNumber tabulate weights smoothed smoothRule place total moment midpoint slope fitRule residual squares threshold climb dsg scatterRule
 worked = refl

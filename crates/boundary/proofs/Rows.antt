@@ -7,31 +7,29 @@ use native.Mathlib.Omega.{arith}
 use lib.Dec.{ltb}
 use lib.IntN.{ℤ}
 use lib.ListN.{length}
-use borrow.Author.Tests.{ne-eqb}
-use Rattle.limits.specs.Refusal.{_when_, _then_}
-use Rattle.limits.proofs.Laws.{then-refused, then-passed}
-use Rattle.boundary.specs.Values.{rowAfter, placeAfter, placeRefused}
+use Rattle.limits.specs.Refusal.{_when_, _then_, after}
+use Rattle.limits.proofs.Laws.{then-refused, then-passed, after-refused}
+use Rattle.boundary.specs.Values.{rowAfter, refusedAfter}
 
 -- a refusal leaves the row as it was lent
 pub row-kept : (answer : ℕ) (values lent : List ℤ) → 0 < answer → rowAfter answer values lent ≡ lent
 unfolding rowAfter
-row-kept answer values lent h = simp (ne-eqb answer 0 some)
+row-kept answer values lent h = after-refused _ lent some
   where
     some : answer ≡ 0 → ⊥
     some e = omega arith
 
 -- and a single place too
-pub place-kept : {A : Type 0} (answer : ℕ) (value lent : A) → 0 < answer → lent ≡ placeAfter answer value lent
-unfolding placeAfter
-place-kept answer value lent h = simp (ne-eqb answer 0 some)
+pub place-kept : {A : Type 0} (answer : ℕ) (value lent : A) → 0 < answer → lent ≡ after answer value lent
+place-kept answer value lent h = sym (after-refused value lent some)
   where
     some : answer ≡ 0 → ⊥
     some e = omega arith
 
 -- what a refusal names is put
-pub place-named : (answer lent : ℕ) {value named : ℕ} → named ≡ value → 0 < answer → named ≡ placeRefused answer value lent
-unfolding placeRefused
-place-named answer lent e h = e ∙ sym (simp (ne-eqb answer 0 some))
+pub place-named : (answer lent : ℕ) {value named : ℕ} → named ≡ value → 0 < answer → named ≡ refusedAfter answer value lent
+unfolding refusedAfter
+place-named answer lent e h = e ∙ sym (after-refused lent _ some)
   where
     some : answer ≡ 0 → ⊥
     some e = omega arith

@@ -1,12 +1,11 @@
 -- The places that a C caller lends for numbers, and what stands in them afterwards (include/trackline.h).
 -- Assumes nothing.
 use Prim.Native.Nat.{ℕ}
-use mathlib.Core.Bool.{cond}
 use mathlib.Core.List.{List, [], _∷_, _++_}
-use lib.Dec.{ltb, eqb}
+use lib.Dec.{ltb}
 use lib.IntN.{ℤ, pos}
 use lib.ListN.{length, drop}
-use Rattle.limits.specs.Refusal.{_when_, _then_}
+use Rattle.limits.specs.Refusal.{_when_, _then_, after}
 use Rattle.labels.specs.declared.Labels.{Labels}
 use Rattle.limits.specs.declared.Numbers.{Numbers}
 use Rattle.columns.specs.Columns.{readLabels, readNumbers}
@@ -17,15 +16,11 @@ use Rattle.delays.specs.Lookup.{setInForce, lookupNumber}
 
 -- A lent row afterwards: the values in its first places where the answer is 0, and else as it was lent.
 unfoldable pub rowAfter : (answer : ℕ) (values lent : List ℤ) → List ℤ
-rowAfter answer values lent = cond (eqb answer 0) (values ++ drop (length values) lent) lent
-
--- A lent place afterwards: the value where the answer is 0, and else what it held.
-unfoldable pub placeAfter : {A : Type 0} (answer : ℕ) (value lent : A) → A
-placeAfter answer value lent = cond (eqb answer 0) value lent
+rowAfter answer values lent = after answer (values ++ drop (length values) lent) lent
 
 -- A lent place for what a refusal names, afterwards: the value where the answer is a refusal, and else what it held.
-unfoldable pub placeRefused : (answer value lent : ℕ) → ℕ
-placeRefused answer value lent = cond (eqb answer 0) lent value
+unfoldable pub refusedAfter : (answer value lent : ℕ) → ℕ
+refusedAfter answer value lent = after answer lent value
 
 -- The 23 values of a line: its labels, in the order of the hire block, and its ten numbers.
 abbrev pub valuesOf : Labels → Numbers → List ℤ

@@ -5,7 +5,8 @@
 ghost use mathlib.Core.Path.{_≡_};
 ghost use Prim.Native.Nat.{suc};
 ghost use lib.ListN.{length};
-ghost use Rattle.schedule.specs.Schedule.{startRule};
+ghost use Rattle.limits.specs.Refusal.{after};
+ghost use Rattle.schedule.specs.Schedule.{startNumber};
 ghost use Rattle.exact.specs.Accurate.{AccurateTrack};
 ghost use Rattle.exact.specs.Corrected.{steps};
 ghost use Rattle.columns.specs.Columns.{readNumbers};
@@ -19,7 +20,7 @@ ghost use Rattle.delays.specs.Store.{version, count, storeLength};
 ghost use Rattle.delays.specs.Append.{appendNumber, appendAfter};
 ghost use Rattle.day.specs.Day.{dayFile, dayNumber, dayBlock, dayAfter, LinesOfDay, AccurateDay};
 ghost use Rattle.version01.specs.Convert.{downAnswer, downAfter, upAnswer, upAfter};
-ghost use Rattle.boundary.specs.Values.{placeAfter, placeRefused, readAnswer, readAfter, viewAnswer, viewAfter, delaysAnswer, delaysAfter};
+ghost use Rattle.boundary.specs.Values.{refusedAfter, readAnswer, readAfter, viewAnswer, viewAfter, delaysAnswer, delaysAfter};
 ghost use Rattle.path.specs.Path.{pathNumber, lengthOf};
 use day::Written;
 use delays::Appended;
@@ -36,7 +37,7 @@ mod values;
 
 #[no_mangle]
 pub extern "C" fn trackline_start(mjd: u32, second: u32) -> u32
-    ensures { λ r. ⌜ r ≡ startRule mjd second ⌝ }
+    ensures { λ r. ⌜ r ≡ startNumber mjd second ⌝ }
 {
     schedule::start(mjd, second)
 }
@@ -153,7 +154,7 @@ pub extern "C" fn trackline_merge(
     ensures answer { λ r. ⌜ r ≡ mergeNumber (now (first .entry)) (now (second .entry)) (length (now (file .entry))) ⌝ }
     ensures file { λ _. ⌜ now (file .exit) ≡ mergeAfter (now (first .entry)) (now (second .entry)) (now (file .entry)) ⌝ }
     ensures written { λ r. ⌜
-        now (written .exit) ≡ placeAfter r (length (mergedFile (now (first .entry)) (now (second .entry)))) (now (written .entry)) ⌝ }
+        now (written .exit) ≡ after r (length (mergedFile (now (first .entry)) (now (second .entry)))) (now (written .entry)) ⌝ }
 {
     let merged = files::merge(first, second, file);
     let Merged::Bytes(bytes) = merged else {
@@ -173,8 +174,8 @@ pub extern "C" fn trackline_day(
 ) -> u32
     ensures answer { λ r. ⌜ r ≡ dayNumber (now (blocks .entry)) (length (now (file .entry))) ⌝ }
     ensures file { λ _. ⌜ now (file .exit) ≡ dayAfter (now (blocks .entry)) (now (file .entry)) ⌝ }
-    ensures written { λ r. ⌜ now (written .exit) ≡ placeAfter r (length (dayFile (now (blocks .entry)))) (now (written .entry)) ⌝ }
-    ensures block { λ r. ⌜ now (block .exit) ≡ placeRefused r (dayBlock (now (blocks .entry))) (now (block .entry)) ⌝ }
+    ensures written { λ r. ⌜ now (written .exit) ≡ after r (length (dayFile (now (blocks .entry)))) (now (written .entry)) ⌝ }
+    ensures block { λ r. ⌜ now (block .exit) ≡ refusedAfter r (dayBlock (now (blocks .entry))) (now (block .entry)) ⌝ }
     ensures lines { λ r. ⌜ (r ≡ 0 → LinesOfDay (now (blocks .entry)) (now (file .exit))) ⌝ }
     ensures accurate { λ r. ⌜ (r ≡ 0 → AccurateDay (now (blocks .entry)) (now (file .exit))) ⌝ }
 {
@@ -242,7 +243,7 @@ pub extern "C" fn trackline_append(
     ensures answer { λ r. ⌜ r ≡ appendNumber (now (store .entry)) mjd intdly cabdly refdly gd (length (now (longer .entry))) ⌝ }
     ensures longer { λ _. ⌜ now (longer .exit) ≡ appendAfter (now (store .entry)) mjd intdly cabdly refdly gd (now (longer .entry)) ⌝ }
     ensures written { λ r. ⌜
-        now (written .exit) ≡ placeAfter r (storeLength (version (now (store .entry))) (suc (count (now (store .entry))))) (now (written .entry)) ⌝ }
+        now (written .exit) ≡ after r (storeLength (version (now (store .entry))) (suc (count (now (store .entry))))) (now (written .entry)) ⌝ }
 {
     let appended = delays::append(store, mjd, intdly, cabdly, refdly, gd, longer);
     let Appended::Bytes(length) = appended else {
@@ -266,7 +267,7 @@ pub extern "C" fn trackline_path(
     ensures answer { λ r. ⌜ r ≡ pathNumber (record { x = xs; y = ys; z = zs }) (record { x = xa; y = ya; z = za }) ⌝ }
     ensures written { λ r. ⌜
         now (length .exit)
-        ≡ placeAfter r (lengthOf (record { x = xs; y = ys; z = zs }) (record { x = xa; y = ya; z = za })) (now (length .entry)) ⌝ }
+        ≡ after r (lengthOf (record { x = xs; y = ys; z = zs }) (record { x = xa; y = ya; z = za })) (now (length .entry)) ⌝ }
 {
     let satellite = Point {
         x: xs,

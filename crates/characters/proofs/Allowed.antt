@@ -3,6 +3,7 @@
 use mathlib.Core.Path.{_≡_, refl, sym, ap, ap₂, _∙_}
 use mathlib.Core.Bool.{Bool, true, false, _&&_, _||_, false≢true, and-assoc, and-true, or-false}
 use mathlib.Core.List.{List, [], _∷_, _++_}
+use mathlib.Core.Logic.{inl, inr}
 use Prim.Native.Nat.{ℕ, zero, suc, _+_, _≤_, _<_, suc-le-suc}
 use native.Mathlib.Nat.{not-suc-le-zero, le-of-suc-le-suc}
 use native.Mathlib.Numerals.{add-one}
@@ -11,7 +12,9 @@ use lib.Dec.{leb, eqb}
 use lib.ListN.{length, take, drop, getD, drop-of-length-le}
 use lib.Seq.{drop-cons}
 use borrow.Author.Tests.{leb-true}
-use Rattle.limits.proofs.Laws.{both}
+use Rattle.limits.proofs.Laws.{both, either}
+use Rattle.fields.proofs.Decimals.{Digit}
+use Rattle.fields.proofs.Hexadecimals.{HexDigit}
 use Rattle.labels.specs.Labels.{codeFits}
 use Rattle.characters.specs.Kinds.{within, letterFits, allows, allowed, printable}
 
@@ -46,8 +49,12 @@ pub within-true : (low high b : ℕ) → within low high b ≡ true → (low ≤
 within-true low high b e =
     let p = both (leb low b) (leb b high) e in (leb-true low b (p .0), leb-true b high (p .1))
 
-pub digit-range : (b : ℕ) → allows 57 b ≡ true → (48 ≤ b) × (b ≤ 57)
+pub digit-range : (b : ℕ) → allows 57 b ≡ true → Digit b
 digit-range b e = within-true 48 57 b (sym (digit-is b) ∙ e)
+
+pub hex-range : (b : ℕ) → allows 70 b ≡ true → HexDigit b
+hex-range b e =
+    either (within 48 57 b) (within 65 70 b) (sym (hexadecimal-is b) ∙ e) (λ t. inl (within-true 48 57 b t)) (λ t. inr (within-true 65 70 b t))
 
 -- ---- parts of a line
 

@@ -1,3 +1,4 @@
 pub mod Allowed
 pub mod Spelled
 pub mod Check
+pub mod Picture

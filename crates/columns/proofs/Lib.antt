@@ -2,3 +2,4 @@ pub mod Placing
 pub mod Widths
 pub mod Whole
 pub mod Spaces
+pub mod ReadBack

@@ -7,7 +7,7 @@ use native.Mathlib.Omega.{arith}
 use lib.ListN.{length, length-append}
 use Rattle.lent.specs.Placed.{placed}
 use Rattle.lent.proofs.Placing.{placed-none, placed-onto, length-placed}
-use Rattle.columns.specs.Placed.{ended, Put}
+use Rattle.columns.specs.Placed.{withSpace, Put}
 use Rattle.columns.specs.Text.{lineLength, spaced}
 
 -- a text placed within a line
@@ -36,15 +36,15 @@ begin columns d₀ start l h = record { room = rw l h; text = []; is = placed-no
 
 -- a column of a known width, and its space
 pub column : {columns : List (List ℕ)} {d₀ d d₁ : List ℕ} {start at width : ℕ} {c : List ℕ} {cs : List (List ℕ)} → length c ≡ width
-    → Sofar columns d₀ start d at (c ∷ cs) → Put d d₁ at (ended c) → Sofar columns d₀ start d₁ (at + suc width) cs
+    → Sofar columns d₀ start d at (c ∷ cs) → Put d d₁ at (withSpace c) → Sofar columns d₀ start d₁ (at + suc width) cs
 unfolding spaced
 column {columns} {d₀} {d} {d₁} {start} {at} {width} {c} {cs} w f p =
     record {
       room = f .room;
-      text = f .text ++ ended c;
-      is = p .is ∙ ap₂ (λ (x : List ℕ) (n : ℕ). placed x n (ended c)) (f .is) (f .long) ∙ placed-onto d₀ start (f .text) (ended c) (f .room);
-      long = longer (length (f .text)) (length c) (length (ended c)) (length (f .text ++ ended c)) (f .long) w (length-append c (32 ∷ [])) (length-append (f .text) (ended c));
-      whole = append-assoc (f .text) (ended c) (spaced cs) ∙ ap (λ (x : List ℕ). f .text ++ x) (append-assoc c (32 ∷ []) (spaced cs)) ∙ f .whole;
+      text = f .text ++ withSpace c;
+      is = p .is ∙ ap₂ (λ (x : List ℕ) (n : ℕ). placed x n (withSpace c)) (f .is) (f .long) ∙ placed-onto d₀ start (f .text) (withSpace c) (f .room);
+      long = longer (length (f .text)) (length c) (length (withSpace c)) (length (f .text ++ withSpace c)) (f .long) w (length-append c (32 ∷ [])) (length-append (f .text) (withSpace c));
+      whole = append-assoc (f .text) (withSpace c) (spaced cs) ∙ ap (λ (x : List ℕ). f .text ++ x) (append-assoc c (32 ∷ []) (spaced cs)) ∙ f .whole;
     }
   where
     longer : (t n e te : ℕ) → at ≡ start + t → n ≡ width → e ≡ n + 1 → te ≡ t + e → at + suc width ≡ start + te

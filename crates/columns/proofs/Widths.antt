@@ -11,11 +11,11 @@ use Rattle.fields.specs.Text.{decimal, hexadecimal, checksum}
 use Rattle.fields.proofs.Laws.{length-decimal, length-signed, length-hexadecimal}
 use Rattle.labels.specs.declared.Labels.{Labels}
 use Rattle.limits.specs.declared.Numbers.{Numbers}
-use Rattle.columns.specs.Text.{lineLength, clock, trackColumns, clockColumns, delayColumns, columns, spaced, lineText}
+use Rattle.columns.specs.Text.{lineLength, timeOfDay, trackColumns, clockColumns, delayColumns, columns, spaced, lineText}
 
-pub length-clock : (second : ℕ) → length (clock second) ≡ 6
-unfolding clock
-length-clock second =
+pub length-time : (second : ℕ) → length (timeOfDay second) ≡ 6
+unfolding timeOfDay
+length-time second =
     length-append (decimal 2 (second / 3600)) (decimal 2 (second / 60 % 60) ++ decimal 2 (second % 60))
     ∙ ap₂ _+_ (length-decimal 2 _) (length-append (decimal 2 (second / 60 % 60)) (decimal 2 (second % 60)) ∙ ap₂ _+_ (length-decimal 2 _) (length-decimal 2 _))
 
@@ -45,7 +45,7 @@ track-sized l trkl =
     one (ap suc (length-decimal 2 _))
     (one (length-hexadecimal _)
     (one (length-decimal 5 _)
-    (one (length-clock _)
+    (one (length-time _)
     (one (length-decimal 4 _)
     (one (length-decimal 3 _)
     (one (length-decimal 4 _) none))))))

@@ -15,7 +15,7 @@ byteIn column line = getD line (column - 1) 0
 unfoldable pub field : (first last : ℕ) → List ℕ → List ℕ
 field first last line = take (last + 1 - first) (drop (first - 1) line)
 
--- The columns of the single spaces.
+-- The columns of the single spaces. Law `spaces-pictured` of crate characters: they are those that `kinds` has.
 unfoldable pub spaceColumns : List ℕ
 spaceColumns = 4 ∷ 7 ∷ 13 ∷ 20 ∷ 25 ∷ 29 ∷ 34 ∷ 46 ∷ 53 ∷ 65 ∷ 72 ∷ 77 ∷ 81 ∷ 86 ∷ 91 ∷ 96 ∷ 101 ∷ 104 ∷ 107 ∷ 111 ∷ []
 

@@ -9,8 +9,8 @@ use Rattle.lent.specs.Placed.{placed}
 use Rattle.columns.specs.Text.{lineLength}
 
 -- A column and the space that ends it.
-abbrev pub ended : List ℕ → List ℕ
-ended c = c ++ code " " ∷ []
+abbrev pub withSpace : List ℕ → List ℕ
+withSpace c = c ++ code " " ∷ []
 
 -- What a writer of a line leaves: s placed, and a line's length as before.
 pub record Put (d after : List ℕ) (at : ℕ) (s : List ℕ) : Type 0 where

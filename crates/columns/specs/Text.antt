@@ -13,9 +13,13 @@ use Rattle.limits.specs.declared.Numbers.{Numbers}
 abbrev pub lineLength : ℕ
 lineLength = 113
 
+-- What ends a line in a file and in print: carriage return and line feed.
+abbrev pub lineEnd : List ℕ
+lineEnd = 13 ∷ 10 ∷ []
+
 -- A second of the day as hhmmss.
-unfoldable pub clock : ℕ → List ℕ
-clock second = decimal 2 (second / 3600) ++ (decimal 2 (second / 60 % 60) ++ decimal 2 (second % 60))
+unfoldable pub timeOfDay : ℕ → List ℕ
+timeOfDay second = decimal 2 (second / 3600) ++ (decimal 2 (second / 60 % 60) ++ decimal 2 (second % 60))
 
 -- Columns 1 to 33: the constellation and the satellite, the class, the date, the start, the track length, and the satellite's direction.
 unfoldable pub trackColumns : Labels → (trkl : ℤ) → List (List ℕ)
@@ -23,7 +27,7 @@ trackColumns l trkl =
     (l .constellation ∷ decimal 2 (l .satellite))  -- 1, 2-3
     ∷ hexadecimal (l .cl)  -- 5-6 CL
     ∷ decimal 5 (l .mjd)  -- 8-12 MJD
-    ∷ clock (l .start)  -- 14-19 start
+    ∷ timeOfDay (l .start)  -- 14-19 start
     ∷ decimal 4 (natAbs trkl)  -- 21-24 TRKL
     ∷ decimal 3 (l .elv)  -- 26-28 ELV
     ∷ decimal 4 (l .azth)  -- 30-33 AZTH

@@ -8,12 +8,15 @@ use labels::Numbers;
 
 mod put;
 
+// A line's length in bytes.
+pub const LINE_LENGTH: usize = 113;
+
 // Puts the line into the first 113 of the lent bytes, where there are as many. The columns are written where they stay: made apart and then
 // copied, a line takes longer by a sixth.
 pub fn write(labels: Labels, numbers: Numbers, lent: &mut [u8])
     ensures { λ _. ⌜ now (lent .exit) ≡ placedWithin (now (lent .entry)) 0 (lineText labels numbers) ⌝ }
 {
-    if 113 <= lent.len() {
-        put::put_line(&mut lent[..113], labels, numbers);
+    if LINE_LENGTH <= lent.len() {
+        put::put_line(&mut lent[..LINE_LENGTH], labels, numbers);
     }
 }

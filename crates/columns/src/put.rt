@@ -6,8 +6,8 @@ ghost use Prim.Native.Nat.{_+_, _≤_, _<_};
 ghost use lib.ListN.{length};
 ghost use Rattle.fields.specs.Text.{decimal, signed, hexadecimal};
 ghost use Rattle.lent.specs.Placed.{placed};
-ghost use Rattle.columns.specs.Placed.{ended, Put};
-ghost use Rattle.columns.specs.Text.{lineLength, clock, trackColumns, clockColumns, delayColumns, spaced, lineText};
+ghost use Rattle.columns.specs.Placed.{withSpace, Put};
+ghost use Rattle.columns.specs.Text.{lineLength, timeOfDay, trackColumns, clockColumns, delayColumns, spaced, lineText};
 use labels::Labels;
 use labels::Numbers;
 use whole::magnitude;
@@ -43,7 +43,7 @@ fn put_digits(line: &mut [u8], at: usize, width: usize, value: u64)
 
 fn put_decimal(line: &mut [u8], at: usize, width: usize, value: u64)
     requires { ⌜ (length (now line) ≡ lineLength) × (at + width < lineLength) ⌝ }
-    ensures { λ _. ⌜ Put (now (line .entry)) (now (line .exit)) at (ended (decimal width value)) ⌝ }
+    ensures { λ _. ⌜ Put (now (line .entry)) (now (line .exit)) at (withSpace (decimal width value)) ⌝ }
 {
     put_digits(line, at, width, value);
     put_byte(line, at + width, b' ');
@@ -51,7 +51,7 @@ fn put_decimal(line: &mut [u8], at: usize, width: usize, value: u64)
 
 fn put_signed(line: &mut [u8], at: usize, width: usize, value: i64)
     requires { ⌜ (length (now line) ≡ lineLength) × (at + width < lineLength) ⌝ }
-    ensures { λ _. ⌜ Put (now (line .entry)) (now (line .exit)) at (ended (signed width value)) ⌝ }
+    ensures { λ _. ⌜ Put (now (line .entry)) (now (line .exit)) at (withSpace (signed width value)) ⌝ }
 {
     signed_at(line, at, width, value);
     put_byte(line, at + width, b' ');
@@ -69,7 +69,7 @@ fn put_hexadecimal(line: &mut [u8], at: usize, value: u8)
 // Columns 1 to 4.
 fn put_satellite(line: &mut [u8], constellation: u8, satellite: u8)
     requires { ⌜ length (now line) ≡ lineLength ⌝ }
-    ensures { λ _. ⌜ Put (now (line .entry)) (now (line .exit)) 0 (ended (constellation ∷ decimal 2 satellite)) ⌝ }
+    ensures { λ _. ⌜ Put (now (line .entry)) (now (line .exit)) 0 (withSpace (constellation ∷ decimal 2 satellite)) ⌝ }
 {
     put_byte(line, 0, constellation);
     put_decimal(line, 1, 2, satellite as u64);
@@ -78,16 +78,16 @@ fn put_satellite(line: &mut [u8], constellation: u8, satellite: u8)
 // Columns 5 to 7.
 fn put_class(line: &mut [u8], cl: u8)
     requires { ⌜ length (now line) ≡ lineLength ⌝ }
-    ensures { λ _. ⌜ Put (now (line .entry)) (now (line .exit)) 4 (ended (hexadecimal cl)) ⌝ }
+    ensures { λ _. ⌜ Put (now (line .entry)) (now (line .exit)) 4 (withSpace (hexadecimal cl)) ⌝ }
 {
     put_hexadecimal(line, 4, cl);
     put_byte(line, 6, b' ');
 }
 
 // Columns 14 to 20: the start as hhmmss.
-fn put_clock(line: &mut [u8], second: u32)
+fn put_time(line: &mut [u8], second: u32)
     requires { ⌜ length (now line) ≡ lineLength ⌝ }
-    ensures { λ _. ⌜ Put (now (line .entry)) (now (line .exit)) 13 (ended (clock second)) ⌝ }
+    ensures { λ _. ⌜ Put (now (line .entry)) (now (line .exit)) 13 (withSpace (timeOfDay second)) ⌝ }
 {
     put_digits(line, 13, 2, (second / 3600) as u64);
     put_digits(line, 15, 2, (second / 60 % 60) as u64);
@@ -97,7 +97,7 @@ fn put_clock(line: &mut [u8], second: u32)
 // Columns 108 to 111.
 fn put_code(line: &mut [u8], frc1: u8, frc2: u8, frc3: u8)
     requires { ⌜ length (now line) ≡ lineLength ⌝ }
-    ensures { λ _. ⌜ Put (now (line .entry)) (now (line .exit)) 107 (ended (frc1 ∷ frc2 ∷ frc3 ∷ [])) ⌝ }
+    ensures { λ _. ⌜ Put (now (line .entry)) (now (line .exit)) 107 (withSpace (frc1 ∷ frc2 ∷ frc3 ∷ [])) ⌝ }
 {
     put_byte(line, 107, frc1);
     put_byte(line, 108, frc2);
@@ -113,7 +113,7 @@ fn put_track(line: &mut [u8], labels: Labels, trkl: i64)
     put_satellite(line, labels.constellation, labels.satellite);
     put_class(line, labels.cl);
     put_decimal(line, 7, 5, labels.mjd as u64);
-    put_clock(line, labels.start);
+    put_time(line, labels.start);
     put_decimal(line, 20, 4, magnitude(trkl));
     put_decimal(line, 25, 3, labels.elv as u64);
     put_decimal(line, 29, 4, labels.azth as u64);

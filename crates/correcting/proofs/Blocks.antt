@@ -3,7 +3,7 @@
 use mathlib.Core.Path.{_≡_, ap, _∙_, subst}
 use mathlib.Core.Bool.{false}
 use mathlib.Core.List.{List}
-use Prim.Native.Nat.{ℕ, _+_, _^_, _≤_}
+use Prim.Native.Nat.{ℕ, _+_, _≤_}
 use native.Mathlib.Omega.{arith}
 use lib.IntN.{ℤ, pos, natAbs, _*ℤ_}
 use lib.ListN.{length, take, drop, length-drop}
@@ -11,8 +11,10 @@ use lib.Seq.{length-take-le, getD-take, getD-drop}
 use Rattle.whole.specs.Nearest.{nearest}
 use Rattle.whole.specs.Sums.{sum-cong}
 use Rattle.series.specs.declared.Smoothed.{Smoothed}
-use Rattle.exact.specs.Corrected.{at, steps}
+use Rattle.whole.specs.Table.{at}
+use Rattle.exact.specs.Corrected.{steps}
 use Rattle.exact.specs.Weights.{weights}
+use Rattle.limits.specs.Limits.{measurementLimit}
 use Rattle.limits.specs.Lists.{anyBeyond}
 use Rattle.series.specs.Answers.{smoothReply, smoothNumbered}
 use Rattle.series.specs.Smooth.{smoothed, smoothRule}
@@ -33,7 +35,7 @@ module _ (m : List ℤ) (from : ℕ) (fits : from + 15 ≤ length m) where
       (sum-cong 15 (λ i h. ap (λ (z : ℤ). at weights i *ℤ z) (getD-take 15 (drop from m) i (pos 0) h ∙ getD-drop from m i (pos 0))))
 
   -- the part within its limits
-  module _ (e : anyBeyond (10 ^ 12) (take 15 (drop from m)) ≡ false) where
+  module _ (e : anyBeyond measurementLimit (take 15 (drop from m)) ≡ false) where
     -- Smooth answers with it
     pub part-value : (r : Smoothed) → smoothReply r ≡ smoothRule (take 15 (drop from m)) → smoothNumbered r
         → r ≡ Smoothed.Value (smoothed (λ i. at m (from + i)))
@@ -44,4 +46,4 @@ module _ (m : List ℤ) (from : ℕ) (fits : from + 15 ≤ length m) where
 
     -- and it is as large as measurements within their limits allow
     pub part-bound : natAbs (smoothed (λ i. at m (from + i))) ≤ 13294117647059
-    part-bound = subst (λ (z : ℤ). natAbs z ≤ 13294117647059) part-smoothed (smoothed-bound (at (take 15 (drop from m))) (λ i. within-limit (10 ^ 12) (take 15 (drop from m)) e i))
+    part-bound = subst (λ (z : ℤ). natAbs z ≤ 13294117647059) part-smoothed (smoothed-bound (at (take 15 (drop from m))) (λ i. within-limit measurementLimit (take 15 (drop from m)) e i))

@@ -3,25 +3,25 @@
 use mathlib.Core.Path.{_≡_, refl, ap₂, _∙_}
 use mathlib.Core.Bool.{Bool, true, false, _||_}
 use mathlib.Core.List.{List, [], _∷_}
-use Prim.Native.Nat.{ℕ, suc, _+_, _^_, _≤_, _<_}
+use Prim.Native.Nat.{ℕ, suc, _+_, _≤_, _<_}
 use native.Mathlib.Numerals.{add-one}
 use native.Mathlib.Omega.{arith}
 use lib.IntN.{ℤ, pos}
 use lib.ListN.{length, drop, getD, drop-of-length-le}
 use lib.Seq.{drop-cons}
-use Rattle.limits.specs.Limits.{beyond}
-use Rattle.limits.specs.Lists.{anyOutside, anyBeyond}
 use Rattle.correcting.specs.Correct.{geometryLimit}
+use Rattle.limits.specs.Limits.{beyond, delayLimit}
+use Rattle.limits.specs.Lists.{anyOutside, anyBeyond}
 
 -- whether row j has a correction beyond its limit
 abbrev pub Row : (g r i t k : ℤ) → Bool
-Row g r i t k = beyond geometryLimit g || beyond (10 ^ 10) r || beyond (10 ^ 10) i || beyond (10 ^ 10) t || beyond (10 ^ 10) k
+Row g r i t k = beyond geometryLimit g || beyond delayLimit r || beyond delayLimit i || beyond delayLimit t || beyond delayLimit k
 
 -- whether one from row j on has
 abbrev pub From : (g r i t k : List ℤ) → ℕ → Bool
 From g r i t k j =
-    anyBeyond geometryLimit (drop j g) || anyBeyond (10 ^ 10) (drop j r) || anyBeyond (10 ^ 10) (drop j i) || anyBeyond (10 ^ 10) (drop j t)
-    || anyBeyond (10 ^ 10) (drop j k)
+    anyBeyond geometryLimit (drop j g) || anyBeyond delayLimit (drop j r) || anyBeyond delayLimit (drop j i) || anyBeyond delayLimit (drop j t)
+    || anyBeyond delayLimit (drop j k)
 
 -- of one column
 step : (limit : ℕ) (l : List ℤ) (j : ℕ) → j < length l → anyBeyond limit (drop j l) ≡ beyond limit (getD l j (pos 0)) || anyBeyond limit (drop (j + 1) l)
@@ -48,11 +48,11 @@ module _ (g r i t k : List ℤ) (same : (length r ≡ length g) × (length i ≡
       let t' : j < length t = omega (arith, same) in
       let k' : j < length k = omega (arith, same) in
       ap₂ _||_
-      (ap₂ _||_ (ap₂ _||_ (ap₂ _||_ (step geometryLimit g j h) (step (10 ^ 10) r j r')) (step (10 ^ 10) i j i')) (step (10 ^ 10) t j t')) (step (10 ^ 10) k j k')
-      ∙ all (beyond geometryLimit (getD g j (pos 0))) (beyond (10 ^ 10) (getD r j (pos 0))) (beyond (10 ^ 10) (getD i j (pos 0)))
-      (beyond (10 ^ 10) (getD t j (pos 0))) (beyond (10 ^ 10) (getD k j (pos 0))) (anyBeyond geometryLimit (drop (j + 1) g))
-      (anyBeyond (10 ^ 10) (drop (j + 1) r)) (anyBeyond (10 ^ 10) (drop (j + 1) i)) (anyBeyond (10 ^ 10) (drop (j + 1) t))
-      (anyBeyond (10 ^ 10) (drop (j + 1) k))
+      (ap₂ _||_ (ap₂ _||_ (ap₂ _||_ (step geometryLimit g j h) (step delayLimit r j r')) (step delayLimit i j i')) (step delayLimit t j t')) (step delayLimit k j k')
+      ∙ all (beyond geometryLimit (getD g j (pos 0))) (beyond delayLimit (getD r j (pos 0))) (beyond delayLimit (getD i j (pos 0)))
+      (beyond delayLimit (getD t j (pos 0))) (beyond delayLimit (getD k j (pos 0))) (anyBeyond geometryLimit (drop (j + 1) g))
+      (anyBeyond delayLimit (drop (j + 1) r)) (anyBeyond delayLimit (drop (j + 1) i)) (anyBeyond delayLimit (drop (j + 1) t))
+      (anyBeyond delayLimit (drop (j + 1) k))
 
   pub from-none : length g ≤ j → From g r i t k j ≡ false
   unfolding anyOutside

@@ -2,20 +2,20 @@
 -- and where they are not.
 -- Assumes nothing.
 use mathlib.Core.Path.{_≡_, refl, sym, ap, _∙_}
-use mathlib.Core.Bool.{Bool, true, false, not, _||_}
-use Prim.Native.Nat.{ℕ, zero, suc, _*_, _/_, _^_, _≤_, _<_}
+use mathlib.Core.Bool.{Bool, true, false, not, _||_, or-true, or-false as or-none}
+use Prim.Native.Nat.{ℕ, zero, suc, _*_, _/_, _≤_, _<_}
 use native.Mathlib.Omega.{arith}
 use lib.IntN.{natAbs}
 use lib.ListN.{length}
 use Rattle.limits.specs.Blocks.{blocksFit}
-use Rattle.limits.specs.Limits.{beyond}
+use Rattle.limits.specs.Limits.{beyond, measurementLimit, delayLimit}
 use Rattle.limits.specs.Lists.{miscounted, anyBeyond}
 use Rattle.limits.specs.Refusal.{_when_, _then_}
 use Rattle.limits.proofs.Blocks.{blocks-within}
 use Rattle.limits.proofs.Laws.{then-zero, when-zero, or-false, magnitude-within}
 use Rattle.limits.proofs.Lists.{counted}
 use Rattle.exact.specs.Corrected.{Given}
-use Rattle.correcting.specs.Correct.{blocks, geometryLimit, wrongSizes, outOfLimits}
+use Rattle.correcting.specs.Correct.{blocks, wrongSizes, outOfLimits, geometryLimit}
 use Rattle.limits.proofs.Scans.{none-outside}
 use Rattle.correcting.specs.declared.Corrected.{Corrected}
 use Rattle.correcting.specs.Answer.{correctNumber, correctedNumber, corrected, othersBeyond, wholeBlocks, blocksRule, correctedBlocks, correctRule}
@@ -56,27 +56,27 @@ sized g e =
 -- all but the measurements
 pub record Others (g : Given) : Type 0 where
   pub in-geometry : anyBeyond geometryLimit (g .geometry) ≡ false
-  pub in-relativity : anyBeyond (10 ^ 10) (g .relativity) ≡ false
-  pub in-ionosphere : anyBeyond (10 ^ 10) (g .ionosphere) ≡ false
-  pub in-troposphere : anyBeyond (10 ^ 10) (g .troposphere) ≡ false
-  pub in-clock : anyBeyond (10 ^ 10) (g .clock) ≡ false
-  pub in-int : natAbs (g .int) ≤ 10 ^ 10
-  pub in-cab : natAbs (g .cab) ≤ 10 ^ 10
-  pub in-refdly : natAbs (g .refdly) ≤ 10 ^ 10
-  pub in-gd : natAbs (g .gd) ≤ 10 ^ 10
+  pub in-relativity : anyBeyond delayLimit (g .relativity) ≡ false
+  pub in-ionosphere : anyBeyond delayLimit (g .ionosphere) ≡ false
+  pub in-troposphere : anyBeyond delayLimit (g .troposphere) ≡ false
+  pub in-clock : anyBeyond delayLimit (g .clock) ≡ false
+  pub in-int : natAbs (g .int) ≤ delayLimit
+  pub in-cab : natAbs (g .cab) ≤ delayLimit
+  pub in-refdly : natAbs (g .refdly) ≤ delayLimit
+  pub in-gd : natAbs (g .gd) ≤ delayLimit
 
 pub others : (g : Given) → othersBeyond g ≡ false → Others g
 unfolding othersBeyond
 others g e =
     let G = anyBeyond geometryLimit (g .geometry) in
-    let R = anyBeyond (10 ^ 10) (g .relativity) in
-    let I = anyBeyond (10 ^ 10) (g .ionosphere) in
-    let T = anyBeyond (10 ^ 10) (g .troposphere) in
-    let C = anyBeyond (10 ^ 10) (g .clock) in
-    let A = beyond (10 ^ 10) (g .int) in
-    let B = beyond (10 ^ 10) (g .cab) in
-    let D = beyond (10 ^ 10) (g .refdly) in
-    let E = beyond (10 ^ 10) (g .gd) in
+    let R = anyBeyond delayLimit (g .relativity) in
+    let I = anyBeyond delayLimit (g .ionosphere) in
+    let T = anyBeyond delayLimit (g .troposphere) in
+    let C = anyBeyond delayLimit (g .clock) in
+    let A = beyond delayLimit (g .int) in
+    let B = beyond delayLimit (g .cab) in
+    let D = beyond delayLimit (g .refdly) in
+    let E = beyond delayLimit (g .gd) in
     let all = or-false (G || R || I || T || C) (A || B || D || E) e in
     let four = or-false (G || R || I || T) C (all .0) in
     let three = or-false (G || R || I) T (four .0) in
@@ -91,10 +91,10 @@ others g e =
       in-ionosphere = two .1;
       in-troposphere = three .1;
       in-clock = four .1;
-      in-int = magnitude-within (10 ^ 10) (g .int) (both .0);
-      in-cab = magnitude-within (10 ^ 10) (g .cab) (both .1);
-      in-refdly = magnitude-within (10 ^ 10) (g .refdly) (pair .1);
-      in-gd = magnitude-within (10 ^ 10) (g .gd) (delays .1);
+      in-int = magnitude-within delayLimit (g .int) (both .0);
+      in-cab = magnitude-within delayLimit (g .cab) (both .1);
+      in-refdly = magnitude-within delayLimit (g .refdly) (pair .1);
+      in-gd = magnitude-within delayLimit (g .gd) (delays .1);
     }
 
 or-assoc : (a b c : Bool) → a || b || c ≡ a || (b || c)
@@ -102,21 +102,21 @@ or-assoc true b c = refl
 or-assoc false b c = refl
 
 -- 2 is told by the measurements and by all else
-pub limits-parts : (g : Given) → outOfLimits g ≡ anyBeyond (10 ^ 12) (g .measurements) || othersBeyond g
+pub limits-parts : (g : Given) → outOfLimits g ≡ anyBeyond measurementLimit (g .measurements) || othersBeyond g
 unfolding outOfLimits othersBeyond
 limits-parts g =
-    or-assoc (anyBeyond (10 ^ 12) (g .measurements))
-    (anyBeyond geometryLimit (g .geometry) || anyBeyond (10 ^ 10) (g .relativity) || anyBeyond (10 ^ 10) (g .ionosphere)
-    || anyBeyond (10 ^ 10) (g .troposphere) || anyBeyond (10 ^ 10) (g .clock))
-    (beyond (10 ^ 10) (g .int) || beyond (10 ^ 10) (g .cab) || beyond (10 ^ 10) (g .refdly) || beyond (10 ^ 10) (g .gd))
+    or-assoc (anyBeyond measurementLimit (g .measurements))
+    (anyBeyond geometryLimit (g .geometry) || anyBeyond delayLimit (g .relativity) || anyBeyond delayLimit (g .ionosphere)
+    || anyBeyond delayLimit (g .troposphere) || anyBeyond delayLimit (g .clock))
+    (beyond delayLimit (g .int) || beyond delayLimit (g .cab) || beyond delayLimit (g .refdly) || beyond delayLimit (g .gd))
 
 pub record Limited (g : Given) : Type 0 where
-  pub in-measurements : anyBeyond (10 ^ 12) (g .measurements) ≡ false
+  pub in-measurements : anyBeyond measurementLimit (g .measurements) ≡ false
   pub in-others : othersBeyond g ≡ false
 
 pub limited : (g : Given) → outOfLimits g ≡ false → Limited g
 limited g e =
-    let both = or-false (anyBeyond (10 ^ 12) (g .measurements)) (othersBeyond g) (sym (limits-parts g) ∙ e) in
+    let both = or-false (anyBeyond measurementLimit (g .measurements)) (othersBeyond g) (sym (limits-parts g) ∙ e) in
     record { in-measurements = both .0; in-others = both .1 }
 
 -- ---- the rule where one of them is refused
@@ -131,20 +131,12 @@ sizes-refused g e = (rw e, rw e)
 
 pub others-refused : (g : Given) → wrongSizes g ≡ false → othersBeyond g ≡ true → Answered g (Corrected.Refused 2 0) 0
 unfolding correctRule corrected correctNumber correctedBlocks _when_ _then_
-others-refused g e h = (rw (limits-parts g, e, h, or-true (anyBeyond (10 ^ 12) (g .measurements))), rw (e, h))
-  where
-    or-true : (b : Bool) → b || true ≡ true
-    or-true true = refl
-    or-true false = refl
+others-refused g e h = (rw (limits-parts g, e, h, or-true (anyBeyond measurementLimit (g .measurements))), rw (e, h))
 
 -- and where all but the measurements has passed
 pub by-measurements : (g : Given) → wrongSizes g ≡ false → othersBeyond g ≡ false → Answered g (blocksRule (g .measurements)) (wholeBlocks (g .measurements))
 unfolding correctRule correctNumber correctedBlocks blocksRule _when_ _then_
-by-measurements g e h = (rw (limits-parts g, e, h, or-none (anyBeyond (10 ^ 12) (g .measurements))), rw (e, h))
-  where
-    or-none : (b : Bool) → b || false ≡ b
-    or-none true = refl
-    or-none false = refl
+by-measurements g e h = (rw (limits-parts g, e, h, or-none (anyBeyond measurementLimit (g .measurements))), rw (e, h))
 
 -- ---- what the case of an answer tells
 

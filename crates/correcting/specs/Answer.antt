@@ -1,18 +1,18 @@
 -- What `correcting` answers to whoever judges the corrected values: the number of the refusal, how far the limit test on the measurements reads
 -- (document 02, Job 4), and what the lent rows hold afterwards. Track's own rule does not name it.
 -- Assumes nothing.
-use Prim.Native.Nat.{ℕ, zero, suc, _*_, _/_, _^_}
+use Prim.Native.Nat.{ℕ, zero, suc, _*_, _/_}
 use mathlib.Core.Bool.{Bool, cond, _||_}
 use mathlib.Core.List.{List}
 use lib.IntN.{ℤ, pos, negℤ}
 use lib.ListN.{set}
 use Rattle.limits.specs.Refusal.{_when_, _then_}
-use Rattle.limits.specs.Limits.{delaysBeyond}
+use Rattle.limits.specs.Limits.{delaysBeyond, measurementLimit, delayLimit}
 use Rattle.limits.specs.Lists.{anyBeyond}
 use Rattle.limits.specs.Scan.{firstOutside, readTo}
 use Rattle.exact.specs.Corrected.{Given}
 use Rattle.correcting.specs.declared.Corrected.{Corrected}
-use Rattle.correcting.specs.Correct.{geometryLimit, wrongSizes, outOfLimits}
+use Rattle.correcting.specs.Correct.{wrongSizes, outOfLimits, geometryLimit}
 
 -- 1 or 2, the first of them that holds, 0 where none does.
 unfoldable pub correctNumber : Given → ℕ
@@ -30,8 +30,8 @@ corrected (suc number) read = Corrected.Refused (suc number) read
 -- A correction or a delay is outside its limits: what 2 says of all but the measurements.
 unfoldable pub othersBeyond : Given → Bool
 othersBeyond g =
-    (anyBeyond geometryLimit (g .geometry) || anyBeyond (10 ^ 10) (g .relativity) || anyBeyond (10 ^ 10) (g .ionosphere)
-    || anyBeyond (10 ^ 10) (g .troposphere) || anyBeyond (10 ^ 10) (g .clock))
+    (anyBeyond geometryLimit (g .geometry) || anyBeyond delayLimit (g .relativity) || anyBeyond delayLimit (g .ionosphere)
+    || anyBeyond delayLimit (g .troposphere) || anyBeyond delayLimit (g .clock))
     || delaysBeyond (g .int) (g .cab) (g .refdly) (g .gd)
 
 -- The sizes are wrong, or a correction or a delay is outside: refused before any measurement is read.
@@ -40,12 +40,12 @@ refusedBefore g = wrongSizes g || othersBeyond g
 
 -- The limits of a measurement.
 abbrev pub least : ℤ
-least = negℤ (pos (10 ^ 12))
+least = negℤ (pos measurementLimit)
 
 abbrev pub most : ℤ
-most = pos (10 ^ 12)
+most = pos measurementLimit
 
--- How many blocks of fifteen there are before the one with the first measurement outside ±10^12, or in all.
+-- How many blocks of fifteen there are before the one with the first measurement beyond its limit, or in all.
 unfoldable pub wholeBlocks : List ℤ → ℕ
 wholeBlocks measurements = firstOutside least most measurements / 15
 
@@ -53,7 +53,7 @@ wholeBlocks measurements = firstOutside least most measurements / 15
 -- outside, or all of them.
 unfoldable pub blocksRule : List ℤ → Corrected
 blocksRule measurements =
-    corrected (2 when anyBeyond (10 ^ 12) measurements) (readTo least most measurements)
+    corrected (2 when anyBeyond measurementLimit measurements) (readTo least most measurements)
 
 -- How many blocks have their values in the lent rows, and how many measurements are read: none where it is refused before.
 unfoldable pub correctedBlocks : Given → ℕ

@@ -5,11 +5,11 @@ use mathlib.Core.Bool.{Bool, not, _||_}
 use mathlib.Core.List.{List, _++_}
 use lib.IntN.{ℤ, pos, _*ℤ_}
 use lib.ListN.{length, replicate}
-use Rattle.limits.specs.Limits.{delaysBeyond}
+use Rattle.limits.specs.Limits.{delaysBeyond, measurementLimit, delayLimit}
 use Rattle.limits.specs.Blocks.{blocksFit}
 use Rattle.limits.specs.Lists.{miscounted, anyBeyond}
-use Rattle.whole.specs.Table.{tabulate}
-use Rattle.exact.specs.Corrected.{at, steps, Given, block, toA, toB}
+use Rattle.whole.specs.Table.{tabulate, at}
+use Rattle.exact.specs.Corrected.{steps, Given, block, toA, toB}
 use Rattle.series.specs.Smooth.{smoothed}
 
 -- How many blocks a track has: as many as its first column, and 1 tells where the other lists disagree.
@@ -45,16 +45,16 @@ wrongSizes g =
     || (miscounted (15 * n) (g .measurements) || miscounted n (g .relativity) || miscounted n (g .ionosphere)
     || miscounted n (g .troposphere) || miscounted n (g .clock))
 
--- The limit of a geometry in ps.
+-- The limit on a geometry in ps.
 abbrev pub geometryLimit : ℕ
 geometryLimit = 2 * 10 ^ 11
 
--- 2: some measurement exceeds 10^12 ps in magnitude, some geometry its limit, or some other correction or delay 10^10 ps.
+-- 2: some measurement, some geometry, or some other correction or delay is beyond its limit.
 unfoldable pub outOfLimits : Given → Bool
 outOfLimits g =
-    anyBeyond (10 ^ 12) (g .measurements)
-    || (anyBeyond geometryLimit (g .geometry) || anyBeyond (10 ^ 10) (g .relativity) || anyBeyond (10 ^ 10) (g .ionosphere)
-    || anyBeyond (10 ^ 10) (g .troposphere) || anyBeyond (10 ^ 10) (g .clock))
+    anyBeyond measurementLimit (g .measurements)
+    || (anyBeyond geometryLimit (g .geometry) || anyBeyond delayLimit (g .relativity) || anyBeyond delayLimit (g .ionosphere)
+    || anyBeyond delayLimit (g .troposphere) || anyBeyond delayLimit (g .clock))
     || delaysBeyond (g .int) (g .cab) (g .refdly) (g .gd)
 
 -- What Track is given, in the order of its parameters.

@@ -1,5 +1,8 @@
 // The smoothed and the corrected values of a track, in tenths of a picosecond.
 use super::Corrected;
+use exact::STEPS;
+use limits::MEASUREMENT_LEAST;
+use limits::MEASUREMENT_LIMIT;
 use limits::scan;
 use series::Smoothed;
 use series::smooth;
@@ -7,13 +10,15 @@ use series::smoothed_number;
 ghost use mathlib.Core.Path.{_≡_};
 ghost use mathlib.Core.Bool.{false};
 ghost use mathlib.Core.List.{[], _∷_};
-ghost use Prim.Native.Nat.{_*_, _^_, _<_};
+ghost use Prim.Native.Nat.{_*_, _<_};
 ghost use lib.IntN.{pos, _*ℤ_};
 ghost use lib.ListN.{length, set};
-ghost use Rattle.series.specs.Fit.{valuesLimit};
+ghost use Rattle.series.specs.Fit.{valueLimit};
 ghost use Rattle.whole.specs.Words.{Within};
+ghost use Rattle.limits.specs.Limits.{delayLimit};
 ghost use Rattle.limits.specs.Lists.{anyBeyond};
-ghost use Rattle.exact.specs.Corrected.{at, steps, toA, toB};
+ghost use Rattle.whole.specs.Table.{at};
+ghost use Rattle.exact.specs.Corrected.{steps, toA, toB};
 ghost use Rattle.correcting.specs.Correct.{geometryLimit, given, valueA, valueB, valueC, valueD, wrongSizes};
 ghost use Rattle.correcting.specs.Answer.{othersBeyond, filled, wholeBlocks, blocksRule};
 
@@ -38,9 +43,9 @@ pub fn corrected(
     troposphere: i64,
     clock: i64,
 ) -> Values
-    requires { ⌜ Within valuesLimit smoothed × Within (10 ^ 10) int × Within (10 ^ 10) cab × Within (10 ^ 10) refdly × Within (10 ^ 10) gd ⌝ }
-    requires { ⌜ Within geometryLimit geometry × Within (10 ^ 10) relativity
-        × Within (10 ^ 10) ionosphere × Within (10 ^ 10) troposphere × Within (10 ^ 10) clock ⌝ }
+    requires { ⌜ Within valueLimit smoothed × Within delayLimit int × Within delayLimit cab × Within delayLimit refdly × Within delayLimit gd ⌝ }
+    requires { ⌜ Within geometryLimit geometry × Within delayLimit relativity
+        × Within delayLimit ionosphere × Within delayLimit troposphere × Within delayLimit clock ⌝ }
     ensures { λ r. ⌜ (r .a ≡ toA (given [] int cab refdly gd
         (geometry ∷ []) (relativity ∷ []) (ionosphere ∷ []) (troposphere ∷ []) (clock ∷ [])) (pos steps) 0 smoothed)
         × (r .b ≡ toB (given [] int cab refdly gd
@@ -48,12 +53,13 @@ pub fn corrected(
         × (r .c ≡ pos steps *ℤ troposphere) × (r .d ≡ pos steps *ℤ ionosphere) ⌝ }
 {
     let a = smoothed
-        - 10 * (int + cab + (0 - refdly) + gd + geometry - relativity + ionosphere + troposphere);
+        - STEPS
+            * (int + cab + (0 - refdly) + gd + geometry - relativity + ionosphere + troposphere);
     Values {
         a,
-        b: a + 10 * clock,
-        c: 10 * troposphere,
-        d: 10 * ionosphere,
+        b: a + STEPS * clock,
+        c: STEPS * troposphere,
+        d: STEPS * ionosphere,
     }
 }
 
@@ -71,12 +77,12 @@ fn corrected_at(
     troposphere: &[i64],
     clock: &[i64],
 ) -> Values
-    requires { ⌜ Within valuesLimit smoothed × Within (10 ^ 10) int × Within (10 ^ 10) cab × Within (10 ^ 10) refdly × Within (10 ^ 10) gd ⌝ }
+    requires { ⌜ Within valueLimit smoothed × Within delayLimit int × Within delayLimit cab × Within delayLimit refdly × Within delayLimit gd ⌝ }
     requires { ⌜ (j < length (now geometry)) × (anyBeyond geometryLimit (now geometry) ≡ false) ⌝ }
-    requires { ⌜ (j < length (now relativity)) × (anyBeyond (10 ^ 10) (now relativity) ≡ false) ⌝ }
-    requires { ⌜ (j < length (now ionosphere)) × (anyBeyond (10 ^ 10) (now ionosphere) ≡ false) ⌝ }
-    requires { ⌜ (j < length (now troposphere)) × (anyBeyond (10 ^ 10) (now troposphere) ≡ false) ⌝ }
-    requires { ⌜ (j < length (now clock)) × (anyBeyond (10 ^ 10) (now clock) ≡ false) ⌝ }
+    requires { ⌜ (j < length (now relativity)) × (anyBeyond delayLimit (now relativity) ≡ false) ⌝ }
+    requires { ⌜ (j < length (now ionosphere)) × (anyBeyond delayLimit (now ionosphere) ≡ false) ⌝ }
+    requires { ⌜ (j < length (now troposphere)) × (anyBeyond delayLimit (now troposphere) ≡ false) ⌝ }
+    requires { ⌜ (j < length (now clock)) × (anyBeyond delayLimit (now clock) ≡ false) ⌝ }
     ensures { λ r. ⌜ (r .a ≡ toA (given [] int cab refdly gd
         (now (geometry .entry)) (now (relativity .entry)) (now (ionosphere .entry)) (now (troposphere .entry)) (now (clock .entry))) (pos steps) j smoothed)
         × (r .b ≡ toB (given [] int cab refdly gd
@@ -123,7 +129,7 @@ fn put(
 }
 
 // The corrected values of the blocks, each put into its place of the four rows that are lent, block by block up to and without the first that
-// has a measurement outside ±10^12: 2 where there is one. The columns and the delays are inside their limits. It counts the measurements
+// has a measurement beyond its limit: 2 where there is one. The columns and the delays are inside their limits. It counts the measurements
 // that its limit test reads.
 pub fn correct_blocks(
     measurements: &[i64],
@@ -167,8 +173,8 @@ pub fn correct_blocks(
         let to = from + 15;
         let seen = scan(
             &measurements[from..to],
-            -1_000_000_000_000,
-            1_000_000_000_000,
+            MEASUREMENT_LEAST,
+            MEASUREMENT_LIMIT,
         );
         read += seen.read;
         if seen.outside {

@@ -1,15 +1,19 @@
 // The lists that a track is given: whether they have their sizes, and whether every number is inside its limits.
+use super::GEOMETRY_LEAST;
+use super::GEOMETRY_LIMIT;
+use limits::DELAY_LEAST;
+use limits::DELAY_LIMIT;
 use limits::blocks_fit;
 use limits::outside;
 ghost use mathlib.Core.Path.{_≡_};
 ghost use mathlib.Core.Bool.{not, _||_};
-ghost use Prim.Native.Nat.{_*_, _^_, _<_};
+ghost use Prim.Native.Nat.{_*_, _<_};
 ghost use lib.ListN.{length};
-ghost use Rattle.exact.specs.Corrected.{at};
-ghost use Rattle.limits.specs.Blocks.{blocksFit};
-ghost use Rattle.limits.specs.Limits.{beyond};
-ghost use Rattle.limits.specs.Lists.{miscounted, anyBeyond};
 ghost use Rattle.correcting.specs.Correct.{geometryLimit};
+ghost use Rattle.whole.specs.Table.{at};
+ghost use Rattle.limits.specs.Blocks.{blocksFit};
+ghost use Rattle.limits.specs.Limits.{beyond, delayLimit};
+ghost use Rattle.limits.specs.Lists.{miscounted, anyBeyond};
 
 // Whether the blocks are not from 4 to 52, the measurements not 15 a block, or another column not as long as the geometry's.
 pub fn sizes_wrong(
@@ -38,7 +42,7 @@ pub fn sizes_wrong(
         | (clock.len() != n)
 }
 
-// Whether the geometry of block j is outside ±2 × 10^11 or another of its corrections outside ±10^10. Each is read where it is tested.
+// Whether the geometry of block j or another of its corrections is beyond its limit. Each is read where it is tested.
 fn row_beyond(
     j: usize,
     geometry: &[i64],
@@ -49,26 +53,26 @@ fn row_beyond(
 ) -> bool
     requires { ⌜ (j < length (now geometry)) × (j < length (now relativity)) × (j < length (now ionosphere))
         × (j < length (now troposphere)) × (j < length (now clock)) ⌝ }
-    ensures { λ r. ⌜ r ≡ beyond geometryLimit (at (now (geometry .entry)) j) || beyond (10 ^ 10) (at (now (relativity .entry)) j)
-        || beyond (10 ^ 10) (at (now (ionosphere .entry)) j) || beyond (10 ^ 10) (at (now (troposphere .entry)) j)
-        || beyond (10 ^ 10) (at (now (clock .entry)) j) ⌝ }
+    ensures { λ r. ⌜ r ≡ beyond geometryLimit (at (now (geometry .entry)) j) || beyond delayLimit (at (now (relativity .entry)) j)
+        || beyond delayLimit (at (now (ionosphere .entry)) j) || beyond delayLimit (at (now (troposphere .entry)) j)
+        || beyond delayLimit (at (now (clock .entry)) j) ⌝ }
 {
-    if outside(-200_000_000_000, 200_000_000_000, geometry[j]) {
+    if outside(GEOMETRY_LEAST, GEOMETRY_LIMIT, geometry[j]) {
         return true;
     }
-    if outside(-10_000_000_000, 10_000_000_000, relativity[j]) {
+    if outside(DELAY_LEAST, DELAY_LIMIT, relativity[j]) {
         return true;
     }
-    if outside(-10_000_000_000, 10_000_000_000, ionosphere[j]) {
+    if outside(DELAY_LEAST, DELAY_LIMIT, ionosphere[j]) {
         return true;
     }
-    if outside(-10_000_000_000, 10_000_000_000, troposphere[j]) {
+    if outside(DELAY_LEAST, DELAY_LIMIT, troposphere[j]) {
         return true;
     }
-    outside(-10_000_000_000, 10_000_000_000, clock[j])
+    outside(DELAY_LEAST, DELAY_LIMIT, clock[j])
 }
 
-// Whether a geometry is outside ±2 × 10^11 or any other correction outside ±10^10: one loop over the blocks, to the first such correction.
+// Whether a geometry or any other correction is beyond its limit: one loop over the blocks, to the first such correction.
 pub fn columns_beyond(
     geometry: &[i64],
     relativity: &[i64],
@@ -79,8 +83,8 @@ pub fn columns_beyond(
     requires { ⌜ (length (now relativity) ≡ length (now geometry)) × (length (now ionosphere) ≡ length (now geometry))
         × (length (now troposphere) ≡ length (now geometry)) × (length (now clock) ≡ length (now geometry)) ⌝ }
     ensures { λ r. ⌜ r ≡ anyBeyond geometryLimit (now (geometry .entry))
-        || anyBeyond (10 ^ 10) (now (relativity .entry)) || anyBeyond (10 ^ 10) (now (ionosphere .entry))
-        || anyBeyond (10 ^ 10) (now (troposphere .entry)) || anyBeyond (10 ^ 10) (now (clock .entry)) ⌝ }
+        || anyBeyond delayLimit (now (relativity .entry)) || anyBeyond delayLimit (now (ionosphere .entry))
+        || anyBeyond delayLimit (now (troposphere .entry)) || anyBeyond delayLimit (now (clock .entry)) ⌝ }
 {
     let n = geometry.len();
     let mut j = 0;

@@ -15,7 +15,12 @@ pub use single::correct_block;
 ghost use mathlib.Core.Path.{_≡_};
 ghost use Rattle.correcting.specs.Correct.{given, valueA, valueB, valueC, valueD};
 ghost use Rattle.correcting.specs.Answer.{correctedNumber, correctRule, correctedBlocks, filled};
-ghost use Rattle.correcting.specs.Block.{blockNumber};
+ghost use Rattle.correcting.specs.Block.{blockValuesNumber};
+
+// The limit of a geometry, in ps, and its negative.
+pub const GEOMETRY_LIMIT: i64 = 200_000_000_000;
+
+pub const GEOMETRY_LEAST: i64 = -GEOMETRY_LIMIT;
 
 // What correct answers: that the rows have their values, or the number of the refusal; and how many measurements the limit test has read.
 pub enum Corrected {
@@ -34,23 +39,23 @@ pub fn corrected_number(corrected: Corrected) -> u32
 }
 
 // What a block's values are, or the number of the refusal.
-pub enum Block {
+pub enum BlockValues {
     Values { a: i64, b: i64, c: i64, d: i64 },
     Refused(u32),
 }
 
 // The number of the refusal, 0 where there is none.
-pub fn block_number(block: Block) -> u32
-    ensures { λ r. ⌜ r ≡ blockNumber block ⌝ }
+pub fn block_values_number(block: BlockValues) -> u32
+    ensures { λ r. ⌜ r ≡ blockValuesNumber block ⌝ }
 {
     match block {
-        Block::Values {
+        BlockValues::Values {
             a: _,
             b: _,
             c: _,
             d: _,
         } => 0,
-        Block::Refused(number) => number,
+        BlockValues::Refused(number) => number,
     }
 }
 

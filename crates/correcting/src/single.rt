@@ -1,12 +1,18 @@
 // One block of a track: its corrected values, or the 2 of a number that is outside its limits.
-use super::Block;
+use super::BlockValues;
+use super::GEOMETRY_LEAST;
+use super::GEOMETRY_LIMIT;
 use super::correction::corrected;
+use limits::DELAY_LEAST;
+use limits::DELAY_LIMIT;
 use limits::delays_beyond;
 use limits::outside;
+use series::VALUE_LEAST;
+use series::VALUE_LIMIT;
 ghost use mathlib.Core.Path.{_≡_};
-ghost use Rattle.correcting.specs.Block.{groupBeyond, blockRule};
+ghost use Rattle.correcting.specs.Block.{groupBeyond, blockValuesRule};
 
-// Whether the geometry is outside ±2 × 10^11 or another correction outside ±10^10.
+// Whether the geometry or another correction is beyond its limit.
 fn group_beyond(
     geometry: i64,
     relativity: i64,
@@ -16,19 +22,19 @@ fn group_beyond(
 ) -> bool
     ensures { λ r. ⌜ r ≡ groupBeyond geometry relativity ionosphere troposphere clock ⌝ }
 {
-    if outside(-200_000_000_000, 200_000_000_000, geometry) {
+    if outside(GEOMETRY_LEAST, GEOMETRY_LIMIT, geometry) {
         return true;
     }
-    if outside(-10_000_000_000, 10_000_000_000, relativity) {
+    if outside(DELAY_LEAST, DELAY_LIMIT, relativity) {
         return true;
     }
-    if outside(-10_000_000_000, 10_000_000_000, ionosphere) {
+    if outside(DELAY_LEAST, DELAY_LIMIT, ionosphere) {
         return true;
     }
-    if outside(-10_000_000_000, 10_000_000_000, troposphere) {
+    if outside(DELAY_LEAST, DELAY_LIMIT, troposphere) {
         return true;
     }
-    outside(-10_000_000_000, 10_000_000_000, clock)
+    outside(DELAY_LEAST, DELAY_LIMIT, clock)
 }
 
 // A, B, C and D of a block, in tenths, from its smoothed value in tenths and its corrections in picoseconds.
@@ -43,16 +49,14 @@ pub fn correct_block(
     ionosphere: i64,
     troposphere: i64,
     clock: i64,
-) -> Block
-    ensures { λ r. ⌜ r ≡ blockRule smoothed int cab refdly gd geometry relativity ionosphere troposphere clock ⌝ }
+) -> BlockValues
+    ensures { λ r. ⌜ r ≡ blockValuesRule smoothed int cab refdly gd geometry relativity ionosphere troposphere clock ⌝ }
 {
     if group_beyond(geometry, relativity, ionosphere, troposphere, clock) {
-        return Block::Refused(2);
+        return BlockValues::Refused(2);
     }
-    if outside(-20_000_000_000_000, 20_000_000_000_000, smoothed)
-        | delays_beyond(int, cab, refdly, gd)
-    {
-        return Block::Refused(2);
+    if outside(VALUE_LEAST, VALUE_LIMIT, smoothed) | delays_beyond(int, cab, refdly, gd) {
+        return BlockValues::Refused(2);
     }
     let values = corrected(
         smoothed,
@@ -66,7 +70,7 @@ pub fn correct_block(
         troposphere,
         clock,
     );
-    Block::Values {
+    BlockValues::Values {
         a: values.a,
         b: values.b,
         c: values.c,

@@ -9,18 +9,18 @@ use native.Mathlib.Omega.{arith}
 use lib.Dec.{lit<}
 use lib.ListN.{length, take, drop, getD, length-append, length-map}
 use lib.Seq.{take-at, drop-append-add, getD-drop}
-use borrow.Author.Tests.{eq-eqb, le-ltb}
+use borrow.Author.Tests.{le-ltb}
 use Rattle.limits.specs.Refusal.{_when_, _then_}
-use Rattle.limits.proofs.Laws.{then-zero}
+use Rattle.limits.proofs.Laws.{then-zero, after-accepted}
 use Rattle.exact.specs.Corrected.{steps}
 use Rattle.exact.specs.Accurate.{AccurateTrack}
-use Rattle.columns.specs.Text.{lineLength}
+use Rattle.columns.specs.Text.{lineLength, lineEnd}
 use Rattle.columns.specs.Columns.{readNumbers}
 use Rattle.hire.specs.Hire.{blocksIn, blockLabels, blockGiven}
 use Rattle.line.proofs.AcceptedBlocks.{block-accurate, numbers-in}
-use Rattle.linefile.specs.Files.{endedLength, lines, before, fileNumber, joined, lineEnd, lineAt}
+use Rattle.linefile.specs.Files.{endedLength, lines, before, fileNumber, joined, lineAt}
 use Rattle.linefile.proofs.Ascending.{All, Ascending, Accepted, all-map}
-use Rattle.linefile.proofs.Lines.{Long, line-file-zero, line-at}
+use Rattle.linefile.proofs.Lines.{Long, line-file-zero, line-at, whole-lines}
 use Rattle.day.specs.Day.{ownLength, blocksFrom, blocksOf, blockKeys, judged, dayVerdict, endedLine, fileOf, dayFile, dayNumber, dayRule, dayAfter, blockAt, LinesOfDay, AccurateDay, AllBytes}
 use Rattle.day.specs.Answers.{writtenNumber, writtenBytes}
 use Rattle.day.specs.declared.Written.{Written}
@@ -85,19 +85,16 @@ pub day-lines : (bytes : List ℕ) → length (lines (dayFile bytes)) ≡ length
 day-lines bytes = ap length (lines-of (blocksOf bytes)) ∙ length-map (blocksOf bytes) endedLine
 
 -- an accepted day is a line file: neither merge nor common view has a refusal of the file itself
-pub day-file : (bytes : List ℕ) → AllBytes bytes → dayVerdict bytes .number ≡ 0 → fileNumber (dayFile bytes) ≡ 0
+pub day-file : (bytes : List ℕ) → AllBytes bytes → dayVerdict bytes .refusal ≡ 0 → fileNumber (dayFile bytes) ≡ 0
 day-file bytes s e =
     let a = all-accepted [] 0 (blocksOf bytes) e in
     let l = lines-ascend [] (blocksOf bytes) (a .0) (all-classed bytes s) (a .1) in
     line-file-zero (dayFile bytes)
     (record {
-      whole = whole (length (blocksOf bytes)) (length-of (blocksOf bytes));
+      whole = whole-lines (length (blocksOf bytes)) (length-of (blocksOf bytes));
       ascends = subst (Ascending []) (sym (lines-of (blocksOf bytes))) (l .0);
       accepted = subst (All Accepted) (sym (lines-of (blocksOf bytes))) (l .1);
     })
-  where
-    whole : {n : ℕ} (k : ℕ) → n ≡ endedLength * k → n ≡ endedLength * (n / endedLength)
-    whole k h = omega arith
 
 -- ---- its lines within a longer file
 
@@ -126,9 +123,9 @@ all-at P (b ∷ bs) a (suc i) h = all-at P bs (a .1) i (le-of-suc-le-suc h)
 module _ (bytes lent : List ℕ) (e : dayNumber bytes (length lent) ≡ 0) where
   after-is : dayAfter bytes lent ≡ dayFile bytes ++ drop (length (dayFile bytes)) lent
   unfolding dayAfter
-  after-is = rw (eq-eqb (dayNumber bytes (length lent)) 0 e)
+  after-is = after-accepted _ lent e
 
-  judged-zero : dayVerdict bytes .number ≡ 0
+  judged-zero : dayVerdict bytes .refusal ≡ 0
   unfolding dayNumber
   judged-zero = then-zero _ _ e .0
 

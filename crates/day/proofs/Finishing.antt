@@ -4,13 +4,13 @@ use mathlib.Core.Path.{_≡_, refl, sym, ap, ap₂, _∙_}
 use mathlib.Core.Bool.{Bool, true, false, _&&_}
 use mathlib.Core.List.{List, [], _∷_, _++_, append-nil}
 use Prim.Native.Nat.{ℕ, _+_, _-_, _*_, _/_, _≤_, _<_, zero-le}
-use native.Mathlib.Nat.{zero-add}
+use native.Mathlib.Nat.{zero-add, pos-of-ne-zero}
 use native.Mathlib.Omega.{arith}
 use lib.Dec.{ltb, eqb}
 use lib.ListN.{length, take, drop, length-append, drop-of-length-le}
 use borrow.Author.Tests.{ltb-true, ltb-false, lt-ltb, le-ltb, eqb-true, eqb-false, eq-eqb, ne-eqb}
 use Rattle.limits.specs.Refusal.{_when_, _then_}
-use Rattle.limits.proofs.Laws.{then-zero, then-refused, when-zero}
+use Rattle.limits.proofs.Laws.{then-zero, then-refused, when-zero, after-accepted, after-refused}
 use Rattle.lent.specs.Placed.{placed}
 use Rattle.lent.proofs.Placing.{placed-onto, placed-front, placed-first}
 use Rattle.linefile.specs.Files.{endedLength}
@@ -26,19 +26,19 @@ use Rattle.day.proofs.Walking.{verdict-open, verdict-stopped}
 -- ---- the walk that writes all that is left
 
 -- without a refusal in the verdict none has stopped the walk
-pub still-open : (bytes : List ℕ) (r : State) → verdict bytes r .number ≡ 0 → r .number ≡ 0
-still-open bytes r e = by-test (eqb (r .number) 0) refl
+pub still-open : (bytes : List ℕ) (r : State) → verdict bytes r .refusal ≡ 0 → r .refusal ≡ 0
+still-open bytes r e = by-test (eqb (r .refusal) 0) refl
   where
-    by-test : (t : Bool) → eqb (r .number) 0 ≡ t → r .number ≡ 0
+    by-test : (t : Bool) → eqb (r .refusal) 0 ≡ t → r .refusal ≡ 0
     by-test true f = eqb-true _ 0 f
-    by-test false f = sym (ap (λ (v : Verdict). v .number) (verdict-stopped bytes r (eqb-false _ 0 f))) ∙ e
+    by-test false f = sym (ap (λ (v : Verdict). v .refusal) (verdict-stopped bytes r (eqb-false _ 0 f))) ∙ e
 
 nil : (l : List (List ℕ)) → length l ≡ 0 → l ≡ []
 nil [] e = refl
 nil (a ∷ l) e = absurd (omega arith)
 
 -- it has come to the end: of the bytes, or of a room that is large enough
-none-left : (bytes : List ℕ) (r : State) (room : ℕ) → r .number ≡ 0 → goesOn bytes r && ltb (r .count) (room / endedLength) ≡ false
+none-left : (bytes : List ℕ) (r : State) (room : ℕ) → r .refusal ≡ 0 → goesOn bytes r && ltb (r .count) (room / endedLength) ≡ false
     → endedLength * (r .count + length (left bytes r)) ≤ room → left bytes r ≡ []
 none-left bytes r room z e h = by-test (ltb 0 (length bytes - r .at)) refl
   where
@@ -49,18 +49,18 @@ none-left bytes r room z e h = by-test (ltb 0 (length bytes - r .at)) refl
     passed h = omega arith
 
     by-test : (t : Bool) → ltb 0 (length bytes - r .at) ≡ t → left bytes r ≡ []
-    by-test true f = nil (left bytes r) (full (ltb-false _ _ (rw (eq-eqb (r .number) 0 z, f) at e)) h)
+    by-test true f = nil (left bytes r) (full (ltb-false _ _ (rw (eq-eqb (r .refusal) 0 z, f) at e)) h)
     by-test false f = ap blocksOf (drop-of-length-le bytes (passed (ltb-false _ _ f))) ∙ no-blocks
 
 pub all-written : (bytes : List ℕ) (s r : State) (lent file : List ℕ) → Wrote bytes s r lent file
     → goesOn bytes r && ltb (r .count) (length lent / endedLength) ≡ false
-    → verdict bytes s .number ≡ 0 → endedLength * (s .count + length (left bytes s)) ≤ length lent
+    → verdict bytes s .refusal ≡ 0 → endedLength * (s .count + length (left bytes s)) ≤ length lent
     → file ≡ placed lent (endedLength * s .count) (fileOf (left bytes s))
 all-written bytes s r lent file w e z h =
     w .text ∙ ap (λ (l : List (List ℕ)). placed lent (endedLength * s .count) (fileOf l)) (sym all)
   where
-    running : r .number ≡ 0
-    running = still-open bytes r (ap (λ (v : Verdict). v .number) (sym (w .walked .same)) ∙ z)
+    running : r .refusal ≡ 0
+    running = still-open bytes r (ap (λ (v : Verdict). v .refusal) (sym (w .walked .same)) ∙ z)
 
     count : endedLength * (r .count + length (left bytes r)) ≤ length lent
     count = omega (arith, w .walked .counted, ap length (w .walked .cut), length-append (w .seen) (left bytes r))
@@ -70,7 +70,7 @@ all-written bytes s r lent file w e z h =
 
 -- ---- the verdict on all
 
-verdict-start : (bytes : List ℕ) (s : State) → s .at ≡ 0 → s .count ≡ 0 → s .number ≡ 0 → verdict bytes s ≡ dayVerdict bytes
+verdict-start : (bytes : List ℕ) (s : State) → s .at ≡ 0 → s .count ≡ 0 → s .refusal ≡ 0 → verdict bytes s ≡ dayVerdict bytes
 unfolding lastKeys
 verdict-start bytes s a c n =
     verdict-open bytes s n
@@ -81,29 +81,29 @@ pub record Judged (bytes : List ℕ) (s b j : State) (kept : List ℕ) : Type 0 
   pub cache : List ℕ
   pub at : s .at ≡ 0
   pub count : s .count ≡ 0
-  pub number : s .number ≡ 0
+  pub refusal : s .refusal ≡ 0
   pub wrote : Wrote bytes s b cache kept
-  pub verdict : verdict bytes b ≡ record { number = j .number; block = j .count }
+  pub verdict : verdict bytes b ≡ record { refusal = j .refusal; block = j .count }
 
 module _ {bytes : List ℕ} {s b j : State} {kept : List ℕ} (k : Judged bytes s b j kept) where
-  pub verdict-is : dayVerdict bytes ≡ record { number = j .number; block = j .count }
-  verdict-is = sym (verdict-start bytes s (k .at) (k .count) (k .number)) ∙ k .wrote .walked .same ∙ k .verdict
+  pub verdict-is : dayVerdict bytes ≡ record { refusal = j .refusal; block = j .count }
+  verdict-is = sym (verdict-start bytes s (k .at) (k .count) (k .refusal)) ∙ k .wrote .walked .same ∙ k .verdict
 
-  count-is : j .number ≡ 0 → j .count ≡ length (blocksOf bytes)
+  count-is : j .refusal ≡ 0 → j .count ≡ length (blocksOf bytes)
   count-is z =
       sym (ap (λ (v : Verdict). v .block) verdict-is)
-      ∙ judged-count [] 0 (blocksOf bytes) (ap (λ (v : Verdict). v .number) verdict-is ∙ z)
+      ∙ judged-count [] 0 (blocksOf bytes) (ap (λ (v : Verdict). v .refusal) verdict-is ∙ z)
       ∙ zero-add _
 
   -- how long the result is
-  long-is : j .number ≡ 0 → length (dayFile bytes) ≡ endedLength * j .count
+  long-is : j .refusal ≡ 0 → length (dayFile bytes) ≡ endedLength * j .count
   long-is z = length-of (blocksOf bytes) ∙ ap (λ (n : ℕ). endedLength * n) (sym (count-is z))
 
-  pub number-is : (room : ℕ) → j .number then 9 when ltb (room / endedLength) (j .count) ≡ dayNumber bytes room
+  pub number-is : (room : ℕ) → j .refusal then 9 when ltb (room / endedLength) (j .count) ≡ dayNumber bytes room
   unfolding dayNumber
   number-is room =
-      by-test (eqb (j .number) 0) refl
-      ∙ ap (λ (v : Verdict). v .number then 9 when ltb room (length (dayFile bytes))) (sym verdict-is)
+      by-test (eqb (j .refusal) 0) refl
+      ∙ ap (λ (v : Verdict). v .refusal then 9 when ltb room (length (dayFile bytes))) (sym verdict-is)
     where
       fits : (n m : ℕ) → m ≡ endedLength * n → ltb (room / endedLength) n ≡ ltb room m
       fits n m e = by-room (ltb room m) refl
@@ -118,13 +118,10 @@ module _ {bytes : List ℕ} {s b j : State} {kept : List ℕ} (k : Judged bytes 
           by-room true f = lt-ltb _ _ (more (ltb-true _ _ f))
           by-room false f = le-ltb _ _ (less (ltb-false _ _ f))
 
-      by-test : (t : Bool) → eqb (j .number) 0 ≡ t
-          → j .number then 9 when ltb (room / endedLength) (j .count) ≡ j .number then 9 when ltb room (length (dayFile bytes))
-      by-test true f = ap (λ (t : Bool). j .number then 9 when t) (fits (j .count) (length (dayFile bytes)) (long-is (eqb-true _ 0 f)))
-      by-test false f = then-refused _ _ (some (eqb-false _ 0 f)) ∙ sym (then-refused _ _ (some (eqb-false _ 0 f)))
-        where
-          some : {n : ℕ} → (n ≡ 0 → ⊥) → 0 < n
-          some h = omega arith
+      by-test : (t : Bool) → eqb (j .refusal) 0 ≡ t
+          → j .refusal then 9 when ltb (room / endedLength) (j .count) ≡ j .refusal then 9 when ltb room (length (dayFile bytes))
+      by-test true f = ap (λ (t : Bool). j .refusal then 9 when t) (fits (j .count) (length (dayFile bytes)) (long-is (eqb-true _ 0 f)))
+      by-test false f = then-refused _ _ (pos-of-ne-zero (eqb-false _ 0 f)) ∙ sym (then-refused _ _ (pos-of-ne-zero (eqb-false _ 0 f)))
 
   -- a refusal
   pub refused : (file : List ℕ) (number : ℕ) → number ≡ dayNumber bytes (length file) → (number ≡ 0 → ⊥)
@@ -132,7 +129,7 @@ module _ {bytes : List ℕ} {s b j : State} {kept : List ℕ} (k : Judged bytes 
   unfolding dayRule dayAfter
   refused file number e h =
       let no = ne-eqb (dayNumber bytes (length file)) 0 (λ z. h (e ∙ z)) in
-      (rw no (λ i. Written.Refused (e i) (sym verdict-is i .block)), rw no)
+      (rw no (λ i. Written.Refused (e i) (sym verdict-is i .block)), sym (after-refused _ file (λ z. h (e ∙ z))))
 
   -- the blocks are those whose lines are kept and those behind them
   blocks-are : blocksOf bytes ≡ k .wrote .seen ++ left bytes b
@@ -142,16 +139,16 @@ module _ {bytes : List ℕ} {s b j : State} {kept : List ℕ} (k : Judged bytes 
   counted = omega (arith, k .wrote .walked .counted, k .count)
 
   -- no refusal: there is room for all
-  pub accepted : (file : List ℕ) → dayNumber bytes (length file) ≡ 0 → (verdict bytes b .number ≡ 0)
+  pub accepted : (file : List ℕ) → dayNumber bytes (length file) ≡ 0 → (verdict bytes b .refusal ≡ 0)
       × (endedLength * (b .count + length (left bytes b)) ≤ length file)
       × (length (dayFile bytes) ≡ endedLength * j .count)
       × (endedLength * j .count ≤ length file)
   unfolding dayNumber
   accepted file z =
       let t = then-zero _ _ z in
-      let n = sym (ap (λ (v : Verdict). v .number) verdict-is) ∙ t .0 in
+      let n = sym (ap (λ (v : Verdict). v .refusal) verdict-is) ∙ t .0 in
       let room = ltb-false (length file) (length (dayFile bytes)) (when-zero 8 _ (t .1)) in (
-        ap (λ (v : Verdict). v .number) (k .verdict) ∙ n,
+        ap (λ (v : Verdict). v .refusal) (k .verdict) ∙ n,
         omega (arith, room, length-of (blocksOf bytes), counted, ap length blocks-are, length-append (k .wrote .seen) (left bytes b)),
         long-is n,
         omega (arith, room, long-is n),
@@ -173,12 +170,12 @@ module _ {bytes : List ℕ} {s b j : State} {kept : List ℕ} (k : Judged bytes 
   written file after z e =
       let yes = eq-eqb (dayNumber bytes (length file)) 0 z in (
         rw yes (ap Written.Bytes (sym (accepted file z .2))),
-        rw yes
-            (e
+        e
             ∙ ap₂ (λ (t : List ℕ) (n : ℕ). placed (placed file 0 t) n (fileOf (left bytes b))) kept-is behind
             ∙ placed-onto file 0 (fileOf (k .wrote .seen)) (fileOf (left bytes b)) zero-le
             ∙ ap (placed file 0) text-is
-            ∙ placed-first file (dayFile bytes) refl),
+            ∙ placed-first file (dayFile bytes) refl
+            ∙ sym (after-accepted _ file z),
       )
     where
       behind : endedLength * b .count ≡ 0 + length (fileOf (k .wrote .seen))

@@ -7,22 +7,23 @@ use mathlib.Core.List.{List, [], _∷_, _++_, map, map-append, append-nil}
 use Prim.Native.Nat.{ℕ, _+_, _*_, _<_, zero-le}
 use lib.ListN.{length, length-append, length-map}
 use lib.Seq.{take-at, drop-at}
+use Rattle.limits.specs.Limits.{noNumbers}
 use Rattle.limits.specs.Refusal.{_when_, _then_}
 use Rattle.limits.proofs.Laws.{then-zero, then-passed}
 use Rattle.limits.proofs.Replies.{reply-values}
 use Rattle.limits.specs.declared.Numbers.{Numbers}
 use Rattle.labels.specs.declared.Labels.{Labels}
-use Rattle.columns.specs.Text.{lineLength}
+use Rattle.columns.specs.Text.{lineLength, lineEnd}
 use Rattle.columns.specs.Columns.{readLabels, readNumbers}
 use Rattle.columns.proofs.Widths.{line-width}
 use Rattle.hire.specs.Hire.{blockLabels}
 use Rattle.line.specs.Line.{lineAnswer}
-use Rattle.line.specs.Block.{blockNumbers, blockLine, blockAnswer}
+use Rattle.line.specs.Block.{blockNumbers, blockLine, blockNumber}
 use Rattle.line.proofs.AcceptedBlocks.{line-accepts}
 use Rattle.characters.specs.Kinds.{printable}
-use Rattle.reading.specs.Read.{readNumber, noLabels, noNumbers, readRule}
+use Rattle.reading.specs.Read.{readNumber, noLabels, readRule}
 use Rattle.reading.proofs.WrittenLine.{text-reads-back}
-use Rattle.linefile.specs.Files.{endedLength, lines, columnsOf, same, ended, keysOf, keys, lineNumber, joined, lineEnd}
+use Rattle.linefile.specs.Files.{endedLength, lines, columnsOf, same, hasLineEnd, keysOf, keys, endedNumber, joined}
 use Rattle.linefile.proofs.Ascending.{All}
 use Rattle.linefile.proofs.Lines.{Long}
 use Rattle.linefile.proofs.Joined.{lines-joined, length-joined, joined-append}
@@ -30,7 +31,7 @@ use Rattle.day.specs.Day.{blockKeys, endedLine, fileOf}
 
 -- ---- the line of an accepted block
 
-module _ (b : List ℕ) (e : blockAnswer b lineLength ≡ 0) (cl : blockLabels b .cl < 256) where
+module _ (b : List ℕ) (e : blockNumber b ≡ 0) (cl : blockLabels b .cl < 256) where
   line-columns : columnsOf (endedLine b) ≡ blockLine b
   line-columns = take-at (blockLine b) lineEnd lineLength (line-width (blockLabels b) (blockNumbers b))
 
@@ -52,8 +53,8 @@ module _ (b : List ℕ) (e : blockAnswer b lineLength ≡ 0) (cl : blockLabels b
   unfolding keys
   keys-are = ap keysOf labels-are
 
-  pub line-accepted : lineNumber (endedLine b) ≡ 0
-  unfolding lineNumber ended same _when_
+  pub line-accepted : endedNumber (endedLine b) ≡ 0
+  unfolding endedNumber hasLineEnd same _when_
   line-accepted =
       then-passed _ _ (ap readNumber line-columns ∙ line-read .0)
       ∙ ap (λ (t : List ℕ). 13 when not (same t lineEnd)) (drop-at (blockLine b) lineEnd lineLength (line-width (blockLabels b) (blockNumbers b)))

@@ -20,23 +20,23 @@ use Rattle.day.proofs.Cutting.{Sized, blocks-joined, joined-blocks}
 part-blocks : (bs : List (List ℕ)) → All AcceptedBlock bs → blocksOf (joined bs) ≡ bs
 part-blocks bs a = joined-blocks bs (all-map AcceptedBlock Sized (λ b e. sizes-accepted b lineLength e) bs a)
 
-part-accepted : (bs : List (List ℕ)) → All AcceptedBlock bs → Ascends [] bs → dayVerdict (joined bs) .number ≡ 0
+part-accepted : (bs : List (List ℕ)) → All AcceptedBlock bs → Ascends [] bs → dayVerdict (joined bs) .refusal ≡ 0
 part-accepted bs a h =
-    ap (λ (l : List (List ℕ)). judged [] 0 l .number) (part-blocks bs a) ∙ accepted-all [] 0 bs a h
+    ap (λ (l : List (List ℕ)). judged [] 0 l .refusal) (part-blocks bs a) ∙ accepted-all [] 0 bs a h
 
 -- A day whose blocks are some and more, back to back.
 module _ (bytes : List ℕ) (first second : List (List ℕ)) (cut : blocksOf bytes ≡ first ++ second) where
   pub parts-joined : joined first ++ joined second ≡ bytes
   parts-joined = sym (joined-append first second) ∙ ap joined (sym cut) ∙ blocks-joined bytes
 
-  module _ (e : dayVerdict bytes .number ≡ 0) where
+  module _ (e : dayVerdict bytes .refusal ≡ 0) where
     parts : (All AcceptedBlock first × Ascends [] first) × (All AcceptedBlock second × Ascends [] second)
     parts =
-        let a = all-accepted [] 0 (first ++ second) (subst (λ (l : List (List ℕ)). judged [] 0 l .number ≡ 0) cut e) in
+        let a = all-accepted [] 0 (first ++ second) (subst (λ (l : List (List ℕ)). judged [] 0 l .refusal ≡ 0) cut e) in
         apart [] first second (a .0) (a .1)
 
     -- each part is accepted
-    pub parts-accepted : (dayVerdict (joined first) .number ≡ 0) × (dayVerdict (joined second) .number ≡ 0)
+    pub parts-accepted : (dayVerdict (joined first) .refusal ≡ 0) × (dayVerdict (joined second) .refusal ≡ 0)
     parts-accepted = (part-accepted first (parts .0 .0) (parts .0 .1), part-accepted second (parts .1 .0) (parts .1 .1))
 
     -- and their files make its file
@@ -47,7 +47,7 @@ module _ (bytes : List ℕ) (first second : List (List ℕ)) (cut : blocksOf byt
         ∙ ap₂ (λ (x y : List (List ℕ)). fileOf x ++ fileOf y) (sym (part-blocks first (parts .0 .0))) (sym (part-blocks second (parts .1 .0)))
 
 -- Two parts that are accepted, the last block of one being the first of the other.
-module _ (xs : List (List ℕ)) (b : List ℕ) (ys : List (List ℕ)) (e : judged [] 0 (xs ++ b ∷ []) .number ≡ 0) (f : judged [] 0 (b ∷ ys) .number ≡ 0) where
+module _ (xs : List (List ℕ)) (b : List ℕ) (ys : List (List ℕ)) (e : judged [] 0 (xs ++ b ∷ []) .refusal ≡ 0) (f : judged [] 0 (b ∷ ys) .refusal ≡ 0) where
   whole : All AcceptedBlock (xs ++ b ∷ ys) × Ascends [] (xs ++ b ∷ ys)
   whole =
       let p = all-accepted [] 0 (xs ++ b ∷ []) e in
@@ -55,7 +55,7 @@ module _ (xs : List (List ℕ)) (b : List ℕ) (ys : List (List ℕ)) (e : judge
       overlapped [] xs b ys (p .0) (p .1) (q .0) (q .1)
 
   -- all blocks are accepted
-  pub overlap-accepted : dayVerdict (joined (xs ++ b ∷ ys)) .number ≡ 0
+  pub overlap-accepted : dayVerdict (joined (xs ++ b ∷ ys)) .refusal ≡ 0
   overlap-accepted = part-accepted (xs ++ b ∷ ys) (whole .0) (whole .1)
 
   -- and the file is that of the one part, then that of the other without its first line

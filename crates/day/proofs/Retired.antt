@@ -7,7 +7,7 @@ use mathlib.Core.List.{List, [], _∷_, _++_}
 use Prim.Native.Nat.{ℕ, _+_}
 use lib.Dec.{ltb, eqb}
 use lib.ListN.{length, drop}
-use Rattle.limits.specs.Refusal.{_when_, _then_}
+use Rattle.limits.specs.Refusal.{_when_, _then_, after}
 use Rattle.columns.specs.Text.{lineLength}
 use Rattle.linefile.specs.Files.{before}
 use Rattle.line.proofs.Retired.{blockAnswerWith10, block-stays}
@@ -18,22 +18,22 @@ abbrev behindWith10 : (last block : List ℕ) → ℕ
 behindWith10 last b = blockAnswerWith10 b lineLength then 16 when not (before last (blockKeys b))
 
 unfoldable pub judgedWith10 : (last : List ℕ) (index : ℕ) → List (List ℕ) → Verdict
-judgedWith10 last index [] = record { number = 0; block = index }
+judgedWith10 last index [] = record { refusal = 0; block = index }
 judgedWith10 last index (b ∷ rest) =
     cond (eqb (behindWith10 last b) 0)
     (judgedWith10 (blockKeys b) (index + 1) rest)
-    (record { number = behindWith10 last b; block = index })
+    (record { refusal = behindWith10 last b; block = index })
 
 -- What a verdict comes to: the number, the answer, and the lent file afterwards.
 module _ (v : Verdict) (bytes : List ℕ) where
   abbrev numberBy : (room : ℕ) → ℕ
-  numberBy room = v .number then 9 when ltb room (length (dayFile bytes))
+  numberBy room = v .refusal then 9 when ltb room (length (dayFile bytes))
 
   abbrev ruleBy : (room : ℕ) → Written
   ruleBy room = cond (eqb (numberBy room) 0) (Written.Bytes (length (dayFile bytes))) (Written.Refused (numberBy room) (v .block))
 
   abbrev afterBy : (lent : List ℕ) → List ℕ
-  afterBy lent = cond (eqb (numberBy (length lent)) 0) (dayFile bytes ++ drop (length (dayFile bytes)) lent) lent
+  afterBy lent = after (numberBy (length lent)) (dayFile bytes ++ drop (length (dayFile bytes)) lent) lent
 
 abbrev pub dayRuleWith10 : (bytes : List ℕ) (room : ℕ) → Written
 dayRuleWith10 bytes room = ruleBy (judgedWith10 [] 0 (blocksOf bytes)) bytes room
@@ -50,7 +50,7 @@ verdict-stays last index [] = refl
 verdict-stays last index (b ∷ rest) =
     λ i. cond (eqb (behind-stays last b i) 0)
     (verdict-stays (blockKeys b) (index + 1) rest i)
-    (record { number = behind-stays last b i; block = index })
+    (record { refusal = behind-stays last b i; block = index })
 
 pub day-stays : (bytes : List ℕ) (room : ℕ) → dayRuleWith10 bytes room ≡ dayRule bytes room
 unfolding dayRule dayNumber

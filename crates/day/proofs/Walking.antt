@@ -24,6 +24,10 @@ use Rattle.day.proofs.Lines.{length-of, file-none, file-one, file-appen
 
 -- ---- a walk, and one after another
 
+-- where a test finds more than so many bytes from n on, bytes are left
+pub later : {k m n : ℕ} → k < m - n → n < m
+later h = omega arith
+
 pub walked-none : (bytes : List ℕ) (s : State) → Within bytes s → Walked bytes s s []
 walked-none bytes s w = record { within = w; counted = omega arith; cut = refl; same = refl }
 
@@ -38,13 +42,13 @@ walked-on bytes s t r {seen} {more} w v =
 
 -- ---- the verdict from a walk
 
-pub verdict-open : (bytes : List ℕ) (r : State) → r .number ≡ 0 → verdict bytes r ≡ judged (lastKeys (r .count) (r .last)) (r .count) (left bytes r)
+pub verdict-open : (bytes : List ℕ) (r : State) → r .refusal ≡ 0 → verdict bytes r ≡ judged (lastKeys (r .count) (r .last)) (r .count) (left bytes r)
 unfolding verdict
-verdict-open bytes r z = rw (eq-eqb (r .number) 0 z)
+verdict-open bytes r z = rw (eq-eqb (r .refusal) 0 z)
 
-pub verdict-stopped : (bytes : List ℕ) (r : State) → (r .number ≡ 0 → ⊥) → verdict bytes r ≡ record { number = r .number; block = r .count }
+pub verdict-stopped : (bytes : List ℕ) (r : State) → (r .refusal ≡ 0 → ⊥) → verdict bytes r ≡ record { refusal = r .refusal; block = r .count }
 unfolding verdict
-verdict-stopped bytes r h = rw (ne-eqb (r .number) 0 h)
+verdict-stopped bytes r h = rw (ne-eqb (r .refusal) 0 h)
 
 last-some : (n : ℕ) (last : Labels) → lastKeys (n + 1) last ≡ keysOf last
 unfolding lastKeys
@@ -56,12 +60,12 @@ last-some n last = rw (ne-eqb (n + 1) 0 (some n))
 -- ---- one step
 
 pub next-passed : (bytes : List ℕ) (s : State) → nextNumber bytes s ≡ 0
-    → nextState bytes s ≡ record { at = s .at + length (nextBlock bytes s); count = s .count + 1; number = 0; last = blockLabels (nextBlock bytes s) }
+    → nextState bytes s ≡ record { at = s .at + length (nextBlock bytes s); count = s .count + 1; refusal = 0; last = blockLabels (nextBlock bytes s) }
 unfolding nextState
 next-passed bytes s e = rw (eq-eqb (nextNumber bytes s) 0 e)
 
 pub next-refused : (bytes : List ℕ) (s : State) → (nextNumber bytes s ≡ 0 → ⊥)
-    → nextState bytes s ≡ record { at = s .at; count = s .count; number = nextNumber bytes s; last = s .last }
+    → nextState bytes s ≡ record { at = s .at; count = s .count; refusal = nextNumber bytes s; last = s .last }
 unfolding nextState
 next-refused bytes s e = rw (ne-eqb (nextNumber bytes s) 0 e)
 
@@ -86,7 +90,7 @@ take-some l n h k = by-test (leb n (length l)) refl
         lower : length l < n → length l ≤ n
         lower h = omega arith
 
-module _ (bytes : List ℕ) (s : State) (w : Within bytes s) (z : s .number ≡ 0) (h : s .at < length bytes) where
+module _ (bytes : List ℕ) (s : State) (w : Within bytes s) (z : s .refusal ≡ 0) (h : s .at < length bytes) where
   -- what is left are the next block and those behind it
   left-cut : left bytes s ≡ nextBlock bytes s ∷ blocksOf (drop (ownLength (drop (s .at) bytes)) (drop (s .at) bytes))
   left-cut = blocks-cut (drop (s .at) bytes) (rw length-drop (omega arith))
@@ -122,7 +126,7 @@ module _ (bytes : List ℕ) (s : State) (w : Within bytes s) (z : s .number ≡ 
             ∙ ap (judged (lastKeys (s .count) (s .last)) (s .count)) (left-behind r at)
             ∙ judged-passed (lastKeys (s .count) (s .last)) (s .count) (nextBlock bytes s) (left bytes r) e
             ∙ sym
-            (verdict-open bytes r (ap (λ (t : State). t .number) p)
+            (verdict-open bytes r (ap (λ (t : State). t .refusal) p)
             ∙ (λ i. judged (lastKeys (count i) (p i .last)) (count i) (left bytes r))
             ∙ ap (λ (k : List ℕ). judged k (s .count + 1) (left bytes r)) (last-some (s .count) (blockLabels (nextBlock bytes s))));
       }
@@ -133,7 +137,7 @@ module _ (bytes : List ℕ) (s : State) (w : Within bytes s) (z : s .number ≡ 
       let p = f ∙ next-refused bytes s e in
       let at = ap (λ (t : State). t .at) p in
       let count = ap (λ (t : State). t .count) p in
-      let number = ap (λ (t : State). t .number) p in
+      let number = ap (λ (t : State). t .refusal) p in
       record {
         within = record { inside = rw at (w .inside); few = omega (arith, w .few) };
         counted = omega arith;
@@ -142,7 +146,7 @@ module _ (bytes : List ℕ) (s : State) (w : Within bytes s) (z : s .number ≡ 
             verdict-open bytes s z
             ∙ ap (judged (lastKeys (s .count) (s .last)) (s .count)) left-cut
             ∙ judged-refused (lastKeys (s .count) (s .last)) (s .count) (nextBlock bytes s) _ e
-            ∙ (λ i. record { number = sym number i; block = sym count i })
+            ∙ (λ i. record { refusal = sym number i; block = sym count i })
             ∙ sym (verdict-stopped bytes r (λ q. e (sym number ∙ q)));
       }
 
@@ -154,49 +158,49 @@ nothing file at = placed-none file at ∙ ap (placed file at) (sym file-none)
 
 -- what is left to do: each step passes a byte at least, or is the last
 abbrev pub ahead : (bytes : List ℕ) → State → ℕ
-ahead bytes s = length bytes - s .at + cond (eqb (s .number) 0) 1 0
+ahead bytes s = length bytes - s .at + cond (eqb (s .refusal) 0) 1 0
 
 pub record Stepped (bytes : List ℕ) (s r : State) : Type 0 where
   pub seen : List (List ℕ)
   pub walked : Walked bytes s r seen
   pub less : ahead bytes r < ahead bytes s
   pub one : r .count ≤ s .count + 1
-  pub written : (line file after : List ℕ) → (r .number ≡ 0 → line ≡ endedLine (nextBlock bytes s))
-      → after ≡ cond (eqb (r .number) 0) (placed file (endedLength * s .count) line) file
+  pub written : (line file after : List ℕ) → (r .refusal ≡ 0 → line ≡ endedLine (nextBlock bytes s))
+      → after ≡ cond (eqb (r .refusal) 0) (placed file (endedLength * s .count) line) file
       → after ≡ placed file (endedLength * s .count) (fileOf seen)
 
-pub stepped : (bytes : List ℕ) (s r : State) → Within bytes s → s .number ≡ 0 → s .at < length bytes → r ≡ nextState bytes s → Stepped bytes s r
+pub stepped : (bytes : List ℕ) (s r : State) → Within bytes s → s .refusal ≡ 0 → s .at < length bytes → r ≡ nextState bytes s → Stepped bytes s r
 stepped bytes s r w z h f = by-test (eqb (nextNumber bytes s) 0) refl
   where
     by-test : (t : Bool) → eqb (nextNumber bytes s) 0 ≡ t → Stepped bytes s r
     by-test true e =
         let n = eqb-true _ 0 e in
         let p = f ∙ next-passed bytes s n in
-        let number = ap (λ (t : State). t .number) p in
+        let number = ap (λ (t : State). t .refusal) p in
         let k = taken bytes s w z h .some in
         record {
           seen = nextBlock bytes s ∷ [];
           walked = step-passed bytes s w z h n r f;
-          less = rw (eq-eqb (s .number) 0 z, eq-eqb (r .number) 0 number) (omega (arith, ap (λ (t : State). t .at) p, k));
+          less = rw (eq-eqb (s .refusal) 0 z, eq-eqb (r .refusal) 0 number) (omega (arith, ap (λ (t : State). t .at) p, k));
           one = omega (arith, ap (λ (t : State). t .count) p);
           written = λ line file after l a.
               a
-              ∙ ap (λ (b : Bool). cond b (placed file (endedLength * s .count) line) file) (eq-eqb (r .number) 0 number)
+              ∙ ap (λ (b : Bool). cond b (placed file (endedLength * s .count) line) file) (eq-eqb (r .refusal) 0 number)
               ∙ ap (placed file (endedLength * s .count)) (l number ∙ sym (file-one (nextBlock bytes s)));
         }
     by-test false e =
         let n = eqb-false _ 0 e in
         let p = f ∙ next-refused bytes s n in
-        let number = ap (λ (t : State). t .number) p in
-        let no : r .number ≡ 0 → ⊥ = λ q. n (sym number ∙ q) in
+        let number = ap (λ (t : State). t .refusal) p in
+        let no : r .refusal ≡ 0 → ⊥ = λ q. n (sym number ∙ q) in
         record {
           seen = [];
           walked = step-refused bytes s w z h n r f;
-          less = rw (eq-eqb (s .number) 0 z, ne-eqb (r .number) 0 no) (omega (arith, ap (λ (t : State). t .at) p));
+          less = rw (eq-eqb (s .refusal) 0 z, ne-eqb (r .refusal) 0 no) (omega (arith, ap (λ (t : State). t .at) p));
           one = omega (arith, ap (λ (t : State). t .count) p);
           written = λ line file after l a.
               a
-              ∙ ap (λ (b : Bool). cond b (placed file (endedLength * s .count) line) file) (ne-eqb (r .number) 0 no)
+              ∙ ap (λ (b : Bool). cond b (placed file (endedLength * s .count) line) file) (ne-eqb (r .refusal) 0 no)
               ∙ nothing file (endedLength * s .count);
         }
 
@@ -226,16 +230,16 @@ wrote-on bytes s t r lent file after {more} h w v e k =
 
 -- ---- where a walk ends
 
-pub verdict-end : (bytes : List ℕ) (r : State) → goesOn bytes r ≡ false → verdict bytes r ≡ record { number = r .number; block = r .count }
+pub verdict-end : (bytes : List ℕ) (r : State) → goesOn bytes r ≡ false → verdict bytes r ≡ record { refusal = r .refusal; block = r .count }
 unfolding judged
-verdict-end bytes r e = by-test (eqb (r .number) 0) refl
+verdict-end bytes r e = by-test (eqb (r .refusal) 0) refl
   where
-    by-test : (t : Bool) → eqb (r .number) 0 ≡ t → verdict bytes r ≡ record { number = r .number; block = r .count }
+    by-test : (t : Bool) → eqb (r .refusal) 0 ≡ t → verdict bytes r ≡ record { refusal = r .refusal; block = r .count }
     by-test true f =
         let z = eqb-true _ 0 f in
         verdict-open bytes r z
         ∙ ap (judged (lastKeys (r .count) (r .last)) (r .count)) (none-left (passed (ltb-false 0 _ (rw f at e))))
-        ∙ ap (λ (n : ℕ). record { number = n; block = r .count }) (sym z)
+        ∙ ap (λ (n : ℕ). record { refusal = n; block = r .count }) (sym z)
       where
         passed : length bytes - r .at ≤ 0 → length bytes ≤ r .at
         passed h = omega arith

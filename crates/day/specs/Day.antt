@@ -6,14 +6,14 @@ use mathlib.Core.Bool.{cond, not}
 use mathlib.Core.List.{List, [], _∷_, _++_, map}
 use lib.Dec.{ltb, eqb}
 use lib.ListN.{length, take, drop, getD}
-use Rattle.limits.specs.Refusal.{_when_, _then_}
+use Rattle.limits.specs.Refusal.{_when_, _then_, after}
 use Rattle.exact.specs.Accurate.{AccurateTrack}
 use Rattle.exact.specs.Corrected.{steps}
-use Rattle.columns.specs.Text.{lineLength}
+use Rattle.columns.specs.Text.{lineEnd}
 use Rattle.columns.specs.Columns.{readNumbers}
 use Rattle.hire.specs.Hire.{blocksIn, blockLength, blockLabels, blockGiven}
-use Rattle.line.specs.Block.{blockLine, blockAnswer}
-use Rattle.linefile.specs.Files.{lineEnd, keysOf, before, joined, lineAt}
+use Rattle.line.specs.Block.{blockLine, blockNumber}
+use Rattle.linefile.specs.Files.{keysOf, before, joined, lineAt}
 use Rattle.day.specs.declared.Written.{Written}
 
 -- How long the block at the beginning of some bytes is by its own sizes. Where there are fewer bytes, it is cut.
@@ -34,21 +34,21 @@ blocksOf bytes = blocksFrom (length bytes) bytes
 abbrev pub blockKeys : List ℕ → List ℕ
 blockKeys b = keysOf (blockLabels b)
 
--- What a block is refused for behind one with the keys `last`: by Block's order where its line has room, so without 9; then 16.
+-- What a block is refused for behind one with the keys `last`: by Block's order without 9; then 16.
 abbrev pub numberBehind : (last block : List ℕ) → ℕ
-numberBehind last b = blockAnswer b lineLength then 16 when not (before last (blockKeys b))
+numberBehind last b = blockNumber b then 16 when not (before last (blockKeys b))
 
 -- The number of the first block that is refused, and its index; 0 and the number of blocks where none is. `index` is that of the first one given.
 pub record Verdict : Type 0 where
-  pub number : ℕ
+  pub refusal : ℕ
   pub block : ℕ
 
 unfoldable pub judged : (last : List ℕ) (index : ℕ) → List (List ℕ) → Verdict
-judged last index [] = record { number = 0; block = index }
+judged last index [] = record { refusal = 0; block = index }
 judged last index (b ∷ rest) =
     cond (eqb (numberBehind last b) 0)
     (judged (blockKeys b) (index + 1) rest)
-    (record { number = numberBehind last b; block = index })
+    (record { refusal = numberBehind last b; block = index })
 
 -- The verdict on all blocks, counted from 0. No keys stand before the first.
 abbrev pub dayVerdict : List ℕ → Verdict
@@ -70,7 +70,7 @@ dayFile bytes = fileOf (blocksOf bytes)
 
 -- The blocks' refusals, then 9 where the lent file is shorter than the result. `room` is its length.
 unfoldable pub dayNumber : (bytes : List ℕ) (room : ℕ) → ℕ
-dayNumber bytes room = dayVerdict bytes .number then 9 when ltb room (length (dayFile bytes))
+dayNumber bytes room = dayVerdict bytes .refusal then 9 when ltb room (length (dayFile bytes))
 
 -- The answer: how many bytes are written, or the refusal and the block that it names.
 unfoldable pub dayRule : (bytes : List ℕ) (room : ℕ) → Written
@@ -82,7 +82,7 @@ dayRule bytes room =
 -- The lent file afterwards: the result in its first bytes where nothing is refused, and else as it was lent.
 unfoldable pub dayAfter : (bytes lent : List ℕ) → List ℕ
 dayAfter bytes lent =
-    cond (eqb (dayNumber bytes (length lent)) 0) (dayFile bytes ++ drop (length (dayFile bytes)) lent) lent
+    after (dayNumber bytes (length lent)) (dayFile bytes ++ drop (length (dayFile bytes)) lent) lent
 
 -- What is promised of one block, of each: line i of a file is Block's line of block i with its end, and (demand 3 of document 01) the numbers
 -- read back from its columns are accurate for what block i gives.

@@ -27,8 +27,8 @@ nextNumber bytes s = numberBehind (lastKeys (s .count) (s .last)) (nextBlock byt
 unfoldable pub nextState : (bytes : List ℕ) → State → State
 nextState bytes s =
     cond (eqb (nextNumber bytes s) 0)
-    (record { at = s .at + length (nextBlock bytes s); count = s .count + 1; number = 0; last = blockLabels (nextBlock bytes s) })
-    (record { at = s .at; count = s .count; number = nextNumber bytes s; last = s .last })
+    (record { at = s .at + length (nextBlock bytes s); count = s .count + 1; refusal = 0; last = blockLabels (nextBlock bytes s) })
+    (record { at = s .at; count = s .count; refusal = nextNumber bytes s; last = s .last })
 
 -- A walk is within the bytes, and has passed no more blocks than bytes.
 pub record Within (bytes : List ℕ) (s : State) : Type 0 where
@@ -41,9 +41,9 @@ left bytes s = blocksOf (drop (s .at) bytes)
 
 unfoldable pub verdict : (bytes : List ℕ) → State → Verdict
 verdict bytes s =
-    cond (eqb (s .number) 0)
+    cond (eqb (s .refusal) 0)
     (judged (lastKeys (s .count) (s .last)) (s .count) (left bytes s))
-    (record { number = s .number; block = s .count })
+    (record { refusal = s .refusal; block = s .count })
 
 -- From one state a walk has come to another: it has seen some blocks, all accepted, and the verdict is the same.
 pub record Walked (bytes : List ℕ) (s r : State) (seen : List (List ℕ)) : Type 0 where
@@ -54,7 +54,7 @@ pub record Walked (bytes : List ℕ) (s r : State) (seen : List (List ℕ)) : Ty
 
 -- It goes on where nothing is refused and bytes are left.
 abbrev pub goesOn : (bytes : List ℕ) → State → Bool
-goesOn bytes s = eqb (s .number) 0 && ltb 0 (length bytes - s .at)
+goesOn bytes s = eqb (s .refusal) 0 && ltb 0 (length bytes - s .at)
 
 -- The same with the lines of the blocks written, each in its place, as far as there was room.
 pub record Wrote (bytes : List ℕ) (s r : State) (lent file : List ℕ) : Type 0 where

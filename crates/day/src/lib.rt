@@ -9,10 +9,10 @@ ghost use Rattle.day.specs.Day.{dayRule, dayAfter, LinesOfDay, AccurateD
 ghost use Rattle.day.specs.Answers.{writtenNumber, writtenBytes, writtenBlock};
 use limits::then;
 use limits::when;
+use linefile::LINE;
 
 mod walk;
 
-const LINE: usize = 115;
 // How many lines are kept: of a few blocks, of some, and of more. docs/DECISIONS.md says why.
 const FEW: usize = 32;
 
@@ -57,7 +57,7 @@ fn run(blocks: &[u8], kept: &mut [u8], file: &mut [u8]) -> Written
     let begun = walk::write(blocks, walk::start(blocks), kept);
     let judged = walk::judge(blocks, begun);
     let count = judged.count;
-    let number = then(judged.number, when(9, file.len() / LINE < count));
+    let number = then(judged.refusal, when(9, file.len() / LINE < count));
     if number != 0 {
         return Written::Refused {
             number,

@@ -11,30 +11,30 @@ ghost use Rattle.line.specs.Block.{blockLine};
 ghost use Rattle.linefile.specs.Files.{endedLength, keysOf, before};
 ghost use Rattle.day.specs.Day.{ownLength, numberBehind, fileOf};
 ghost use Rattle.day.specs.Walk.{lastKeys, nextBlock, nextState, Within, Wrote, goesOn, left, verdict};
+use columns::LINE_LENGTH;
 use labels::Labels;
 use lent::put;
 use limits::then;
 use limits::when;
-
-const LINE: usize = 115;
+use linefile::LINE;
 
 // Where a walk stands: at a byte, behind so many blocks, the last one with these labels; or stopped there by a refusal.
 pub struct State {
     pub at: usize,
     pub count: usize,
-    pub number: u32,
+    pub refusal: u32,
     pub last: Labels,
 }
 
 // Before the first block. No labels are compared there, so any will do.
 pub fn start(blocks: &[u8]) -> State
-    ensures { λ r. ⌜ (r .at ≡ 0) × (r .count ≡ 0) × (r .number ≡ 0) ⌝ }
+    ensures { λ r. ⌜ (r .at ≡ 0) × (r .count ≡ 0) × (r .refusal ≡ 0) ⌝ }
 {
     let last = hire::labels(blocks);
     State {
         at: 0,
         count: 0,
-        number: 0,
+        refusal: 0,
         last,
     }
 }
@@ -76,7 +76,7 @@ fn step(blocks: &[u8], from: State, lent: &mut [u8]) -> State
     requires { ⌜ from .at < length (now blocks) ⌝ }
     requires { ⌜ lineLength ≤ length (now lent) ⌝ }
     ensures { λ r. ⌜ r ≡ nextState (now (blocks .entry)) from ⌝ }
-    ensures { λ r. ⌜ (r .number ≡ 0 → now (lent .exit) ≡ blockLine (nextBlock (now (blocks .entry)) from) ++ drop lineLength (now (lent .entry))) ⌝ }
+    ensures { λ r. ⌜ (r .refusal ≡ 0 → now (lent .exit) ≡ blockLine (nextBlock (now (blocks .entry)) from) ++ drop lineLength (now (lent .entry))) ⌝ }
     ensures { λ _. ⌜ drop lineLength (now (lent .exit)) ≡ drop lineLength (now (lent .entry)) ⌝ }
 {
     let at = from.at;
@@ -90,7 +90,7 @@ fn step(blocks: &[u8], from: State, lent: &mut [u8]) -> State
         return State {
             at,
             count,
-            number,
+            refusal: number,
             last,
         };
     }
@@ -98,7 +98,7 @@ fn step(blocks: &[u8], from: State, lent: &mut [u8]) -> State
     State {
         at: at + n,
         count: count + 1,
-        number: 0,
+        refusal: 0,
         last: labels,
     }
 }
@@ -106,11 +106,11 @@ fn step(blocks: &[u8], from: State, lent: &mut [u8]) -> State
 // The rest of the walk, with no line kept.
 pub fn judge(blocks: &[u8], from: State) -> State
     requires { ⌜ Within (now blocks) from ⌝ }
-    ensures { λ r. ⌜ verdict (now (blocks .entry)) from ≡ record { number = r .number; block = r .count } ⌝ }
+    ensures { λ r. ⌜ verdict (now (blocks .entry)) from ≡ record { refusal = r .refusal; block = r .count } ⌝ }
 {
     let mut line = [0u8; LINE];
     let mut state = from;
-    while (state.number == 0) & (0 < blocks.len() - state.at) {
+    while (state.refusal == 0) & (0 < blocks.len() - state.at) {
         state = step(blocks, state, &mut line);
     }
     state
@@ -136,13 +136,13 @@ pub fn write(blocks: &[u8], from: State, file: &mut [u8]) -> State
 {
     let room = file.len() / LINE;
     // Block writes the columns alone, so that the line's end behind them stays.
-    let mut line = [10u8; LINE];
-    line[113] = 13;
+    let mut line = [b'\n'; LINE];
+    line[LINE_LENGTH] = b'\r';
     let mut state = from;
-    while (state.number == 0) & (0 < blocks.len() - state.at) & (state.count < room) {
+    while (state.refusal == 0) & (0 < blocks.len() - state.at) & (state.count < room) {
         let count = state.count;
         let next = step(blocks, state, &mut line);
-        keep(next.number, &line, file, count);
+        keep(next.refusal, &line, file, count);
         state = next;
     }
     state
@@ -151,7 +151,7 @@ pub fn write(blocks: &[u8], from: State, file: &mut [u8]) -> State
 // The lines that are kept, then those of the blocks behind them.
 pub fn finish(blocks: &[u8], begun: State, kept: &[u8], file: &mut [u8])
     requires { ⌜ Within (now blocks) begun ⌝ }
-    requires { ⌜ verdict (now blocks) begun .number ≡ 0 ⌝ }
+    requires { ⌜ verdict (now blocks) begun .refusal ≡ 0 ⌝ }
     requires { ⌜ endedLength * begun .count ≤ length (now kept) ⌝ }
     requires { ⌜ endedLength * (begun .count + length (left (now blocks) begun)) ≤ length (now file) ⌝ }
     ensures { λ _. ⌜ now (file .exit) ≡ placed (placed (now (file .entry)) 0 (take (endedLength * begun .count) (now (kept .entry))))
@@ -164,7 +164,7 @@ pub fn finish(blocks: &[u8], begun: State, kept: &[u8], file: &mut [u8])
     let rest = State {
         at: begun.at,
         count: begun.count,
-        number: begun.number,
+        refusal: begun.refusal,
         last,
     };
     write(blocks, rest, file);

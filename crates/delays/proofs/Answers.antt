@@ -9,23 +9,19 @@ use native.Mathlib.Omega.{arith}
 use lib.Dec.{leb, eqb}
 use lib.IntN.{ℤ}
 use lib.ListN.{length, drop}
-use borrow.Author.Tests.{eqb-true, eqb-false, ne-eqb, ltb-false, not-false}
+use borrow.Author.Tests.{eqb-true, ne-eqb, ltb-false, not-false}
 use Rattle.limits.specs.Refusal.{_when_, _then_}
 use Rattle.limits.specs.Reply.{Reply, reply}
 use Rattle.limits.specs.Limits.{delayLimit}
 use Rattle.limits.specs.Lists.{anyBeyond}
-use Rattle.limits.proofs.Laws.{then-zero, then-refused, when-zero, or-false}
-use Rattle.limits.proofs.Replies.{reply-accepted, reply-refused, reply-number, reply-values}
+use Rattle.limits.proofs.Laws.{then-zero, then-refused, when-zero, or-false, after-accepted, after-refused}
+use Rattle.limits.proofs.Replies.{reply-refused, reply-number, reply-values}
 use Rattle.delays.specs.Store.{version, count, groupWidth, storeLength, start, delays, rising, storeNumber}
 use Rattle.delays.specs.Lookup.{inForce, setInForce, lookupNumber, noSet, lookupRule}
 use Rattle.delays.specs.Append.{longerStore, appendNumber, appendRule, appendAfter}
 use Rattle.delays.specs.Answers.{delaysReply, delaysNumbered, appendReply, appendNumbered}
 use Rattle.delays.specs.declared.Delays.{Delays}
 use Rattle.delays.specs.declared.Appended.{Appended}
-
--- a number that is not 0
-pub some : {n : ℕ} → (n ≡ 0 → ⊥) → 0 < n
-some h = omega arith
 
 pub in-force-most : (start : ℕ → ℕ) (mjd n : ℕ) → inForce start mjd n ≤ n
 unfolding inForce
@@ -89,7 +85,7 @@ module _ (s : List ℕ) (mjd : ℕ) (int cab refdly gd : ℤ) (lent : List ℕ) 
   unfolding appendRule appendAfter
   append-refused {number} e h = (
     sym (ap (λ (n : ℕ). reply 0 n (storeLength (version s) (suc (count s)))) (sym e) ∙ reply-refused 0 (storeLength (version s) (suc (count s))) h),
-    sym (simp (ne-eqb (appendNumber s mjd int cab refdly gd (length lent)) 0 (other e h))),
+    sym (after-refused _ lent (other e h)),
   )
     where
       other : {m n : ℕ} → m ≡ n → 0 < m → n ≡ 0 → ⊥
@@ -99,7 +95,7 @@ module _ (s : List ℕ) (mjd : ℕ) (int cab refdly gd : ℤ) (lent : List ℕ) 
       → (record { number = 0; values = storeLength (version s) (suc (count s)) } ≡ appendRule s mjd int cab refdly gd (length lent))
       × (longerStore s mjd int cab refdly gd ++ drop (storeLength (version s) (suc (count s))) lent ≡ appendAfter s mjd int cab refdly gd lent)
   unfolding appendRule appendAfter
-  append-done e = (rw e, rw e)
+  append-done e = (rw e, sym (after-accepted _ lent e))
 
   -- what an accepted append tells
   pub append-room : appendNumber s mjd int cab refdly gd (length lent) ≡ 0 → (storeNumber s ≡ 0) × (storeLength (version s) (suc (count s)) ≤ length lent)

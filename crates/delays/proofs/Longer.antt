@@ -11,7 +11,7 @@ use mir.Syntax.{w64}
 use mir.Val.{SFits}
 use Rattle.decode.specs.Number.{unsignedAt, twosComplement, signedAt}
 use Rattle.decode.proofs.Rows.{unsigned-before, unsigned-piece, unsigned-take, unsigned-drop}
-use Rattle.encode.specs.Encode.{bytesOf, patternOf}
+use Rattle.encode.specs.Encode.{littleBytes, patternOf}
 use Rattle.encode.proofs.Bytes.{length-bytes}
 use Rattle.encode.proofs.RoundTrip.{unsigned-bytes, signed-bytes}
 use Rattle.delays.specs.Store.{version, count, groupWidth, start, groups}
@@ -29,10 +29,10 @@ pub group-at : (zs : List ℤ) → AllFit zs → (j : ℕ) → j < length zs →
 unfolding groupBytes signedAt
 group-at [] f j h = absurd (not-suc-le-zero h)
 group-at (z ∷ zs) (more f fs) zero h =
-    ap twosComplement (unsigned-before 8 (bytesOf 8 (patternOf z)) (groupBytes zs) 0 (omega (arith, length-bytes 8 (patternOf z)))) ∙ signed-bytes z f
+    ap twosComplement (unsigned-before 8 (littleBytes 8 (patternOf z)) (groupBytes zs) 0 (omega (arith, length-bytes 8 (patternOf z)))) ∙ signed-bytes z f
 group-at (z ∷ zs) (more f fs) (suc j) h =
-    ap (λ (m : ℕ). twosComplement (unsignedAt 8 (bytesOf 8 (patternOf z) ++ groupBytes zs) m)) (next j)
-    ∙ ap twosComplement (unsigned-piece 8 (bytesOf 8 (patternOf z)) (groupBytes zs) (8 * j) (length-bytes 8 (patternOf z)))
+    ap (λ (m : ℕ). twosComplement (unsignedAt 8 (littleBytes 8 (patternOf z) ++ groupBytes zs) m)) (next j)
+    ∙ ap twosComplement (unsigned-piece 8 (littleBytes 8 (patternOf z)) (groupBytes zs) (8 * j) (length-bytes 8 (patternOf z)))
     ∙ group-at zs fs j (le-of-suc-le-suc h)
   where
     next : (j : ℕ) → 8 * suc j ≡ 8 + 8 * j
@@ -42,7 +42,7 @@ group-at (z ∷ zs) (more f fs) (suc j) h =
 
 module _ (s : List ℕ) (long : 4 + 4 * count s ≤ length s) (mjd : ℕ) where
   abbrev head : List ℕ
-  head = take 2 s ++ bytesOf 2 (suc (count s))
+  head = take 2 s ++ littleBytes 2 (suc (count s))
 
   abbrev old : List ℕ
   old = take (4 * count s) (drop 4 s)
@@ -53,7 +53,7 @@ module _ (s : List ℕ) (long : 4 + 4 * count s ≤ length s) (mjd : ℕ) where
   -- a number of the head and the old dates
   dates-front : (width at : ℕ) → at + width ≤ 4 + 4 * count s → unsignedAt width (longerDates s mjd) at ≡ unsignedAt width (head ++ old) at
   unfolding longerDates
-  dates-front width at h = unsigned-before width (head ++ old) (bytesOf 4 mjd) at (omega (arith, head-old))
+  dates-front width at h = unsigned-before width (head ++ old) (littleBytes 4 mjd) at (omega (arith, head-old))
 
   head-front : (width at : ℕ) → at + width ≤ 4 → unsignedAt width (longerDates s mjd) at ≡ unsignedAt width head at
   head-front width at h = dates-front width at (omega arith) ∙ unsigned-before width head old at (omega (arith, two-long s (count s) refl long))
@@ -61,13 +61,13 @@ module _ (s : List ℕ) (long : 4 + 4 * count s ≤ length s) (mjd : ℕ) where
   dates-version : unsignedAt 2 (longerDates s mjd) 0 ≡ version s
   dates-version =
       head-front 2 0 (omega arith)
-      ∙ unsigned-before 2 (take 2 s) (bytesOf 2 (suc (count s))) 0 (omega (arith, two s (count s) refl long))
+      ∙ unsigned-before 2 (take 2 s) (littleBytes 2 (suc (count s))) 0 (omega (arith, two s (count s) refl long))
       ∙ unsigned-take 2 2 s 0 (omega arith) (omega arith)
 
   dates-count : suc (count s) < 65536 → unsignedAt 2 (longerDates s mjd) 2 ≡ suc (count s)
   dates-count h =
       head-front 2 2 (omega arith)
-      ∙ unsigned-piece 2 (take 2 s) (bytesOf 2 (suc (count s))) 0 (two s (count s) refl long)
+      ∙ unsigned-piece 2 (take 2 s) (littleBytes 2 (suc (count s))) 0 (two s (count s) refl long)
       ∙ unsigned-bytes 2 (suc (count s)) h
 
   dates-start : (k : ℕ) → k < count s → unsignedAt 4 (longerDates s mjd) (4 + 4 * k) ≡ unsignedAt 4 s (4 + 4 * k)
@@ -80,8 +80,8 @@ module _ (s : List ℕ) (long : 4 + 4 * count s ≤ length s) (mjd : ℕ) where
   dates-new : mjd < 4294967296 → unsignedAt 4 (longerDates s mjd) (4 + 4 * count s) ≡ mjd
   unfolding longerDates
   dates-new h =
-      ap (unsignedAt 4 (head ++ old ++ bytesOf 4 mjd)) (omega arith)
-      ∙ unsigned-piece 4 (head ++ old) (bytesOf 4 mjd) 0 head-old
+      ap (unsignedAt 4 (head ++ old ++ littleBytes 4 mjd)) (omega arith)
+      ∙ unsigned-piece 4 (head ++ old) (littleBytes 4 mjd) 0 head-old
       ∙ unsigned-bytes 4 mjd h
 
   module _ (int cab refdly gd : ℤ) where

@@ -14,7 +14,7 @@ use Rattle.limits.specs.Reply.{Reply}
 use Rattle.limits.specs.Limits.{outside}
 use Rattle.limits.specs.Lists.{anyOutside}
 use Rattle.decode.specs.Number.{little, unsignedAt, twosComplement, signedAt, signedsAt}
-use Rattle.encode.specs.Encode.{bytesOf, patternOf}
+use Rattle.encode.specs.Encode.{littleBytes, patternOf}
 use Rattle.delays.specs.Store.{version, count, groupWidth, storeLength, start, delay, delays, later, rising, storeNumber}
 use Rattle.delays.specs.Lookup.{inForce, setOf, noSet, lookupNumber, lookupRule}
 use Rattle.delays.specs.Append.{groupBytes, longerDates, longerGroups, longerStore, appendNumber, appendRule, appendAfter}
@@ -130,5 +130,5 @@ unfolding lookupRule lookupNumber storeNumber storeLength start delays delay ris
 one-entry = refl
 
 pub one-appended : longerStore (1 ∷ 0 ∷ 0 ∷ 0 ∷ []) 60000 (negsuc 4) (pos 6) (negsuc 6) (pos 0) ≡ oneEntry
-unfolding longerStore longerDates longerGroups groupBytes bytesOf patternOf groupWidth unsignedAt little
+unfolding longerStore longerDates longerGroups groupBytes littleBytes patternOf groupWidth unsignedAt little
 one-appended = refl

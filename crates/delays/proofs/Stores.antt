@@ -1,7 +1,7 @@
 -- What lies where in a store (specs/Store.antt), and the entry in force (specs/Lookup.antt), step by step.
 -- Assumes nothing.
 use mathlib.Core.Path.{_≡_, refl, sym, ap, ap₂, _∙_}
-use mathlib.Core.Bool.{Bool, true, false, cond, _&&_, _||_, or-assoc}
+use mathlib.Core.Bool.{Bool, true, false, cond, _&&_, _||_, or-assoc, or-false}
 use mathlib.Core.List.{List, [], _∷_}
 use Prim.Native.Nat.{ℕ, zero, suc, _+_, _*_, _-_, _≤_, _<_}
 use native.Mathlib.Nat.{not-suc-le-zero, mul-le-mul}
@@ -142,14 +142,10 @@ module _ (s : List ℕ) (at n i : ℕ) (found : Bool) where
 
   pub beyond-done : n ≤ i → found || anyBeyond delayLimit (signedsAt s (at + 8 * i) 8 (n - i)) ≡ found
   unfolding signedsAt anyOutside
-  beyond-done h = ap (λ (m : ℕ). found || anyBeyond delayLimit (signedsAt s (at + 8 * i) 8 m)) (none h) ∙ or-false' found
+  beyond-done h = ap (λ (m : ℕ). found || anyBeyond delayLimit (signedsAt s (at + 8 * i) 8 m)) (none h) ∙ or-false found
     where
       none : n ≤ i → n - i ≡ 0
       none h = omega arith
-
-      or-false' : (b : Bool) → b || false ≡ b
-      or-false' true = refl
-      or-false' false = refl
 
 -- ---- the set of an entry
 

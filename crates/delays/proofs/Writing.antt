@@ -10,7 +10,7 @@ use lib.ListN.{length, take, drop, length-append, length-drop}
 use lib.Seq.{length-take-le}
 use Rattle.lent.specs.Placed.{placed, placedWithin}
 use Rattle.lent.proofs.Placing.{within, placed-onto, placed-behind, length-placed, rest-part}
-use Rattle.encode.specs.Encode.{bytesOf, patternOf}
+use Rattle.encode.specs.Encode.{littleBytes, patternOf}
 use Rattle.encode.proofs.Bytes.{length-bytes}
 use Rattle.delays.specs.Append.{groupBytes, longerDates, longerGroups, longerStore}
 use Rattle.delays.specs.Store.{version, count, groupWidth, groups}
@@ -19,29 +19,29 @@ use Rattle.delays.proofs.Stores.{four-wide}
 pub length-group : (zs : List ℤ) → length (groupBytes zs) ≡ 8 * length zs
 unfolding groupBytes
 length-group [] = refl
-length-group (z ∷ zs) = length-append (bytesOf 8 (patternOf z)) (groupBytes zs) ∙ ap₂ _+_ (length-bytes 8 (patternOf z)) (length-group zs) ∙ more (length zs)
+length-group (z ∷ zs) = length-append (littleBytes 8 (patternOf z)) (groupBytes zs) ∙ ap₂ _+_ (length-bytes 8 (patternOf z)) (length-group zs) ∙ more (length zs)
   where
     more : (n : ℕ) → 8 + 8 * n ≡ 8 * suc n
     more n = omega arith
 
-group-more : (zs : List ℤ) (z : ℤ) → groupBytes zs ++ bytesOf 8 (patternOf z) ≡ groupBytes (zs ++ z ∷ [])
+group-more : (zs : List ℤ) (z : ℤ) → groupBytes zs ++ littleBytes 8 (patternOf z) ≡ groupBytes (zs ++ z ∷ [])
 unfolding groupBytes
-group-more [] z = sym (append-nil (bytesOf 8 (patternOf z)))
-group-more (y ∷ zs) z = append-assoc (bytesOf 8 (patternOf y)) (groupBytes zs) (bytesOf 8 (patternOf z)) ∙ ap (λ (x : List ℕ). bytesOf 8 (patternOf y) ++ x) (group-more zs z)
+group-more [] z = sym (append-nil (littleBytes 8 (patternOf z)))
+group-more (y ∷ zs) z = append-assoc (littleBytes 8 (patternOf y)) (groupBytes zs) (littleBytes 8 (patternOf z)) ∙ ap (λ (x : List ℕ). littleBytes 8 (patternOf y) ++ x) (group-more zs z)
 
 -- the first delay, and one behind others; y is what the machine has for z
 module _ (d : List ℕ) (at : ℕ) (room : at ≤ length d) where
-  pub first-delay : {d₁ : List ℕ} {y z : ℤ} → d₁ ≡ placed d at (bytesOf 8 (patternOf y)) → y ≡ z → d₁ ≡ placed d at (groupBytes (z ∷ []))
+  pub first-delay : {d₁ : List ℕ} {y z : ℤ} → d₁ ≡ placed d at (littleBytes 8 (patternOf y)) → y ≡ z → d₁ ≡ placed d at (groupBytes (z ∷ []))
   unfolding groupBytes
-  first-delay {z = z} e g = e ∙ ap (λ (x : ℤ). placed d at (bytesOf 8 (patternOf x))) g ∙ ap (placed d at) (group-more [] z)
+  first-delay {z = z} e g = e ∙ ap (λ (x : ℤ). placed d at (littleBytes 8 (patternOf x))) g ∙ ap (placed d at) (group-more [] z)
 
-  pub next-delay : {d₁ d₂ : List ℕ} (zs : List ℤ) {y z : ℤ} → d₁ ≡ placed d at (groupBytes zs) → d₂ ≡ placed d₁ (at + 8 * length zs) (bytesOf 8 (patternOf y)) → y ≡ z
+  pub next-delay : {d₁ d₂ : List ℕ} (zs : List ℤ) {y z : ℤ} → d₁ ≡ placed d at (groupBytes zs) → d₂ ≡ placed d₁ (at + 8 * length zs) (littleBytes 8 (patternOf y)) → y ≡ z
       → d₂ ≡ placed d at (groupBytes (zs ++ z ∷ []))
   next-delay {d₁} zs {z = z} e f g =
       f
-      ∙ ap (λ (x : ℤ). placed d₁ (at + 8 * length zs) (bytesOf 8 (patternOf x))) g
-      ∙ ap₂ (λ (x : List ℕ) (n : ℕ). placed x (at + n) (bytesOf 8 (patternOf z))) e (sym (length-group zs))
-      ∙ placed-onto d at (groupBytes zs) (bytesOf 8 (patternOf z)) room
+      ∙ ap (λ (x : ℤ). placed d₁ (at + 8 * length zs) (littleBytes 8 (patternOf x))) g
+      ∙ ap₂ (λ (x : List ℕ) (n : ℕ). placed x (at + n) (littleBytes 8 (patternOf z))) e (sym (length-group zs))
+      ∙ placed-onto d at (groupBytes zs) (littleBytes 8 (patternOf z)) room
       ∙ ap (placed d at) (group-more zs z)
 
 -- ---- the pieces of the longer store
@@ -56,29 +56,29 @@ module _ (s : List ℕ) (n : ℕ) (counted : n ≡ count s) (long : 4 + 4 * n �
   pub dates-long : length dates ≡ 4 * n
   dates-long = length-take-le (4 * count s) (drop 4 s) (rw (← counted, length-drop) (omega arith)) ∙ ap (λ (m : ℕ). 4 * m) (sym counted)
 
-  pub two-long : length (take 2 s ++ bytesOf 2 (suc (count s))) ≡ 4
-  two-long = length-append (take 2 s) (bytesOf 2 (suc (count s))) ∙ ap₂ _+_ two (length-bytes 2 (suc (count s)))
+  pub two-long : length (take 2 s ++ littleBytes 2 (suc (count s))) ≡ 4
+  two-long = length-append (take 2 s) (littleBytes 2 (suc (count s))) ∙ ap₂ _+_ two (length-bytes 2 (suc (count s)))
 
-  pub three-long : length (take 2 s ++ bytesOf 2 (suc (count s)) ++ dates) ≡ 4 + 4 * n
-  three-long = length-append (take 2 s ++ bytesOf 2 (suc (count s))) dates ∙ ap₂ _+_ two-long dates-long
+  pub three-long : length (take 2 s ++ littleBytes 2 (suc (count s)) ++ dates) ≡ 4 + 4 * n
+  three-long = length-append (take 2 s ++ littleBytes 2 (suc (count s))) dates ∙ ap₂ _+_ two-long dates-long
 
   pub length-dates : (mjd : ℕ) → length (longerDates s mjd) ≡ 4 + 4 * n + 4
   unfolding longerDates
-  length-dates mjd = length-append (take 2 s ++ bytesOf 2 (suc (count s)) ++ dates) (bytesOf 4 mjd) ∙ ap₂ _+_ three-long (length-bytes 4 mjd)
+  length-dates mjd = length-append (take 2 s ++ littleBytes 2 (suc (count s)) ++ dates) (littleBytes 4 mjd) ∙ ap₂ _+_ three-long (length-bytes 4 mjd)
 
-  pub dates-written : (mjd : ℕ) (d : List ℕ) → 8 + 4 * n ≤ length d → {d₁ d₂ d₃ d₄ : List ℕ} → d₁ ≡ placedWithin d 0 (take 2 s) → d₂ ≡ placed d₁ 2 (bytesOf 2 (n + 1))
-      → d₃ ≡ placedWithin d₂ 4 (take (4 + 4 * n - 4) (drop 4 s)) → d₄ ≡ placed d₃ (4 + 4 * n) (bytesOf 4 mjd) → d₄ ≡ placed d 0 (longerDates s mjd)
+  pub dates-written : (mjd : ℕ) (d : List ℕ) → 8 + 4 * n ≤ length d → {d₁ d₂ d₃ d₄ : List ℕ} → d₁ ≡ placedWithin d 0 (take 2 s) → d₂ ≡ placed d₁ 2 (littleBytes 2 (n + 1))
+      → d₃ ≡ placedWithin d₂ 4 (take (4 + 4 * n - 4) (drop 4 s)) → d₄ ≡ placed d₃ (4 + 4 * n) (littleBytes 4 mjd) → d₄ ≡ placed d 0 (longerDates s mjd)
   unfolding longerDates
   dates-written mjd d room {d₁ = d₁} {d₂ = d₂} e f g h =
-      let first : d₂ ≡ placed d 0 (take 2 s ++ b) = placed-behind d (take 2 s) b two (e ∙ within d 0 (take 2 s) (omega (arith, two))) (f ∙ ap (λ (m : ℕ). placed d₁ 2 (bytesOf 2 m)) more) in
+      let first : d₂ ≡ placed d 0 (take 2 s ++ b) = placed-behind d (take 2 s) b two (e ∙ within d 0 (take 2 s) (omega (arith, two))) (f ∙ ap (λ (m : ℕ). placed d₁ 2 (littleBytes 2 m)) more) in
       let long₂ : length d₂ ≡ length d = ap length first ∙ length-placed d 0 (take 2 s ++ b) (omega (arith, two-long)) in
-      placed-behind d ((take 2 s ++ b) ++ dates) (bytesOf 4 mjd) three-long
+      placed-behind d ((take 2 s ++ b) ++ dates) (littleBytes 4 mjd) three-long
       (placed-behind d (take 2 s ++ b) dates two-long first
       (g ∙ ap (λ (m : ℕ). placedWithin d₂ 4 (take m (drop 4 s))) less ∙ within d₂ 4 dates (omega (arith, long₂, dates-long))))
       h
     where
       b : List ℕ
-      b = bytesOf 2 (suc (count s))
+      b = littleBytes 2 (suc (count s))
 
       more : n + 1 ≡ suc (count s)
       more = add-one n ∙ ap suc counted

@@ -4,7 +4,7 @@ ghost use Prim.Native.Nat.{_+_, _*_, _<_, _≤_};
 ghost use mathlib.Core.List.{[], _∷_};
 ghost use lib.ListN.{length, take};
 ghost use Rattle.lent.specs.Placed.{placed};
-ghost use Rattle.encode.specs.Encode.{bytesOf, patternOf};
+ghost use Rattle.encode.specs.Encode.{littleBytes, patternOf};
 ghost use Rattle.decode.specs.Number.{unsignedAt};
 ghost use Rattle.delays.specs.Store.{count, groupWidth};
 ghost use Rattle.delays.specs.Append.{groupBytes, longerDates, longerStore};
@@ -13,7 +13,7 @@ use lent::put;
 // Puts so many bytes of a number into a lent buffer, from an offset on.
 fn put_number(value: u64, width: usize, file: &mut [u8], at: usize)
     requires { ⌜ at + width ≤ length (now file) ⌝ }
-    ensures { λ _. ⌜ now (file .exit) ≡ placed (now (file .entry)) at (bytesOf width value) ⌝ }
+    ensures { λ _. ⌜ now (file .exit) ≡ placed (now (file .entry)) at (littleBytes width value) ⌝ }
 {
     let end = at + width;
     encode::unsigned(value, &mut file[at..end]);
@@ -22,7 +22,7 @@ fn put_number(value: u64, width: usize, file: &mut [u8], at: usize)
 // Puts a delay into a lent buffer, from an offset on.
 fn put_delay(value: i64, file: &mut [u8], at: usize)
     requires { ⌜ at + 8 ≤ length (now file) ⌝ }
-    ensures { λ _. ⌜ now (file .exit) ≡ placed (now (file .entry)) at (bytesOf 8 (patternOf value)) ⌝ }
+    ensures { λ _. ⌜ now (file .exit) ≡ placed (now (file .entry)) at (littleBytes 8 (patternOf value)) ⌝ }
 {
     put_number(encode::pattern(value), 8, file, at);
 }

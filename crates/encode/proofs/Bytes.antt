@@ -12,22 +12,22 @@ use lib.Signed.{ltZ}
 use lib.ListN.{length, take, set}
 use lib.Seq.{take-suc-set, append-snoc, take-all}
 use borrow.Author.Tests.{ltb-true}
-use Rattle.encode.specs.Encode.{bytesOf, patternOf}
+use Rattle.encode.specs.Encode.{littleBytes, patternOf}
 
-pub length-bytes : (width n : ℕ) → length (bytesOf width n) ≡ width
-unfolding bytesOf
+pub length-bytes : (width n : ℕ) → length (littleBytes width n) ≡ width
+unfolding littleBytes
 length-bytes zero n = refl
 length-bytes (suc width) n = ap suc (length-bytes width (n / 256))
 
 -- ---- a writer's turn
 
 pub bytes-turn : (out : List ℕ) (n i rest : ℕ) → i < length out → length out ≡ n
-    → take i out ++ bytesOf (n - i) rest ≡ take (i + 1) (set out i (rest % 256)) ++ bytesOf (n - (i + 1)) (rest / 256)
-unfolding bytesOf
+    → take i out ++ littleBytes (n - i) rest ≡ take (i + 1) (set out i (rest % 256)) ++ littleBytes (n - (i + 1)) (rest / 256)
+unfolding littleBytes
 bytes-turn out n i rest h l =
-    ap (λ (k : ℕ). take i out ++ bytesOf k rest) (more h)
-    ∙ sym (append-snoc (take i out) (rest % 256) (bytesOf (n - (i + 1)) (rest / 256)))
-    ∙ ap (λ (x : List ℕ). x ++ bytesOf (n - (i + 1)) (rest / 256)) (sym stored)
+    ap (λ (k : ℕ). take i out ++ littleBytes k rest) (more h)
+    ∙ sym (append-snoc (take i out) (rest % 256) (littleBytes (n - (i + 1)) (rest / 256)))
+    ∙ ap (λ (x : List ℕ). x ++ littleBytes (n - (i + 1)) (rest / 256)) (sym stored)
   where
     stored : take (i + 1) (set out i (rest % 256)) ≡ take i out ++ rest % 256 ∷ []
     stored = rw add-one (take-suc-set out i (rest % 256) h)
@@ -35,10 +35,10 @@ bytes-turn out n i rest h l =
     more : i < length out → n - i ≡ suc (n - (i + 1))
     more h = omega arith
 
-pub bytes-done : (out : List ℕ) (n i rest : ℕ) → n ≤ i → length out ≡ n → take i out ++ bytesOf (n - i) rest ≡ out
-unfolding bytesOf
+pub bytes-done : (out : List ℕ) (n i rest : ℕ) → n ≤ i → length out ≡ n → take i out ++ littleBytes (n - i) rest ≡ out
+unfolding littleBytes
 bytes-done out n i rest h l =
-    ap₂ _++_ (take-all i out (omega arith)) (ap (λ (k : ℕ). bytesOf k rest) (none h)) ∙ append-nil out
+    ap₂ _++_ (take-all i out (omega arith)) (ap (λ (k : ℕ). littleBytes k rest) (none h)) ∙ append-nil out
   where
     none : n ≤ i → n - i ≡ 0
     none h = omega arith

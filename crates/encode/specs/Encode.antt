@@ -6,9 +6,9 @@ use mathlib.Core.List.{List, [], _∷_}
 use lib.IntN.{ℤ, pos, negsuc}
 
 -- So many bytes of a number, the lowest first. Higher ones are dropped.
-unfoldable pub bytesOf : (width : ℕ) → ℕ → List ℕ
-bytesOf zero n = []
-bytesOf (suc width) n = n % 256 ∷ bytesOf width (n / 256)
+unfoldable pub littleBytes : (width : ℕ) → ℕ → List ℕ
+littleBytes zero n = []
+littleBytes (suc width) n = n % 256 ∷ littleBytes width (n / 256)
 
 -- The 64-bit pattern of a signed number: below 0 it is the number plus 2^64.
 unfoldable pub patternOf : ℤ → ℕ

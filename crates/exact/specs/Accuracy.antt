@@ -15,7 +15,8 @@ use Rattle.whole.specs.Magnitude.{magnitude-mul, magnitude-combined}
 use Rattle.limits.specs.declared.Numbers.{Numbers}
 use Rattle.exact.specs.Parabola.{LeastParabola, ExactSmoothed}
 use Rattle.exact.specs.Line.{LeastLine, lineMisfit}
-use Rattle.exact.specs.Corrected.{Given, at, block, toA, toB, steps}
+use Rattle.whole.specs.Table.{at}
+use Rattle.exact.specs.Corrected.{Given, block, toA, toB, steps}
 use Rattle.exact.specs.Accurate.{AccurateLine, AccurateScatter, AccurateTrack}
 use Rattle.exact.specs.Weights.{weights, place}
 use Rattle.exact.specs.Smoothing.{weights-exact}

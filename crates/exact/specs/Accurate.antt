@@ -9,7 +9,8 @@ use Rattle.whole.specs.Square.{squared, magnitude}
 use Rattle.limits.specs.declared.Numbers.{Numbers}
 use Rattle.exact.specs.Parabola.{ExactSmoothed}
 use Rattle.exact.specs.Line.{LeastLine, lineMisfit}
-use Rattle.exact.specs.Corrected.{Given, at, block, toA, toB}
+use Rattle.whole.specs.Table.{at}
+use Rattle.exact.specs.Corrected.{Given, block, toA, toB}
 
 -- A picosecond has s steps, and (P + Qt) / d is the least line through the n values Y j / e, in picoseconds.
 -- A midpoint in 0.1 ns is within 0.5 + 1 / 200s of its unit of P / 100d: both sides are multiplied by 200sd. In tenths that is 0.5005.

@@ -3,17 +3,13 @@
 -- Assumes nothing.
 use Prim.Native.Nat.{ℕ, _+_, _*_}
 use mathlib.Core.List.{List}
-use lib.IntN.{ℤ, pos, _+ℤ_, _-ℤ_, _*ℤ_}
-use lib.ListN.{getD}
+use lib.IntN.{ℤ, _+ℤ_, _-ℤ_, _*ℤ_}
+use Rattle.whole.specs.Table.{at}
 
 -- How many steps a picosecond has. Smoothed and corrected values and residuals are whole steps: tenths of a picosecond. What a track is given
 -- is in picoseconds.
 abbrev pub steps : ℕ
 steps = 10
-
--- What stands at place j of a list, counted from 0; 0 past the end.
-abbrev pub at : List ℤ → ℕ → ℤ
-at l j = getD l j (pos 0)
 
 -- The one-second measurements, the delays INT, CAB, REF and GD, and five columns of corrections.
 pub record Given : Type 0 where

@@ -6,14 +6,13 @@ use Prim.Native.Nat.{ℕ, _<_}
 use lib.IntN.{ℤ, pos, negℤ, _+ℤ_, _-ℤ_, _*ℤ_, +ℤ-idl}
 use Rattle.whole.specs.Square.{squared}
 use Rattle.whole.specs.Sum.{sum}
-use Rattle.whole.specs.Table.{tabulate}
+use Rattle.whole.specs.Table.{tabulate, at}
 use Rattle.whole.specs.Identity.{identity, quote}
 use Rattle.whole.specs.Order.{_⋖_, cancel-eq}
 use Rattle.whole.specs.Sums.{sum-eq, sums, sum-cong}
 use Rattle.whole.specs.Tables.{tabulate-getD}
 use Rattle.exact.specs.Parabola.{second, parabolaMisfit, LeastParabola, ExactSmoothed}
 use Rattle.exact.specs.Weights.{weights}
-use Rattle.exact.specs.Corrected.{at}
 use Rattle.exact.specs.LeastSquares.{misfit, Kind, Orthogonal, orthogonal, least}
 
 -- ---- parabolas are a kind of curve

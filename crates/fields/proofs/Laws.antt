@@ -15,7 +15,7 @@ use lib.IntN.{ℤ, pos, negsuc, negℤ, natAbs}
 use lib.Signed.{ltZ}
 use borrow.Rule.Slice.PartMut.{putMid, midOf}
 use Rattle.fields.specs.Text.{decimal, sign, signed, hexDigit, hexadecimal, byteSum}
-use Rattle.fields.specs.Read.{digitsAfter, readDecimal, readSigned, readDigit, readHexadecimal}
+use Rattle.fields.specs.Read.{digitsFrom, readDecimal, readSigned, readDigit, readHexadecimal}
 use Rattle.fields.proofs.Lists.{drop-set-same}
 
 -- the last digit stands before what follows the number
@@ -95,14 +95,14 @@ signed-done (o ∷ out) s z digits h es ed =
 -- ---- read back
 
 -- a digit more at the end
-digit-after : (before : ℕ) (xs : List ℕ) (b : ℕ) → digitsAfter before (xs ++ b ∷ []) ≡ 10 * digitsAfter before xs + (b - 48)
-unfolding digitsAfter
+digit-after : (before : ℕ) (xs : List ℕ) (b : ℕ) → digitsFrom before (xs ++ b ∷ []) ≡ 10 * digitsFrom before xs + (b - 48)
+unfolding digitsFrom
 digit-after before [] b = refl
 digit-after before (x ∷ xs) b = digit-after (10 * before + (x - 48)) xs b
 
 -- a number that has no more digits than columns is read back
 pub read-decimal : (columns n : ℕ) → n < 10 ^ columns → readDecimal (decimal columns n) ≡ n
-unfolding readDecimal decimal digitsAfter
+unfolding readDecimal decimal digitsFrom
 read-decimal zero n h = omega arith
 read-decimal (suc columns) n h =
     digit-after 0 (decimal columns (n / 10)) (48 + n % 10)

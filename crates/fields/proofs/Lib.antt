@@ -1,2 +1,5 @@
 pub mod Lists
 pub mod Laws
+pub mod Decimals
+pub mod Hexadecimals
+pub mod Signs

@@ -9,12 +9,12 @@ use lib.ListN.{getD}
 use lib.IntN.{ℤ, pos, negℤ}
 
 -- Each further digit makes ten of what was read before it.
-unfoldable pub digitsAfter : ℕ → List ℕ → ℕ
-digitsAfter before [] = before
-digitsAfter before (b ∷ bs) = digitsAfter (10 * before + (b - code "0")) bs
+unfoldable pub digitsFrom : ℕ → List ℕ → ℕ
+digitsFrom before [] = before
+digitsFrom before (b ∷ bs) = digitsFrom (10 * before + (b - code "0")) bs
 
 unfoldable pub readDecimal : List ℕ → ℕ
-readDecimal text = digitsAfter 0 text
+readDecimal text = digitsFrom 0 text
 
 -- A minus in the first column makes the number negative.
 unfoldable pub readSigned : List ℕ → ℤ

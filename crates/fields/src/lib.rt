@@ -1,8 +1,10 @@
 // Numbers as text for the columns of a line: decimals with zero fill, signed decimals, hexadecimal digits, and the checksum.
-// A writer fills the whole part that it is lent.
+// A writer fills the whole part that it is lent. And digits as they stand in a text, for who compares them.
 ghost use mathlib.Core.Path.{_≡_};
-ghost use lib.ListN.{length};
+ghost use Prim.Native.Nat.{_≤_};
+ghost use lib.ListN.{length, getD};
 ghost use Rattle.fields.specs.Text.{decimal, sign, signed, hexDigit, checksum};
+ghost use Rattle.fields.specs.Raw.{twoDigits};
 use whole::magnitude;
 
 // The last decimal digits of value, one for each byte of out.
@@ -58,4 +60,24 @@ pub fn checksum(text: &[u8]) -> u8
         sum = (sum + wide(text[i])) % 256;
     }
     sum as u8
+}
+
+// A byte of a text. What stands past its end counts as 0.
+pub fn byte_at(text: &[u8], at: usize) -> u64
+    ensures { λ r. ⌜ (r ≡ getD (now (text .entry)) at 0) × (r ≤ 255) ⌝ }
+{
+    if text.len() <= at {
+        return 0;
+    }
+    text[at] as u64
+}
+
+// Two bytes of a text, as if they were digits and '0' were 0. What stands past its end counts as 0.
+pub fn two_digits(text: &[u8], at: usize) -> u64
+    ensures { λ r. ⌜ (r ≡ twoDigits at (now (text .entry))) × (r ≤ 2805) ⌝ }
+{
+    if text.len() <= at {
+        return 0;
+    }
+    10 * byte_at(text, at) + byte_at(text, at + 1)
 }

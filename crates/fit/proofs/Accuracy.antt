@@ -11,7 +11,8 @@ use Rattle.whole.specs.Sum.{sum}
 use Rattle.whole.specs.Identity.{identity, quote}
 use Rattle.whole.specs.Order.{_⩽_, _⋖_, le-of-lt, zero-le-pos, pos-le-is}
 use Rattle.whole.specs.Rounding.{nearest-within}
-use Rattle.exact.specs.Corrected.{Given, at, block, toA, toB, steps}
+use Rattle.whole.specs.Table.{at}
+use Rattle.exact.specs.Corrected.{Given, block, toA, toB, steps}
 use Rattle.exact.specs.Accurate.{AccurateTrack}
 use Rattle.exact.specs.Accuracy.{RoundedFit, RoundedScatter, accurate-track, EarlierTrack, earlier-track}
 use Rattle.exact.specs.Weights.{weights, place}

@@ -7,22 +7,22 @@ use Prim.Native.Nat.{ℕ}
 use Rattle.limits.specs.Refusal.{_when_, _then_}
 use Rattle.limits.specs.Lists.{anyBeyond}
 use Rattle.exact.specs.Corrected.{Given}
-use Rattle.series.specs.Fit.{valuesLimit}
+use Rattle.series.specs.Fit.{valueLimit}
 use Rattle.correcting.specs.Correct.{blocks, wrongSizes, outOfLimits}
 use Rattle.correcting.proofs.Largest.{corrected-within}
 use Rattle.fit.specs.declared.TrackRecord.{TrackRecord}
 use Rattle.fit.specs.declared.Tracked.{Tracked}
-use Rattle.fit.specs.Track.{recordOf, results, numbersRule, trackNumber, tracked, trackRule}
+use Rattle.fit.specs.Track.{recordOf, results, recordNumber, trackNumber, tracked, trackRule}
 
 -- 10 as it was: some corrected value exceeds 2 × 10^13 tenths in magnitude. It was tried behind 2.
 unfoldable pub someBeyond : TrackRecord → Bool
 someBeyond t =
-    anyBeyond valuesLimit (t .a) || anyBeyond valuesLimit (t .b)
-    || anyBeyond valuesLimit (t .c) || anyBeyond valuesLimit (t .d)
+    anyBeyond valueLimit (t .a) || anyBeyond valueLimit (t .b)
+    || anyBeyond valueLimit (t .c) || anyBeyond valueLimit (t .d)
 
 unfoldable pub trackNumberWith10 : Given → ℕ
 trackNumberWith10 g =
-    1 when wrongSizes g then 2 when outOfLimits g then 10 when someBeyond (results g) then numbersRule (results g)
+    1 when wrongSizes g then 2 when outOfLimits g then 10 when someBeyond (results g) then recordNumber (results g)
 
 abbrev pub trackRuleWith10 : Given → Tracked
 trackRuleWith10 g = tracked (trackNumberWith10 g) (results g)
@@ -38,7 +38,7 @@ unfolding trackNumberWith10 trackNumber _when_ _then_
 number-stays g = ap (λ (k : ℕ). 1 when wrongSizes g then k) (by (outOfLimits g) refl)
   where
     by : (b : Bool) → outOfLimits g ≡ b
-        → 2 when outOfLimits g then 10 when someBeyond (results g) then numbersRule (results g) ≡ 2 when outOfLimits g then numbersRule (results g)
+        → 2 when outOfLimits g then 10 when someBeyond (results g) then recordNumber (results g) ≡ 2 when outOfLimits g then recordNumber (results g)
     by true e = rw e
     by false e = rw (e, never-beyond g e)
 

@@ -16,19 +16,20 @@ use Rattle.whole.specs.Words.{back-of}
 use Rattle.limits.specs.Refusal.{_when_, _then_}
 use Rattle.limits.proofs.Laws.{then-refused, then-passed, then-assoc}
 use Rattle.fit.specs.declared.TrackRecord.{TrackRecord}
-use Rattle.exact.specs.Corrected.{Given, at, steps}
+use Rattle.whole.specs.Table.{at}
+use Rattle.exact.specs.Corrected.{Given, steps}
 use Rattle.limits.specs.Lists.{anyBeyond}
 use Rattle.limits.specs.Reply.{Reply}
 use Rattle.series.specs.declared.Fitted.{Fitted}
 use Rattle.series.specs.Answers.{fitReply, fitNumbered}
-use Rattle.series.specs.Fit.{midpoint, slope, fitRule, valuesLimit}
+use Rattle.series.specs.Fit.{midpoint, slope, fitRule, valueLimit}
 use Rattle.series.proofs.Fitting.{fit-part}
 use Rattle.limits.specs.declared.Numbers.{Numbers}
 use Rattle.fit.specs.declared.Found.{Found}
 use Rattle.fit.specs.Found.{foundNumber, foundNumbers, found, judgedOf, foundIn}
 use Rattle.correcting.specs.Correct.{wrongSizes, outOfLimits}
 use Rattle.correcting.specs.Answer.{correctNumber}
-use Rattle.fit.specs.Track.{results, numbersRule, trackNumber, zeros, tracked, trackRule}
+use Rattle.fit.specs.Track.{results, recordNumber, trackNumber, zeros, tracked, trackRule}
 
 pub tracked-refused : (number : ℕ) (t : TrackRecord) → 0 < number → tracked number t ≡ record { refusal = number; «record» = zeros }
 unfolding tracked
@@ -39,7 +40,7 @@ tracked-refused (suc number) t h = refl
 abbrev lineThrough : ℕ → List ℤ → Fitted
 lineThrough n l = Fitted.Line (midpoint steps n (at l)) (slope steps n (at l))
 
-pub fit-value : (n : ℕ) (l : List ℤ) → 4 ≤ n → n ≤ 52 → n ≤ length l → anyBeyond valuesLimit l ≡ false
+pub fit-value : (n : ℕ) (l : List ℤ) → 4 ≤ n → n ≤ 52 → n ≤ length l → anyBeyond valueLimit l ≡ false
     → (r : Fitted) → fitReply r ≡ fitRule (take n l) → fitNumbered r → r ≡ lineThrough n l
 fit-value n l h k m e (Fitted.Line x y) a f = ap (λ (r : Reply (ℤ × ℤ)). Fitted.Line (r .values .0) (r .values .1)) (a ∙ fit-part n l h k m e)
 fit-value n l h k m e (Fitted.Refused i) a f = absurd (never (ap (λ (r : Reply (ℤ × ℤ)). r .number) (a ∙ fit-part n l h k m e)) f)
@@ -58,19 +59,19 @@ line-numbers {r} {x} {y} {m} {s} p q h k = let z : x ≡ m = cc in let w : y ≡
 -- ---- by the corrected values
 
 -- the number is that of what is given, then that of the numbers
-number-parts : (g : Given) → trackNumber g ≡ correctNumber g then numbersRule (results g)
+number-parts : (g : Given) → trackNumber g ≡ correctNumber g then recordNumber (results g)
 unfolding trackNumber correctNumber
-number-parts g = sym (then-assoc (1 when wrongSizes g) (2 when outOfLimits g) (numbersRule (results g)))
+number-parts g = sym (then-assoc (1 when wrongSizes g) (2 when outOfLimits g) (recordNumber (results g)))
 
 -- a track that is refused as it is given
 pub track-refused : (g : Given) (number : ℕ) → number ≡ correctNumber g → 0 < number → record { refusal = number; «record» = zeros } ≡ trackRule g
 unfolding trackRule
 track-refused g number e h =
-    let first : trackNumber g ≡ number = number-parts g ∙ ap (λ (k : ℕ). k then numbersRule (results g)) (sym e) ∙ then-refused _ _ h in
+    let first : trackNumber g ≡ number = number-parts g ∙ ap (λ (k : ℕ). k then recordNumber (results g)) (sym e) ∙ then-refused _ _ h in
     sym (ap (λ (k : ℕ). tracked k (results g)) first ∙ tracked-refused number (results g) h)
 
 -- any other by its corrected values
-pub track-judged : (g : Given) → correctNumber g ≡ 0 → tracked (numbersRule (results g)) (results g) ≡ trackRule g
+pub track-judged : (g : Given) → correctNumber g ≡ 0 → tracked (recordNumber (results g)) (results g) ≡ trackRule g
 unfolding trackRule
 track-judged g e = ap (λ (k : ℕ). tracked k (results g)) (sym (number-parts g ∙ then-passed _ _ e))
 
@@ -86,9 +87,9 @@ module _ (t : TrackRecord) where
   by-number (suc k) e {number} f = let z : number ≡ suc k = cc in ap (λ (m : ℕ). record { refusal = m; «record» = zeros }) z
 
   pub found-refused : {r : Found} → r ≡ judgedOf t → {number : ℕ} → r ≡ Found.Refused number
-      → record { refusal = number; «record» = zeros } ≡ tracked (numbersRule t) t
+      → record { refusal = number; «record» = zeros } ≡ tracked (recordNumber t) t
   unfolding judgedOf
-  found-refused e f = by-number (numbersRule t) e f
+  found-refused e f = by-number (recordNumber t) e f
 
   ten-by : (k : ℕ) {r : Found} → r ≡ found k (t .numbers) → {n : Numbers} → r ≡ Found.Ten n → (n ≡ t .numbers) × (tracked k t ≡ record { refusal = 0; «record» = t })
   unfolding found tracked
@@ -99,9 +100,9 @@ module _ (t : TrackRecord) where
       differ d = let z : _≡_ {A = ℕ} 0 1 = cc in omega arith
 
   pub found-ten : {r : Found} → r ≡ judgedOf t → {n : Numbers} → r ≡ Found.Ten n
-      → (n ≡ t .numbers) × (tracked (numbersRule t) t ≡ record { refusal = 0; «record» = t })
+      → (n ≡ t .numbers) × (tracked (recordNumber t) t ≡ record { refusal = 0; «record» = t })
   unfolding judgedOf
-  found-ten e f = ten-by (numbersRule t) e f
+  found-ten e f = ten-by (recordNumber t) e f
 
 -- ---- the numbers alone
 

@@ -4,12 +4,13 @@
 use mathlib.Core.Path.{_≡_, refl, sym, ap, ap₂, _∙_, subst}
 use mathlib.Core.Bool.{Bool, true, false, not, _||_}
 use mathlib.Core.List.{List, []}
-use Prim.Native.Nat.{ℕ, zero, suc, _+_, _*_, _/_, _^_, _≤_, _<_}
+use Prim.Native.Nat.{ℕ, zero, suc, _+_, _*_, _/_, _≤_, _<_}
 use native.Mathlib.Nat.{le-trans}
 use native.Mathlib.Omega.{arith}
 use lib.Dec.{eqb, lit≤}
 use lib.IntN.{ℤ, pos, natAbs, _*ℤ_}
 use lib.ListN.{length, take, drop, set, replicate}
+use Rattle.limits.specs.Limits.{measurementLimit}
 use Rattle.limits.specs.Blocks.{blocksFit}
 use Rattle.limits.specs.Lists.{anyBeyond}
 use Rattle.limits.specs.Refusal.{_when_, _then_}
@@ -17,14 +18,15 @@ use Rattle.limits.proofs.Blocks.{blocks-within}
 use Rattle.limits.proofs.Laws.{then-zero, when-zero}
 use Rattle.limits.proofs.Lists.{counts, within-limit, limit-within}
 use Rattle.limits.proofs.Scans.{none-outside}
-use Rattle.series.specs.Fit.{valuesLimit}
+use Rattle.series.specs.Fit.{valueLimit}
 use Rattle.series.specs.Smooth.{smoothed}
 use Rattle.series.proofs.Weights.{smoothed-bound}
 use Rattle.decode.specs.Number.{signedAt, signedsAt}
 use Rattle.decode.proofs.Signeds.{length-signeds, signeds-at}
 use Rattle.decode.proofs.Pieces.{signed-piece, signeds-part}
 use Rattle.exact.specs.Accurate.{AccurateTrack}
-use Rattle.exact.specs.Corrected.{Given, at, steps, block, toA, toB}
+use Rattle.whole.specs.Table.{at}
+use Rattle.exact.specs.Corrected.{Given, steps, block, toA, toB}
 use Rattle.correcting.specs.declared.Corrected.{Corrected}
 use Rattle.correcting.specs.Correct.{blocks, smoothedAt, valueA, valueB, valueC, valueD, places, wrongSizes, outOfLimits}
 use Rattle.correcting.specs.Answer.{corrected, filled, wholeBlocks, blocksRule, othersBeyond}
@@ -72,9 +74,9 @@ module _ (l : List ℤ) {x : Corrected} (e : x ≡ blocksRule l) where
       differ : x ≡ Corrected.Values count → x ≡ Corrected.Refused number read → ⊥
       differ h f = let z : _≡_ {A = ℕ} 0 1 = cc in omega arith
 
-  pub blocks-refused : {number read : ℕ} → x ≡ Corrected.Refused number read → (number ≡ 2) × (anyBeyond (10 ^ 12) l ≡ true)
+  pub blocks-refused : {number read : ℕ} → x ≡ Corrected.Refused number read → (number ≡ 2) × (anyBeyond measurementLimit l ≡ true)
   unfolding blocksRule
-  blocks-refused f = refused-by (anyBeyond (10 ^ 12) l) _ e f
+  blocks-refused f = refused-by (anyBeyond measurementLimit l) _ e f
 
   values-by : (b : Bool) (count : ℕ) → x ≡ corrected (2 when b) count → {read : ℕ} → x ≡ Corrected.Values read → b ≡ false
   unfolding corrected _when_
@@ -84,9 +86,9 @@ module _ (l : List ℤ) {x : Corrected} (e : x ≡ blocksRule l) where
       differ h f = let z : _≡_ {A = ℕ} 0 1 = cc in omega arith
   values-by false count h f = refl
 
-  pub blocks-values : {read : ℕ} → x ≡ Corrected.Values read → anyBeyond (10 ^ 12) l ≡ false
+  pub blocks-values : {read : ℕ} → x ≡ Corrected.Values read → anyBeyond measurementLimit l ≡ false
   unfolding blocksRule
-  blocks-values f = values-by (anyBeyond (10 ^ 12) l) _ e f
+  blocks-values f = values-by (anyBeyond measurementLimit l) _ e f
 
 -- two rows that are filled alike
 filled-alike : (n : ℕ) (f f' : ℕ → ℤ) (row : List ℤ) → ((j : ℕ) → j < n → f j ≡ f' j) → filled n f row ≡ filled n f' row
@@ -96,7 +98,7 @@ filled-alike (suc n) f f' row h =
     ap₂ (λ (k : List ℤ) (z : ℤ). set k n z) (filled-alike n f f' row (λ j k. h j (omega arith))) (h n (omega arith))
 
 -- where nothing is outside, every block is whole, and the row holds its smoothed values
-module _ (l : List ℤ) (n : ℕ) (all : length l ≡ 15 * n) (most : n ≤ 52) (inside : anyBeyond (10 ^ 12) l ≡ false) {y : List ℤ}
+module _ (l : List ℤ) (n : ℕ) (all : length l ≡ 15 * n) (most : n ≤ 52) (inside : anyBeyond measurementLimit l ≡ false) {y : List ℤ}
     (e : y ≡ filled (wholeBlocks l) (smoothedOf l) (replicate 52 (pos 0))) where
   whole-blocks : wholeBlocks l ≡ n
   unfolding wholeBlocks
@@ -111,14 +113,14 @@ module _ (l : List ℤ) (n : ℕ) (all : length l ≡ 15 * n) (most : n ≤ 52) 
   pub smoothed-at : (j : ℕ) → j < n → at y j ≡ smoothedOf l j
   smoothed-at j h = ap (λ (k : List ℤ). at k j) smoothed-row ∙ places-at n (smoothedOf l) j h
 
-  smoothed-most : (j : ℕ) → natAbs (smoothedOf l j) ≤ valuesLimit
+  smoothed-most : (j : ℕ) → natAbs (smoothedOf l j) ≤ valueLimit
   unfolding smoothedOf
-  smoothed-most j = le-trans (smoothed-bound (λ i. at l (15 * j + i)) (λ i. within-limit (10 ^ 12) l inside (15 * j + i))) (lit≤ tt)
+  smoothed-most j = le-trans (smoothed-bound (λ i. at l (15 * j + i)) (λ i. within-limit measurementLimit l inside (15 * j + i))) (lit≤ tt)
 
-  pub smoothed-inside : anyBeyond valuesLimit y ≡ false
+  pub smoothed-inside : anyBeyond valueLimit y ≡ false
   smoothed-inside =
-      limit-within valuesLimit y
-      (λ i. subst (λ (k : List ℤ). natAbs (at k i) ≤ valuesLimit) (sym smoothed-row) (places-bound (smoothedOf l) n valuesLimit smoothed-most i))
+      limit-within valueLimit y
+      (λ i. subst (λ (k : List ℤ). natAbs (at k i) ≤ valueLimit) (sym smoothed-row) (places-bound (smoothedOf l) n valueLimit smoothed-most i))
 
 -- an accepted answer is accurate
 pub found-accurate : (g : Given) (x : Found) → x ≡ foundIn g → foundNumber x ≡ 0 → AccurateTrack steps (blocks g) g (foundNumbers x)
@@ -190,9 +192,9 @@ module _ (m k : List ℕ) (int cab refdly gd : ℤ) where
     pub measured-length : length measured ≡ 15 * groups
     measured-length = length-signeds m 0 8 (15 * groups)
 
-    pub limits-are : outOfLimits given-packed ≡ anyBeyond (10 ^ 12) measured || othersBeyond (grouped groups [] int cab refdly gd k)
+    pub limits-are : outOfLimits given-packed ≡ anyBeyond measurementLimit measured || othersBeyond (grouped groups [] int cab refdly gd k)
     unfolding othersBeyond packed
-    limits-are = limits-parts given-packed ∙ ap (λ (l : List ℤ). anyBeyond (10 ^ 12) l || othersBeyond (grouped groups [] int cab refdly gd k)) measured-is
+    limits-are = limits-parts given-packed ∙ ap (λ (l : List ℤ). anyBeyond measurementLimit l || othersBeyond (grouped groups [] int cab refdly gd k)) measured-is
 
     smoothed-is : (j : ℕ) → smoothedOf measured j ≡ smoothedAt given-packed j
     unfolding smoothedAt smoothedOf block packed

@@ -1,11 +1,12 @@
 -- The ten numbers of a track without its corrected values, or the number of the refusal.
 -- Assumes nothing.
 use Prim.Native.Nat.{ℕ, zero, suc}
+use Rattle.limits.specs.Limits.{noNumbers}
 use Rattle.limits.specs.declared.Numbers.{Numbers}
 use Rattle.fit.specs.declared.TrackRecord.{TrackRecord}
 use Rattle.fit.specs.declared.Found.{Found}
 use Rattle.exact.specs.Corrected.{Given}
-use Rattle.fit.specs.Track.{numbersRule, zeros, results, trackNumber}
+use Rattle.fit.specs.Track.{recordNumber, results, trackNumber}
 
 -- The number of each case, 0 where there is none.
 abbrev pub foundNumber : Found → ℕ
@@ -15,7 +16,7 @@ foundNumber (Found.Refused number) = number
 -- The numbers of each case, 0 throughout where there are none.
 abbrev pub foundNumbers : Found → Numbers
 foundNumbers (Found.Ten numbers) = numbers
-foundNumbers (Found.Refused number) = zeros .numbers
+foundNumbers (Found.Refused number) = noNumbers
 
 -- The case of a number: the ten numbers where it is 0.
 unfoldable pub found : ℕ → Numbers → Found
@@ -24,7 +25,7 @@ found (suc number) numbers = Found.Refused (suc number)
 
 -- The case for a record.
 unfoldable pub judgedOf : TrackRecord → Found
-judgedOf t = found (numbersRule t) (t .numbers)
+judgedOf t = found (recordNumber t) (t .numbers)
 
 -- The case for what a track is given.
 unfoldable pub foundIn : Given → Found

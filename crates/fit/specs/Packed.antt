@@ -6,7 +6,8 @@ use lib.IntN.{ℤ}
 use lib.ListN.{length}
 use Rattle.decode.specs.Number.{signedsAt}
 use Rattle.series.specs.Smooth.{smoothed}
-use Rattle.exact.specs.Corrected.{at, Given}
+use Rattle.whole.specs.Table.{at}
+use Rattle.exact.specs.Corrected.{Given}
 use Rattle.correcting.specs.Correct.{given}
 
 -- So many measurements, the delays and n groups of corrections.

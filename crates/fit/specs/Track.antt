@@ -6,10 +6,11 @@ use lib.IntN.{ℤ, pos}
 use lib.ListN.{replicate}
 use Rattle.limits.specs.declared.Numbers.{Numbers}
 use Rattle.limits.specs.Refusal.{_when_, _then_}
-use Rattle.limits.specs.Limits.{limitsRule, dsgRule}
+use Rattle.limits.specs.Limits.{limitsNumber, dsgNumber, noNumbers}
 use Rattle.fit.specs.declared.TrackRecord.{TrackRecord}
 use Rattle.fit.specs.declared.Tracked.{Tracked}
-use Rattle.exact.specs.Corrected.{at, steps, Given}
+use Rattle.whole.specs.Table.{at}
+use Rattle.exact.specs.Corrected.{steps, Given}
 use Rattle.series.specs.Fit.{midpoint, slope}
 use Rattle.series.specs.Scatter.{squares, dsg}
 use Rattle.correcting.specs.Correct.{blocks, valueA, valueB, valueC, valueD, places, wrongSizes, outOfLimits}
@@ -47,14 +48,14 @@ results g =
     let n = blocks g in recordOf n (places n (valueA g)) (places n (valueB g)) (places n (valueC g)) (places n (valueD g))
 
 -- 3, 4, 5 and 6 on the numbers.
-unfoldable pub numbersRule : TrackRecord → ℕ
-numbersRule t = limitsRule (t .numbers) then dsgRule (t .numbers .dsg)
+unfoldable pub recordNumber : TrackRecord → ℕ
+recordNumber t = limitsNumber (t .numbers) then dsgNumber (t .numbers .dsg)
 
 -- The number of the first refusal in document 01's order, 0 where there is none. 10 is retired (document 02, Job 14): proofs/Retired.antt shows that
 -- no answer changed.
 unfoldable pub trackNumber : Given → ℕ
 trackNumber g =
-    1 when wrongSizes g then 2 when outOfLimits g then numbersRule (results g)
+    1 when wrongSizes g then 2 when outOfLimits g then recordNumber (results g)
 
 -- A record of zeros.
 unfoldable pub zeros : TrackRecord
@@ -65,18 +66,7 @@ zeros =
       b = replicate 52 (pos 0);
       c = replicate 52 (pos 0);
       d = replicate 52 (pos 0);
-      numbers = record {
-        refsv = pos 0;
-        srsv = pos 0;
-        refsys = pos 0;
-        srsys = pos 0;
-        mdtr = pos 0;
-        smdt = pos 0;
-        mdio = pos 0;
-        smdi = pos 0;
-        dsg = pos 0;
-        trkl = pos 0;
-      };
+      numbers = noNumbers;
     }
 
 -- The number with the record, which holds 0 throughout where the track is refused.

@@ -4,13 +4,15 @@ use super::Found;
 use super::Smoothed;
 use super::results::ten_numbers;
 use super::smooth;
-use correcting::Block;
+use correcting::BlockValues;
 use correcting::Corrected;
-use correcting::block_number;
+use correcting::block_values_number;
 use correcting::correct_block;
 use correcting::corrected_number;
 use decode::fill;
 use decode::signed64;
+use limits::MEASUREMENT_LEAST;
+use limits::MEASUREMENT_LIMIT;
 use limits::blocks_fit;
 use limits::delays_beyond;
 use limits::scan;
@@ -23,12 +25,13 @@ ghost use lib.IntN.{pos, _*ℤ_};
 ghost use lib.ListN.{length, set};
 ghost use Rattle.limits.specs.Lists.{anyBeyond};
 ghost use Rattle.limits.specs.Refusal.{_when_};
-ghost use Rattle.series.specs.Fit.{valuesLimit};
+ghost use Rattle.series.specs.Fit.{valueLimit};
 ghost use Rattle.decode.specs.Number.{signedAt, signedsAt};
 ghost use Rattle.exact.specs.Accurate.{AccurateTrack};
-ghost use Rattle.exact.specs.Corrected.{at, steps, toA, toB};
+ghost use Rattle.whole.specs.Table.{at};
+ghost use Rattle.exact.specs.Corrected.{steps, toA, toB};
 ghost use Rattle.correcting.specs.Answer.{filled, wholeBlocks, blocksRule, othersBeyond};
-ghost use Rattle.correcting.specs.Block.{blockRule};
+ghost use Rattle.correcting.specs.Block.{blockValuesRule};
 ghost use Rattle.fit.specs.Found.{foundNumber, foundNumbers, foundIn};
 ghost use Rattle.fit.specs.Packed.{smoothedOf, grouped, packed};
 
@@ -42,7 +45,7 @@ fn fifteen(part: &[u8]) -> [i64; 15]
 }
 
 // The smoothed value of each of n blocks, put into its place of the row that is lent, block by block up to and without the first that has a
-// measurement outside ±10^12: 2 where there is one. It counts the measurements that its limit test reads.
+// measurement beyond its limit: 2 where there is one. It counts the measurements that its limit test reads.
 fn smooth_blocks(measurements: &[u8], n: usize, row: &mut [i64; 52]) -> Corrected
     requires { ⌜ (n ≤ 52) × (120 * n ≤ length (now measurements)) ⌝ }
     ensures { λ r. ⌜ r ≡ blocksRule (signedsAt (now (measurements .entry)) 0 8 (15 * n)) ⌝ }
@@ -55,7 +58,7 @@ fn smooth_blocks(measurements: &[u8], n: usize, row: &mut [i64; 52]) -> Correcte
         let from = 120 * j;
         let to = from + 120;
         let numbers = fifteen(&measurements[from..to]);
-        let seen = scan(&numbers, -1_000_000_000_000, 1_000_000_000_000);
+        let seen = scan(&numbers, MEASUREMENT_LEAST, MEASUREMENT_LIMIT);
         read += seen.read;
         if seen.outside {
             return Corrected::Refused { number: 2, read };
@@ -73,8 +76,15 @@ fn smooth_blocks(measurements: &[u8], n: usize, row: &mut [i64; 52]) -> Correcte
 }
 
 // The corrected values of one block, from its smoothed value and the bytes of its five corrections.
-fn correct_group(group: &[u8], smoothed: i64, int: i64, cab: i64, refdly: i64, gd: i64) -> Block
-    ensures { λ r. ⌜ r ≡ blockRule smoothed int cab refdly gd (signedAt (now (group .entry)) 0) (signedAt (now (group .entry)) 8)
+fn correct_group(
+    group: &[u8],
+    smoothed: i64,
+    int: i64,
+    cab: i64,
+    refdly: i64,
+    gd: i64,
+) -> BlockValues
+    ensures { λ r. ⌜ r ≡ blockValuesRule smoothed int cab refdly gd (signedAt (now (group .entry)) 0) (signedAt (now (group .entry)) 8)
         (signedAt (now (group .entry)) 16) (signedAt (now (group .entry)) 24) (signedAt (now (group .entry)) 32) ⌝ }
 {
     correct_block(
@@ -130,7 +140,7 @@ fn correct_groups(
     c: &mut [i64; 52],
     d: &mut [i64; 52],
 ) -> u32
-    requires { ⌜ (n ≤ 52) × (40 * n ≤ length (now corrections)) × (anyBeyond valuesLimit (now smoothed) ≡ false) ⌝ }
+    requires { ⌜ (n ≤ 52) × (40 * n ≤ length (now corrections)) × (anyBeyond valueLimit (now smoothed) ≡ false) ⌝ }
     ensures { λ r. ⌜ r ≡ 2 when othersBeyond (grouped n [] int cab refdly gd (now (corrections .entry))) ⌝ }
     ensures { λ r. ⌜ (r ≡ 0 → (now (a .exit) ≡ filled n (λ j. toA (grouped n [] int cab refdly gd (now (corrections .entry))) (pos steps) j
         (at (now (smoothed .entry)) j)) (now (a .entry)))
@@ -147,14 +157,14 @@ fn correct_groups(
         let from = 40 * j;
         let to = from + 40;
         let values = correct_group(&corrections[from..to], smoothed[j], int, cab, refdly, gd);
-        let Block::Values {
+        let BlockValues::Values {
             a: va,
             b: vb,
             c: vc,
             d: vd,
         } = values
         else {
-            return block_number(values);
+            return block_values_number(values);
         };
         put(va, vb, vc, vd, j, a, b, c, d);
         j += 1;

@@ -15,13 +15,14 @@ ghost use mathlib.Core.Bool.{false};
 ghost use Prim.Native.Nat.{_≤_};
 ghost use lib.IntN.{pos};
 ghost use lib.ListN.{length};
-ghost use Rattle.exact.specs.Corrected.{at, steps};
-ghost use Rattle.limits.specs.Limits.{dsgRule};
+ghost use Rattle.whole.specs.Table.{at};
+ghost use Rattle.exact.specs.Corrected.{steps};
+ghost use Rattle.limits.specs.Limits.{dsgNumber};
 ghost use Rattle.limits.specs.Lists.{anyBeyond};
 ghost use Rattle.limits.specs.Reply.{reply};
 ghost use Rattle.series.specs.declared.Fitted.{Fitted};
 ghost use Rattle.series.specs.Answers.{scatterReply, scatterNumbered};
-ghost use Rattle.series.specs.Fit.{midpoint, slope, valuesLimit};
+ghost use Rattle.series.specs.Fit.{midpoint, slope, valueLimit};
 ghost use Rattle.series.specs.Scatter.{squares, dsg};
 ghost use Rattle.fit.specs.Track.{recordOf, zeros};
 ghost use Rattle.fit.specs.Found.{judgedOf};
@@ -57,7 +58,7 @@ pub fn refused(number: u32) -> Tracked
 
 // The line through the first n of 52 places, which are inside their limit: Fit refuses none of them.
 fn fit_blocks(n: usize, values: &[i64]) -> Fitted
-    requires { ⌜ (4 ≤ n) × (n ≤ 52) × (length (now values) ≡ 52) × (anyBeyond valuesLimit (now values) ≡ false) ⌝ }
+    requires { ⌜ (4 ≤ n) × (n ≤ 52) × (length (now values) ≡ 52) × (anyBeyond valueLimit (now values) ≡ false) ⌝ }
     ensures { λ r. ⌜ r ≡ Fitted.Line (midpoint steps n (at (now (values .entry)))) (slope steps n (at (now (values .entry)))) ⌝ }
 {
     fit(&values[0..n])
@@ -65,8 +66,8 @@ fn fit_blocks(n: usize, values: &[i64]) -> Fitted
 
 // DSG of the first n of 52 places, which are inside their limit.
 fn scatter_blocks(n: usize, values: &[i64]) -> Scattered
-    requires { ⌜ (4 ≤ n) × (n ≤ 52) × (length (now values) ≡ 52) × (anyBeyond valuesLimit (now values) ≡ false) ⌝ }
-    ensures { λ r. ⌜ (scatterReply r ≡ reply (pos 0) (dsgRule (pos (dsg steps n (squares n (at (now (values .entry)))))))
+    requires { ⌜ (4 ≤ n) × (n ≤ 52) × (length (now values) ≡ 52) × (anyBeyond valueLimit (now values) ≡ false) ⌝ }
+    ensures { λ r. ⌜ (scatterReply r ≡ reply (pos 0) (dsgNumber (pos (dsg steps n (squares n (at (now (values .entry)))))))
         (pos (dsg steps n (squares n (at (now (values .entry))))))) × scatterNumbered r ⌝ }
 {
     scatter(&values[0..n])
@@ -77,8 +78,8 @@ fn scatter_blocks(n: usize, values: &[i64]) -> Scattered
 pub fn ten_numbers(n: usize, a: &[i64], b: &[i64], c: &[i64], d: &[i64]) -> Found
     requires { ⌜ (4 ≤ n) × (n ≤ 52) ⌝ }
     requires { ⌜ (length (now a) ≡ 52) × (length (now b) ≡ 52) × (length (now c) ≡ 52) × (length (now d) ≡ 52) ⌝ }
-    requires { ⌜ (anyBeyond valuesLimit (now a) ≡ false) × (anyBeyond valuesLimit (now b) ≡ false)
-        × (anyBeyond valuesLimit (now c) ≡ false) × (anyBeyond valuesLimit (now d) ≡ false) ⌝ }
+    requires { ⌜ (anyBeyond valueLimit (now a) ≡ false) × (anyBeyond valueLimit (now b) ≡ false)
+        × (anyBeyond valueLimit (now c) ≡ false) × (anyBeyond valueLimit (now d) ≡ false) ⌝ }
     ensures { λ r. ⌜ r ≡ judgedOf (recordOf n (now (a .entry)) (now (b .entry)) (now (c .entry)) (now (d .entry))) ⌝ }
 {
     let line_a = fit_blocks(n, a);

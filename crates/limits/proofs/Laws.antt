@@ -9,9 +9,9 @@ use lib.Dec.{ltb, eqb·suc-zero}
 use mir.Syntax.{w64}
 use mir.Val.{SFits}
 use borrow.Author.Tests.{ltb-false, le-ltb}
-use Rattle.limits.specs.Refusal.{_when_, _then_}
+use Rattle.limits.specs.Refusal.{_when_, _then_, after}
 use Rattle.limits.specs.declared.Numbers.{Numbers}
-use Rattle.limits.specs.Limits.{outside, beyond, limitsRule, dsgRule}
+use Rattle.limits.specs.Limits.{outside, beyond, limitsNumber, dsgNumber}
 
 -- an answer put together from two is 0 only where both are
 pub then-zero : (first next : ℕ) → first then next ≡ 0 → (first ≡ 0) × (next ≡ 0)
@@ -34,10 +34,32 @@ unfolding _then_
 then-assoc zero b c = refl
 then-assoc (suc a) b c = simp (eqb·suc-zero)
 
+-- nothing comes next
+pub then-none : (number : ℕ) → number then 0 ≡ number
+unfolding _then_
+then-none zero = refl
+then-none (suc number) = rw (eqb·suc-zero number)
+
+-- one test on two conditions is two tests
+pub when-either : (number : ℕ) (a b : Bool) → number when (a || b) ≡ number when a then number when b
+unfolding _when_ _then_
+when-either zero true true = refl
+when-either zero true false = refl
+when-either (suc number) true b = rw (eqb·suc-zero number)
+when-either number false b = refl
+
 pub when-zero : (number : ℕ) (condition : Bool) → suc number when condition ≡ 0 → condition ≡ false
 unfolding _when_
 when-zero number true e = absurd (suc-ne-zero number e)
 when-zero number false e = refl
+
+-- what was lent is written where nothing is refused, and else kept
+pub after-accepted : {A : Type 0} {number : ℕ} (written lent : A) → number ≡ 0 → after number written lent ≡ written
+after-accepted written lent e = rw e
+
+pub after-refused : {A : Type 0} {number : ℕ} (written lent : A) → (number ≡ 0 → ⊥) → after number written lent ≡ lent
+after-refused {number = zero} written lent n = absurd (n refl)
+after-refused {number = suc number} written lent n = rw (eqb·suc-zero number)
 
 -- what is told by two tests joined
 pub both : (a b : Bool) → a && b ≡ true → (a ≡ true) × (b ≡ true)
@@ -75,6 +97,10 @@ natural-within low high (pos n) e =
     (refl, ltb-false n low (f .0), ltb-false high n (f .1))
 natural-within low high (negsuc n) e = absurd (true≢false e)
 
+pub within-natural : (low high n : ℕ) → low ≤ n → n ≤ high → outside (pos low) (pos high) (pos n) ≡ false
+unfolding outside
+within-natural low high n h k = rw (le-ltb n low h, le-ltb high n k)
+
 -- every one of the ten numbers fits its word, so that it reads back from its bits
 pub record Fits (n : Numbers) : Type 0 where
   pub refsv : SFits w64 (n .refsv)
@@ -94,8 +120,8 @@ pub record InLimits (n : Numbers) : Type 0 where
   pub slopes : (natAbs (n .srsv) ≤ 99999) × (natAbs (n .srsys) ≤ 99999) × (natAbs (n .smdt) ≤ 999) × (natAbs (n .smdi) ≤ 999)
   pub delays : (pos (natAbs (n .mdtr)) ≡ n .mdtr) × (natAbs (n .mdtr) ≤ 9999) × (pos (natAbs (n .mdio)) ≡ n .mdio) × (natAbs (n .mdio) ≤ 9999)
 
-pub within : (n : Numbers) → limitsRule n ≡ 0 → InLimits n
-unfolding limitsRule
+pub within : (n : Numbers) → limitsNumber n ≡ 0 → InLimits n
+unfolding limitsNumber
 within n e =
     let three = then-zero _ _ e in
     let four = then-zero _ _ (three .1) in
@@ -117,6 +143,6 @@ within n e =
       delays = (r .0, r .2, i .0, i .2);
     }
 
-pub dsg-within : (dsg : ℤ) → dsgRule dsg ≡ 0 → (pos (natAbs dsg) ≡ dsg) × (natAbs dsg ≤ 9999)
-unfolding dsgRule
+pub dsg-within : (dsg : ℤ) → dsgNumber dsg ≡ 0 → (pos (natAbs dsg) ≡ dsg) × (natAbs dsg ≤ 9999)
+unfolding dsgNumber
 dsg-within dsg e = let d = natural-within 0 9999 dsg (when-zero 5 _ e) in (d .0, d .2)

@@ -13,7 +13,7 @@ use Rattle.limits.proofs.Laws.{or-false, magnitude-within, within-magni
 use Rattle.limits.specs.Refusal.{_when_, _then_}
 use borrow.Author.Tests.{eqb-true, eq-eqb, not-false}
 use lib.Dec.{eqb}
-use Rattle.limits.specs.Lists.{miscounted, anyOutside, anyBeyond, rangeRule}
+use Rattle.limits.specs.Lists.{miscounted, anyOutside, anyBeyond, rangeNumber}
 
 -- a list that passed has no number beyond the limit
 pub within-limit : (limit : ℕ) (l : List ℤ) → anyBeyond limit l ≡ false → (i : ℕ) → natAbs (getD l i (pos 0)) ≤ limit
@@ -29,16 +29,16 @@ limit-within limit [] h = refl
 limit-within limit (z ∷ l) h = rw (within-magnitude limit z (h 0), limit-within limit l (λ i. h (suc i)))
 
 -- what it tells that a list is not refused
-pub list-accepted : (wrong : Bool) (low high : ℤ) (l : List ℤ) → rangeRule wrong low high l ≡ 0
+pub list-accepted : (wrong : Bool) (low high : ℤ) (l : List ℤ) → rangeNumber wrong low high l ≡ 0
     → (wrong ≡ false) × (anyOutside low high l ≡ false)
-unfolding rangeRule
+unfolding rangeNumber
 list-accepted wrong low high l e =
     let z = then-zero (1 when wrong) (2 when anyOutside low high l) e in
     (when-zero 0 wrong (z .0), when-zero 1 (anyOutside low high l) (z .1))
 
 pub list-passes : (wrong : Bool) (low high : ℤ) (l : List ℤ) → wrong ≡ false → anyOutside low high l ≡ false
-    → rangeRule wrong low high l ≡ 0
-unfolding rangeRule _when_ _then_
+    → rangeNumber wrong low high l ≡ 0
+unfolding rangeNumber _when_ _then_
 list-passes wrong low high l e p = rw (e, p)
 
 -- a list that is not miscounted has its length, and the other way round

@@ -23,9 +23,9 @@ abbrev pub anyBeyond : ℕ → List ℤ → Bool
 anyBeyond limit l = anyOutside (negℤ (pos limit)) (pos limit) l
 
 -- 1: the count is wrong. 2: a number is outside low to high.
-unfoldable pub rangeRule : (wrong : Bool) → ℤ → ℤ → List ℤ → ℕ
-rangeRule wrong low high l = 1 when wrong then 2 when anyOutside low high l
+unfoldable pub rangeNumber : (wrong : Bool) → ℤ → ℤ → List ℤ → ℕ
+rangeNumber wrong low high l = 1 when wrong then 2 when anyOutside low high l
 
 -- 2: a number is outside plus or minus limit.
-abbrev pub listRule : (wrong : Bool) → ℕ → List ℤ → ℕ
-listRule wrong limit l = rangeRule wrong (negℤ (pos limit)) (pos limit) l
+abbrev pub listNumber : (wrong : Bool) → ℕ → List ℤ → ℕ
+listNumber wrong limit l = rangeNumber wrong (negℤ (pos limit)) (pos limit) l

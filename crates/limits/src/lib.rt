@@ -1,12 +1,21 @@
-// The ten numbers of a track and their limits, written once for Track and for Line, the limit of the four delays, written once for Track and for
-// stores, the limit test on a list of values, and the order of refusals.
+// The ten numbers of a track and their limits, written once for Track and for Line, the limits of what Track is given, of which stores keep the
+// delays, the limit test on a list of values, and the order of refusals.
 // An answer is a refusal number of document 01, or 0.
 ghost use mathlib.Core.Path.{_≡_};
 ghost use Rattle.limits.specs.Refusal.{_when_, _then_};
-ghost use Rattle.limits.specs.Limits.{outside, beyond, delayLimit, delaysBeyond, limitsRule, dsgRule};
+ghost use Rattle.limits.specs.Limits.{outside, beyond, delayLimit, delaysBeyond, limitsNumber, dsgNumber};
 ghost use Rattle.limits.specs.Blocks.{blocksFit};
 ghost use Rattle.limits.specs.Lists.{anyOutside};
 ghost use Rattle.limits.specs.Scan.{scanRule};
+
+// The limits of what is given, in ps, each with its negative: of a measurement, and of a delay and every correction but the geometry.
+pub const MEASUREMENT_LIMIT: i64 = 1_000_000_000_000;
+
+pub const MEASUREMENT_LEAST: i64 = -MEASUREMENT_LIMIT;
+
+pub const DELAY_LIMIT: i64 = 10_000_000_000;
+
+pub const DELAY_LEAST: i64 = -DELAY_LIMIT;
 
 // The ten numbers of a track, in their fixed order.
 pub struct Numbers {
@@ -43,11 +52,11 @@ pub fn outside(low: i64, high: i64, z: i64) -> bool
     (z < low) | (high < z)
 }
 
-// Whether a delay is outside ±10^10.
+// Whether a delay is beyond its limit.
 pub fn delay_beyond(delay: i64) -> bool
     ensures { λ r. ⌜ r ≡ beyond delayLimit delay ⌝ }
 {
-    outside(-10_000_000_000, 10_000_000_000, delay)
+    outside(DELAY_LEAST, DELAY_LIMIT, delay)
 }
 
 // Whether one of the four delays is.
@@ -101,7 +110,7 @@ pub fn any_outside(values: &[i64], low: i64, high: i64) -> bool
 
 // 3, 4 or 5 where one of the eight fitted numbers is outside its limits.
 pub fn limits(numbers: Numbers) -> u32
-    ensures { λ r. ⌜ r ≡ limitsRule numbers ⌝ }
+    ensures { λ r. ⌜ r ≡ limitsNumber numbers ⌝ }
 {
     let midpoints = outside(-9999999999, 9999999999, numbers.refsv)
         | outside(-9999999999, 9999999999, numbers.refsys);
@@ -115,7 +124,7 @@ pub fn limits(numbers: Numbers) -> u32
 
 // 6 where a DSG that is given is outside its limits.
 pub fn dsg(dsg: i64) -> u32
-    ensures { λ r. ⌜ r ≡ dsgRule dsg ⌝ }
+    ensures { λ r. ⌜ r ≡ dsgNumber dsg ⌝ }
 {
     when(6, outside(0, 9999, dsg))
 }

@@ -8,9 +8,9 @@ use Prim.Native.Nat.{ℕ, _≤_}
 use lib.Dec.{eqb}
 use lib.ListN.{length, drop}
 use lib.Seq.{drop-at}
-use borrow.Author.Tests.{le-ltb, eq-eqb}
+use borrow.Author.Tests.{le-ltb}
 use Rattle.limits.specs.Refusal.{_when_, _then_}
-use Rattle.limits.proofs.Laws.{then-zero}
+use Rattle.limits.proofs.Laws.{then-zero, after-accepted}
 use Rattle.exact.specs.Corrected.{steps}
 use Rattle.exact.specs.Accurate.{AccurateTrack}
 use Rattle.fit.specs.declared.TrackRecord.{TrackRecord}
@@ -20,15 +20,15 @@ use Rattle.decode.proofs.Signeds.{length-signeds}
 use Rattle.columns.specs.Text.{lineLength}
 use Rattle.columns.specs.Columns.{readNumbers}
 use Rattle.columns.proofs.Widths.{line-width}
+use Rattle.columns.proofs.ReadBack.{numbers-back}
 use Rattle.hire.specs.Hire.{blocksIn, blockLabels, givenIn, blockGiven}
 use Rattle.line.specs.Line.{lineAnswer}
-use Rattle.line.specs.Block.{blockNumbers, blockLine, sizesNumber, blockAnswer, blockAfter}
-use Rattle.line.proofs.Accepted.{accepted}
-use Rattle.line.proofs.ReadBack.{numbers-back}
+use Rattle.line.specs.Block.{blockNumbers, blockLine, sizesNumber, blockAnswer, blockAfter, blockNumber}
+use Rattle.line.proofs.Accepted.{content-accepted}
 use Rattle.line.proofs.Blocks.{track-number, track-record}
 
 -- any room is enough that has room for the line
-pub room-enough : (b : List ℕ) (room : ℕ) → lineLength ≤ room → blockAnswer b room ≡ blockAnswer b lineLength
+pub room-enough : (b : List ℕ) (room : ℕ) → lineLength ≤ room → blockAnswer b room ≡ blockNumber b
 unfolding blockAnswer lineAnswer
 room-enough b room h = rw (le-ltb room lineLength h)
 
@@ -58,7 +58,7 @@ module _ (b : List ℕ) (room : ℕ) (e : blockAnswer b room ≡ 0) where
 
   -- and are those read back from the columns of its line
   pub numbers-in : (rest : List ℕ) → readNumbers (blockLine b ++ rest) ≡ blockNumbers b
-  numbers-in rest = numbers-back (blockLabels b) (blockNumbers b) room rest (accepted (blockLabels b) (blockNumbers b) room line-accepts)
+  numbers-in rest = numbers-back (blockLabels b) (blockNumbers b) rest (content-accepted (blockLabels b) (blockNumbers b) room line-accepts)
 
 -- ---- the lent line afterwards
 
@@ -66,7 +66,7 @@ module _ (b : List ℕ) (room : ℕ) (e : blockAnswer b room ≡ 0) where
 module _ (b lent : List ℕ) where
   pub line-after : blockAnswer b (length lent) ≡ 0 → blockAfter b lent ≡ blockLine b ++ drop lineLength lent
   unfolding blockAfter
-  line-after e = rw (eq-eqb (blockAnswer b (length lent)) 0 e)
+  line-after e = after-accepted (blockLine b ++ drop lineLength lent) lent e
 
   pub end-after : drop lineLength (blockAfter b lent) ≡ drop lineLength lent
   unfolding blockAfter

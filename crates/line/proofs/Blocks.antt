@@ -2,14 +2,14 @@
 -- Assumes nothing.
 use mathlib.Core.Path.{_≡_, refl, sym, ap, _∙_, subst}
 use mathlib.Core.Bool.{Bool, true, false, true≢false, not}
-use mathlib.Core.List.{List}
+use mathlib.Core.List.{List, _++_}
 use Prim.Native.Nat.{ℕ, zero, suc, _<_}
 use native.Mathlib.Omega.{arith}
-use lib.ListN.{length}
+use lib.ListN.{length, drop}
 use lib.Dec.{ltb, eqb}
-use borrow.Author.Tests.{ne-eqb, eqb-true}
-use Rattle.limits.specs.Refusal.{_when_, _then_}
-use Rattle.limits.proofs.Laws.{then-zero, when-zero, then-refused, then-passed}
+use borrow.Author.Tests.{eqb-true}
+use Rattle.limits.specs.Refusal.{_when_, _then_, after}
+use Rattle.limits.proofs.Laws.{then-zero, when-zero, then-refused, then-passed, after-refused}
 use Rattle.exact.specs.Corrected.{Given, steps}
 use Rattle.exact.specs.Accurate.{AccurateTrack}
 use Rattle.fit.specs.declared.Found.{Found}
@@ -18,12 +18,13 @@ use Rattle.fit.specs.Track.{results, tracked, trackNumber, trackRule}
 use Rattle.fit.specs.Found.{foundNumber, foundNumbers, foundIn}
 use Rattle.fit.proofs.Tracks.{found-number, found-numbers}
 use Rattle.limits.specs.declared.Numbers.{Numbers}
+use Rattle.columns.specs.Text.{lineLength}
 use Rattle.columns.specs.Columns.{readNumbers}
 use Rattle.line.specs.Line.{lineAnswer, lineAfter}
 use Rattle.hire.specs.Hire.{blocksIn, sizesFit, blockLength, blockLabels, blockGiven}
 use Rattle.hire.specs.Found.{blockFound}
 use Rattle.hire.proofs.Lists.{whole-found}
-use Rattle.line.specs.Block.{blockNumbers, sizesNumber, blockAnswer, blockAfter}
+use Rattle.line.specs.Block.{blockNumbers, blockLine, sizesNumber, blockAnswer, blockAfter}
 use Rattle.line.proofs.ReadBack.{numbers-read}
 
 -- ---- what Track's answer says
@@ -84,7 +85,7 @@ module _ (b lent : List ℕ) where
 
   kept : (blockAnswer b (length lent) ≡ 0 → ⊥) → lent ≡ blockAfter b lent
   unfolding blockAfter
-  kept h = rw (ne-eqb (blockAnswer b (length lent)) 0 h)
+  kept h = sym (after-refused (blockLine b ++ drop lineLength lent) lent h)
 
   -- a refusal leaves the lent line as it was
   pub refused : (r : ℕ) → 0 < r → r ≡ blockAnswer b (length lent) → Promised r lent
@@ -97,7 +98,7 @@ module _ (b lent : List ℕ) where
   same-after : lineAnswer (blockLabels b) (blockNumbers b) (length lent) ≡ blockAnswer b (length lent)
       → lineAfter (blockLabels b) (blockNumbers b) lent ≡ blockAfter b lent
   unfolding lineAfter blockAfter
-  same-after e = rw e
+  same-after e = ap (λ (k : ℕ). after k (blockLine b ++ drop lineLength lent) lent) e
 
   pub written : (x : Found) → sizesNumber b ≡ 0 → x ≡ foundIn (blockGiven b)
       → (foundNumber x ≡ 0 → AccurateTrack steps (blocksIn b) (blockGiven b) (foundNumbers x)) → foundNumber x ≡ 0

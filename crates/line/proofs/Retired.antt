@@ -2,12 +2,10 @@
 -- of today, for every block and every lent line.
 -- Assumes nothing.
 use mathlib.Core.Path.{_≡_, ap}
-use mathlib.Core.Bool.{cond}
 use mathlib.Core.List.{List, _++_}
 use Prim.Native.Nat.{ℕ}
-use lib.Dec.{eqb}
 use lib.ListN.{length, drop}
-use Rattle.limits.specs.Refusal.{_then_}
+use Rattle.limits.specs.Refusal.{_then_, after}
 use Rattle.columns.specs.Text.{lineLength}
 use Rattle.fit.proofs.Retired.{trackNumberWith10, number-stays}
 use Rattle.hire.specs.Hire.{blockLabels, blockGiven}
@@ -19,7 +17,7 @@ blockAnswerWith10 b room =
     sizesNumber b then trackNumberWith10 (blockGiven b) then lineAnswer (blockLabels b) (blockNumbers b) room
 
 unfoldable pub blockAfterWith10 : List ℕ → (lent : List ℕ) → List ℕ
-blockAfterWith10 b lent = cond (eqb (blockAnswerWith10 b (length lent)) 0) (blockLine b ++ drop lineLength lent) lent
+blockAfterWith10 b lent = after (blockAnswerWith10 b (length lent)) (blockLine b ++ drop lineLength lent) lent
 
 pub block-stays : (b : List ℕ) (room : ℕ) → blockAnswerWith10 b room ≡ blockAnswer b room
 unfolding blockAnswerWith10 blockAnswer
@@ -27,4 +25,4 @@ block-stays b room = ap (λ (k : ℕ). sizesNumber b then k then lineAnswer (blo
 
 pub line-stays : (b lent : List ℕ) → blockAfterWith10 b lent ≡ blockAfter b lent
 unfolding blockAfterWith10 blockAfter
-line-stays b lent = ap (λ (k : ℕ). cond (eqb k 0) (blockLine b ++ drop lineLength lent) lent) (block-stays b (length lent))
+line-stays b lent = ap (λ (k : ℕ). after k (blockLine b ++ drop lineLength lent) lent) (block-stays b (length lent))

@@ -4,16 +4,16 @@ use mathlib.Core.Path.{_≡_, refl}
 use Prim.Native.Char.{code}
 use lib.IntN.{pos}
 use Rattle.limits.specs.Refusal.{_when_, _then_}
-use Rattle.limits.specs.Limits.{outside, limitsRule, dsgRule}
-use Rattle.schedule.specs.Schedule.{broughtIn, startMinute, some, isStart, startRule}
+use Rattle.limits.specs.Limits.{outside, limitsNumber, dsgNumber}
+use Rattle.schedule.specs.Schedule.{broughtIn, startMinute, some, isStart, startNumber}
 use Rattle.fields.specs.Text.{bytesOf, decimal, sign, signed, hexDigit, hexadecimal, byteSum, checksum}
 use Rattle.labels.specs.declared.Labels.{Labels}
 use Rattle.limits.specs.declared.Numbers.{Numbers}
 use Rattle.limits.specs.Blocks.{blocksFit}
 use Rattle.labels.specs.Labels.{constellationFits, codeFits, labelsFit, trackLengthFits}
-use Rattle.labels.specs.Content.{contentRule}
+use Rattle.labels.specs.Content.{contentNumber}
 use Rattle.line.specs.Line.{lineAnswer}
-use Rattle.columns.specs.Text.{clock, trackColumns, clockColumns, delayColumns, columns, spaced, lineText}
+use Rattle.columns.specs.Text.{timeOfDay, trackColumns, clockColumns, delayColumns, columns, spaced, lineText}
 
 abbrev pub labels : Labels
 labels =
@@ -49,9 +49,9 @@ numbers =
     }
 
 pub sample : lineText labels numbers ≡ bytesOf "G05 FF 50722 000200 0780 450 1800 +0000000010 +00000 +0000000010 +00000 0000 007 0000 +000 0000 +000 00 00 L1C 26"
-unfolding bytesOf lineText columns trackColumns clockColumns delayColumns spaced clock decimal signed sign hexadecimal hexDigit checksum byteSum
+unfolding bytesOf lineText columns trackColumns clockColumns delayColumns spaced timeOfDay decimal signed sign hexadecimal hexDigit checksum byteSum
 sample = refl
 
 pub sample-accepted : lineAnswer labels numbers 113 ≡ 0
-unfolding lineAnswer contentRule _when_ _then_ labelsFit constellationFits codeFits startRule isStart some startMinute broughtIn limitsRule dsgRule outside trackLengthFits blocksFit
+unfolding lineAnswer contentNumber _when_ _then_ labelsFit constellationFits codeFits startNumber isStart some startMinute broughtIn limitsNumber dsgNumber outside trackLengthFits blocksFit
 sample-accepted = refl

@@ -1,11 +1,11 @@
 -- Block (document 01, "Each operation and its refusals, in order"; document 02, Job 3): its answer, and the lent line afterwards, for every input.
 -- Assumes nothing.
 use Prim.Native.Nat.{ℕ}
-use mathlib.Core.Bool.{cond, not}
+use mathlib.Core.Bool.{not}
 use mathlib.Core.List.{List, _++_}
 use lib.ListN.{length, drop}
 use lib.Dec.{ltb, eqb}
-use Rattle.limits.specs.Refusal.{_when_, _then_}
+use Rattle.limits.specs.Refusal.{_when_, _then_, after}
 use Rattle.fit.specs.Track.{results, trackNumber}
 use Rattle.limits.specs.declared.Numbers.{Numbers}
 use Rattle.columns.specs.Text.{lineLength, lineText}
@@ -33,7 +33,10 @@ blockAnswer b room =
     then trackNumber (blockGiven b)
     then lineAnswer (blockLabels b) (blockNumbers b) room
 
+-- What a block is refused for where there is room for its line: Block's order without 9.
+abbrev pub blockNumber : List ℕ → ℕ
+blockNumber b = blockAnswer b lineLength
+
 -- The lent line afterwards: the block's line in its first bytes where the answer is 0, and else as it was lent.
 unfoldable pub blockAfter : List ℕ → (lent : List ℕ) → List ℕ
-blockAfter b lent =
-    cond (eqb (blockAnswer b (length lent)) 0) (blockLine b ++ drop lineLength lent) lent
+blockAfter b lent = after (blockAnswer b (length lent)) (blockLine b ++ drop lineLength lent) lent

@@ -10,14 +10,13 @@ ghost use Rattle.columns.specs.Columns.{readNumbers};
 ghost use Rattle.line.specs.Line.{lineAnswer, lineAfter};
 ghost use Rattle.hire.specs.Hire.{blocksIn, blockGiven};
 ghost use Rattle.line.specs.Block.{sizesNumber, blockAnswer, blockAfter};
+use columns::LINE_LENGTH;
 use fit::Found;
 use fit::found_number;
 pub use labels::Labels;
 pub use labels::Numbers;
 use limits::then;
 use limits::when;
-
-const LINE_LENGTH: usize = 113;
 
 // Line of document 01. It answers 0 with the line in the first 113 bytes of the lent one, or the number of the first refusal.
 pub fn line(labels: Labels, numbers: Numbers, lent: &mut [u8]) -> u32

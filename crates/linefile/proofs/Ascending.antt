@@ -8,7 +8,7 @@ use lib.ListN.{drop}
 use Rattle.limits.specs.Refusal.{_when_, _then_}
 use Rattle.limits.proofs.Laws.{then-zero, when-zero}
 use borrow.Author.Tests.{not-false}
-use Rattle.linefile.specs.Files.{keysOf, keys, before, lineNumber, linesNumber}
+use Rattle.linefile.specs.Files.{keysOf, keys, before, endedNumber, linesNumber}
 use Rattle.linefile.proofs.Keys.{before-trans}
 
 -- Each line has keys behind those of the line before it; the first, behind `last`.
@@ -23,7 +23,7 @@ All P (a ∷ rest) = P a × All P rest
 
 -- A line that is not refused by itself.
 abbrev pub Accepted : List ℕ → Type 0
-Accepted line = lineNumber line ≡ 0
+Accepted line = endedNumber line ≡ 0
 
 -- A line with keys behind these.
 abbrev pub Behind : (last line : List ℕ) → Type 0

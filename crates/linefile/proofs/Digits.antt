@@ -10,7 +10,7 @@ use native.Mathlib.Numerals.{add-one}
 use native.Mathlib.Omega.{arith}
 use lib.ListN.{length, take, drop, getD}
 use lib.Seq.{drop-cons, getD-take}
-use Rattle.fields.specs.Read.{digitsAfter, readDecimal}
+use Rattle.fields.specs.Read.{digitsFrom, readDecimal}
 use Rattle.columns.specs.Text.{lineLength}
 use Rattle.characters.specs.Kinds.{allows, allowed}
 use Rattle.reading.specs.Fields.{digits, Holds}
@@ -19,12 +19,12 @@ use Rattle.characters.proofs.Allowed.{digit-range}
 use Rattle.reading.proofs.Columns.{Columns, columns-of, own-columns, shared}
 use Rattle.reading.proofs.Refusals.{accepted}
 use Rattle.limits.proofs.Laws.{then-zero, both}
-use Rattle.linefile.specs.Files.{columnsOf, lineNumber}
+use Rattle.linefile.specs.Files.{columnsOf, endedNumber}
 use Rattle.linefile.proofs.Ascending.{Accepted}
 
-unfoldable pub rawAfter : ℕ → List ℕ → ℕ
-rawAfter before [] = before
-rawAfter before (b ∷ bs) = rawAfter (10 * before + b) bs
+unfoldable pub rawFrom : ℕ → List ℕ → ℕ
+rawFrom before [] = before
+rawFrom before (b ∷ bs) = rawFrom (10 * before + b) bs
 
 -- By how much so many more digits make it greater, where it is `more` greater before them.
 unfoldable pub excess : (digits more : ℕ) → ℕ
@@ -32,13 +32,13 @@ excess zero more = more
 excess (suc n) more = excess n (10 * more + 48)
 
 raw-is : (n before more : ℕ) (text : List ℕ) → allowed (digits n) text ≡ true
-    → rawAfter (before + more) (take n text) ≡ digitsAfter before (take n text) + excess n more
-unfolding rawAfter excess allowed digitsAfter
+    → rawFrom (before + more) (take n text) ≡ digitsFrom before (take n text) + excess n more
+unfolding rawFrom excess allowed digitsFrom
 raw-is zero before more text e = refl
 raw-is (suc n) before more [] e = absurd (false≢true e)
 raw-is (suc n) before more (b ∷ text) e =
     let p = both (allows 57 b) (allowed (digits n) text) e in
-    ap (λ (k : ℕ). rawAfter k (take n text)) (next (digit-range b (p .0)))
+    ap (λ (k : ℕ). rawFrom k (take n text)) (next (digit-range b (p .0)))
     ∙ raw-is n (10 * before + (b - 48)) (10 * more + 48) text (p .1)
   where
     next : (48 ≤ b) × (b ≤ 57) → 10 * (before + more) + b ≡ 10 * before + (b - 48) + (10 * more + 48)
@@ -66,7 +66,7 @@ row-take (suc n) at k line h =
 
 module _ (line : List ℕ) (e : Accepted line) where
   read-zero : readNumber (columnsOf line) ≡ 0
-  unfolding lineNumber
+  unfolding endedNumber
   read-zero = then-zero _ _ e .0
 
   pub columns : Columns (columnsOf line)
@@ -80,8 +80,8 @@ module _ (line : List ℕ) (e : Accepted line) where
 
   -- the digits in its columns from an offset on
   pub digits-raw : (n at : ℕ) → at + n ≤ lineLength → allowed (digits n) (drop at (columnsOf line)) ≡ true
-      → rawAfter 0 (row n at line) ≡ readDecimal (take n (drop at (columnsOf line))) + excess n 0
+      → rawFrom 0 (row n at line) ≡ readDecimal (take n (drop at (columnsOf line))) + excess n 0
   unfolding readDecimal
   digits-raw n at h a =
-      ap (rawAfter 0) (sym (row-is n at (columnsOf line) (le-trans h columns-long) ∙ row-take n at lineLength line h))
+      ap (rawFrom 0) (sym (row-is n at (columnsOf line) (le-trans h columns-long) ∙ row-take n at lineLength line h))
       ∙ raw-is n 0 0 (drop at (columnsOf line)) a

@@ -11,8 +11,8 @@ use lib.ListN.{length, drop, getD, drop-of-length-le}
 use lib.Seq.{drop-cons}
 use borrow.Author.Tests.{ltb-true, ltb-false, eqb-false, lt-ltb, le-leb, lt-leb}
 use Rattle.limits.specs.Refusal.{_when_, _then_}
-use Rattle.limits.proofs.Laws.{then-refused, then-passed, then-assoc}
-use Rattle.linefile.specs.Files.{endedLength, columnsOf, same, ended, keys, before, lineNumber, linesNumber}
+use Rattle.limits.proofs.Laws.{then-refused, then-passed, then-assoc, then-none}
+use Rattle.linefile.specs.Files.{endedLength, columnsOf, same, hasLineEnd, keys, before, endedNumber, linesNumber}
 use Rattle.reading.specs.Read.{readNumber}
 use Rattle.linefile.specs.Walk.{rank}
 use Rattle.linefile.proofs.Ascending.{Accepted, before-none}
@@ -22,7 +22,7 @@ use Rattle.linefile.proofs.Ranks.{rank-before, rank-some}
 unfoldable pub rankedNumber : (last : ℕ) → List (List ℕ) → ℕ
 rankedNumber last [] = 0
 rankedNumber last (line ∷ rest) =
-    lineNumber line then 16 when leb (rank line) last then rankedNumber (rank line) rest
+    endedNumber line then 16 when leb (rank line) last then rankedNumber (rank line) rest
 
 not-ltb : (m n : ℕ) → not (ltb m n) ≡ leb n m
 not-ltb m n = by-test (ltb m n) refl
@@ -38,17 +38,17 @@ Stands last r = (line : List ℕ) → Accepted line → before last (keys line) 
 ranked : (ls : List (List ℕ)) (last : List ℕ) (r : ℕ) → Stands last r → linesNumber last ls ≡ rankedNumber r ls
 unfolding linesNumber rankedNumber Stands
 ranked [] last r s = refl
-ranked (l ∷ ls) last r s = by-number (lineNumber l) refl (λ e. ranked ls (keys l) (rank l) (λ line f. rank-before l line e f))
+ranked (l ∷ ls) last r s = by-number (endedNumber l) refl (λ e. ranked ls (keys l) (rank l) (λ line f. rank-before l line e f))
   where
-    by-number : (n : ℕ) → lineNumber l ≡ n → (Accepted l → linesNumber (keys l) ls ≡ rankedNumber (rank l) ls)
-        → lineNumber l then 16 when not (before last (keys l)) then linesNumber (keys l) ls
-        ≡ lineNumber l then 16 when leb (rank l) r then rankedNumber (rank l) ls
+    by-number : (n : ℕ) → endedNumber l ≡ n → (Accepted l → linesNumber (keys l) ls ≡ rankedNumber (rank l) ls)
+        → endedNumber l then 16 when not (before last (keys l)) then linesNumber (keys l) ls
+        ≡ endedNumber l then 16 when leb (rank l) r then rankedNumber (rank l) ls
     by-number zero e h =
-        ap₂ (λ (b : Bool) (n : ℕ). lineNumber l then 16 when b then n) (ap not (s l e) ∙ not-ltb r (rank l)) (h e)
+        ap₂ (λ (b : Bool) (n : ℕ). endedNumber l then 16 when b then n) (ap not (s l e) ∙ not-ltb r (rank l)) (h e)
     by-number (suc n) e h =
-        then-refused (lineNumber l) _ (some e) ∙ sym (then-refused (lineNumber l) _ (some e))
+        then-refused (endedNumber l) _ (some e) ∙ sym (then-refused (endedNumber l) _ (some e))
       where
-        some : lineNumber l ≡ suc n → 0 < lineNumber l
+        some : endedNumber l ≡ suc n → 0 < endedNumber l
         some e = omega arith
 
 pub ranked-none : (ls : List (List ℕ)) → linesNumber [] ls ≡ rankedNumber 0 ls
@@ -57,12 +57,12 @@ ranked-none ls = ranked ls [] 0 (λ line e. before-none line ∙ sym (lt-ltb 0 (
 
 -- ---- one line
 
-pub refused-line : (line : List ℕ) {number : ℕ} → number ≡ readNumber (columnsOf line) → 0 < readNumber (columnsOf line) → number ≡ lineNumber line
-unfolding lineNumber
+pub refused-line : (line : List ℕ) {number : ℕ} → number ≡ readNumber (columnsOf line) → 0 < readNumber (columnsOf line) → number ≡ endedNumber line
+unfolding endedNumber
 refused-line line e h = e ∙ sym (then-refused _ _ h)
 
-ended-is : (line : List ℕ) → length line ≡ endedLength → ended line ≡ eqb (getD line 113 0) 13 && eqb (getD line 114 0) 10
-unfolding ended same
+ended-is : (line : List ℕ) → length line ≡ endedLength → hasLineEnd line ≡ eqb (getD line 113 0) 13 && eqb (getD line 114 0) 10
+unfolding hasLineEnd same
 ended-is line h =
     rw (drop-cons line 113 0 (omega arith), drop-cons line 114 0 (omega arith), drop-of-length-le line (most h))
     (ap (λ (b : Bool). eqb (getD line 113 0) 13 && b) (and-true _))
@@ -75,15 +75,15 @@ either-not true b = refl
 either-not false b = refl
 
 pub read-line : (line : List ℕ) {number : ℕ} → length line ≡ endedLength → readNumber (columnsOf line) ≡ 0
-    → number ≡ 13 when (not (eqb (getD line 113 0) 13) || not (eqb (getD line 114 0) 10)) → number ≡ lineNumber line
-unfolding lineNumber
+    → number ≡ 13 when (not (eqb (getD line 113 0) 13) || not (eqb (getD line 114 0) 10)) → number ≡ endedNumber line
+unfolding endedNumber
 read-line line h z e =
     e ∙ ap (λ (b : Bool). 13 when b) (either-not (eqb (getD line 113 0) 13) (eqb (getD line 114 0) 10) ∙ ap not (sym (ended-is line h))) ∙ sym (then-passed _ _ z)
 
 -- ---- a turn
 
 pub judged : (ls : List (List ℕ)) (i last place : ℕ) {line : List ℕ} {own order number next total : ℕ} → i < length ls → line ≡ getD ls i []
-    → place ≡ rank line → own ≡ lineNumber line → order ≡ 16 when leb place last
+    → place ≡ rank line → own ≡ endedNumber line → order ≡ 16 when leb place last
     → number ≡ 0 → total ≡ number then rankedNumber last (drop i ls) → next ≡ own then order
     → total ≡ next then rankedNumber place (drop (i + 1) ls)
 unfolding rankedNumber
@@ -95,10 +95,6 @@ judged ls i last place {line} {own} {order} h l p o s z t e =
     ∙ ap (λ (n : ℕ). own then n then rankedNumber place (drop (i + 1) ls)) (sym s)
     ∙ sym (then-assoc own order (rankedNumber place (drop (i + 1) ls)))
     ∙ ap (λ (n : ℕ). n then rankedNumber place (drop (i + 1) ls)) (sym e)
-
-then-none : (n : ℕ) → n then 0 ≡ n
-then-none zero = then-passed 0 0 refl
-then-none (suc n) = then-refused (suc n) 0 (omega arith)
 
 -- all lines are judged, or one is refused
 pub judged-all : (ls : List (List ℕ)) (i last number : ℕ) {total : ℕ} → ltb i (length ls) && eqb number 0 ≡ false

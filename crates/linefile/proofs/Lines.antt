@@ -1,15 +1,17 @@
 -- The lines of a file and its bytes (specs/Files.antt).
 -- Assumes nothing.
 use mathlib.Core.Path.{_≡_, refl, sym, ap, subst, _∙_}
+use mathlib.Core.Bool.{true, _&&_}
 use mathlib.Core.List.{List, []}
 use Prim.Native.Nat.{ℕ, zero, suc, _+_, _-_, _*_, _/_, _%_, _≤_, _<_}
 use native.Mathlib.Nat.{not-suc-le-zero, le-of-suc-le-suc}
 use native.Mathlib.Omega.{arith}
+use lib.Dec.{ltb}
 use lib.ListN.{length, take, drop, getD, length-drop}
 use lib.Seq.{length-take-le, drop-cons, drop-drop}
-use borrow.Author.Tests.{eqb-true, eq-eqb, not-false}
+use borrow.Author.Tests.{ltb-true, eqb-true, eq-eqb, not-false}
 use Rattle.limits.specs.Refusal.{_when_, _then_}
-use Rattle.limits.proofs.Laws.{then-zero, when-zero}
+use Rattle.limits.proofs.Laws.{then-zero, when-zero, both}
 use Rattle.linefile.specs.Files.{endedLength, linesIn, lines, fileNumber}
 use Rattle.linefile.proofs.Ascending.{Ascending, All, Accepted, all-drop, lines-accepted, accepted-lines}
 
@@ -63,12 +65,20 @@ pub lines-long : (file : List ℕ) → All Long (lines file)
 unfolding lines
 lines-long file = long-in (length file / endedLength) file (omega arith)
 
+-- both files have a line left, which is what a walk tests
+pub lines-left : (m n a b : ℕ) → ltb m a && ltb n b ≡ true → (m < a) × (n < b)
+lines-left m n a b e = let t = both (ltb m a) (ltb n b) e in (ltb-true m a (t .0), ltb-true n b (t .1))
+
 -- ---- a line file
 
 pub record LineFile (file : List ℕ) : Type 0 where
   pub whole : length file ≡ endedLength * (length file / endedLength)
   pub ascends : Ascending [] (lines file)
   pub accepted : All Accepted (lines file)
+
+-- so many lines are whole lines
+pub whole-lines : {n : ℕ} (k : ℕ) → n ≡ endedLength * k → n ≡ endedLength * (n / endedLength)
+whole-lines k e = omega arith
 
 pub line-file : (file : List ℕ) → fileNumber file ≡ 0 → LineFile file
 unfolding fileNumber

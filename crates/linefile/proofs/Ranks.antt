@@ -10,16 +10,17 @@ use lib.ListN.{getD}
 use lib.Seq.{getD-take}
 use borrow.Author.Tests.{lt-ltb, le-ltb, eqb-true}
 use Rattle.fields.specs.Read.{readDecimal}
+use Rattle.fields.specs.Raw.{twoDigits}
 use Rattle.columns.specs.Columns.{byteIn, field, labelsWith, readLabels}
 use Rattle.characters.specs.Kinds.{letterFits}
 use Rattle.limits.proofs.Laws.{either}
 use Rattle.characters.proofs.Allowed.{letter-is}
 use Rattle.reading.proofs.Columns.{field-bound, holds-at}
 use Rattle.linefile.specs.Files.{columnsOf, keysOf, keys, before}
-use Rattle.linefile.specs.Walk.{twoDigits, rank}
+use Rattle.linefile.specs.Walk.{rank}
 use Rattle.linefile.proofs.Keys.{Heads, less, equal, more, heads, before-below, before-above, before-level, before-irrefl}
 use Rattle.linefile.proofs.Ascending.{Accepted}
-use Rattle.linefile.proofs.Digits.{letter-holds, rawAfter, excess, row, columns, digits-raw}
+use Rattle.linefile.proofs.Digits.{letter-holds, rawFrom, excess, row, columns, digits-raw}
 
 -- the letter is that of a constellation
 letter-bound : (b : ℕ) → letterFits b ≡ true → b < 256
@@ -81,11 +82,11 @@ module _ (x : List ℕ) (e : Accepted x) where
   letter-is-first = sym (getD-take 113 x 0 0 (lit< tt))
 
   mjd-is : 1000 * twoDigits 7 x + 10 * twoDigits 9 x + getD x 11 0 ≡ readDecimal (field 8 12 (columnsOf x)) + 533328
-  unfolding field rawAfter excess row
+  unfolding field rawFrom excess row
   mjd-is = omega (arith, digits-raw x e 5 7 (lit≤ tt) (columns x e .mjd .holds))
 
   start-is : 3600 * twoDigits 13 x + 60 * twoDigits 15 x + twoDigits 17 x ≡ readLabels (columnsOf x) .start + 1933008
-  unfolding readLabels labelsWith field rawAfter excess row
+  unfolding readLabels labelsWith field rawFrom excess row
   start-is =
       omega (
         arith,
@@ -95,7 +96,7 @@ module _ (x : List ℕ) (e : Accepted x) where
       )
 
   satellite-is : twoDigits 1 x ≡ readDecimal (field 2 3 (columnsOf x)) + 528
-  unfolding field rawAfter excess row
+  unfolding field rawFrom excess row
   satellite-is = omega (arith, digits-raw x e 2 1 (lit≤ tt) (columns x e .satellite .holds))
 
   rank-is : rank x ≡ value (readLabels (columnsOf x) .mjd) (readLabels (columnsOf x) .start) (readLabels (columnsOf x) .constellation) (readLabels (columnsOf x) .satellite)

@@ -7,7 +7,7 @@ use lib.Dec.{ltb, eqb}
 use lib.ListN.{length, take, drop, getD}
 use Rattle.limits.specs.Refusal.{_when_, _then_}
 use Rattle.labels.specs.declared.Labels.{Labels}
-use Rattle.columns.specs.Text.{lineLength}
+use Rattle.columns.specs.Text.{lineLength, lineEnd}
 use Rattle.columns.specs.Columns.{readLabels}
 use Rattle.reading.specs.Read.{readNumber}
 
@@ -43,12 +43,9 @@ same [] (b ∷ bs) = false
 same (a ∷ at) [] = false
 same (a ∷ at) (b ∷ bs) = eqb a b && same at bs
 
--- A line ends with carriage return and line feed.
-abbrev pub lineEnd : List ℕ
-lineEnd = 13 ∷ 10 ∷ []
-
-unfoldable pub ended : List ℕ → Bool
-ended line = same (drop lineLength line) lineEnd
+-- A line has its end behind its columns.
+unfoldable pub hasLineEnd : List ℕ → Bool
+hasLineEnd line = same (drop lineLength line) lineEnd
 
 -- The four keys of a line: MJD, start, constellation letter and satellite number.
 unfoldable pub keysOf : Labels → List ℕ
@@ -65,14 +62,14 @@ before (a ∷ at) [] = false
 before (a ∷ at) (b ∷ bs) = ltb a b || eqb a b && before at bs
 
 -- What a line is refused for, whatever stands around it: the reader's refusals of its columns, then 13 for its end.
-unfoldable pub lineNumber : List ℕ → ℕ
-lineNumber line = readNumber (columnsOf line) then 13 when not (ended line)
+unfoldable pub endedNumber : List ℕ → ℕ
+endedNumber line = readNumber (columnsOf line) then 13 when not (hasLineEnd line)
 
 -- Lines behind one with the keys `last`: the earliest one decides, and each is 16 where it does not follow the one before it.
 unfoldable pub linesNumber : (last : List ℕ) → List (List ℕ) → ℕ
 linesNumber last [] = 0
 linesNumber last (line ∷ rest) =
-    lineNumber line then 16 when not (before last (keys line)) then linesNumber (keys line) rest
+    endedNumber line then 16 when not (before last (keys line)) then linesNumber (keys line) rest
 
 -- The number of a file's refusal, 0 for a line file. 12: a tail too short for a line stands behind its lines.
 unfoldable pub fileNumber : List ℕ → ℕ

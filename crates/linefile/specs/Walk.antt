@@ -5,12 +5,9 @@ use mathlib.Core.Bool.{false, cond, _&&_}
 use mathlib.Core.List.{List}
 use lib.Dec.{ltb, leb, eqb}
 use lib.ListN.{length, getD}
+use Rattle.fields.specs.Raw.{twoDigits}
 use Rattle.linefile.specs.Files.{endedLength, lineAt}
 use Rattle.linefile.specs.declared.Next.{Next}
-
--- Two bytes that stand for the digits of a number: 48 · 11 more than it.
-abbrev pub twoDigits : ℕ → List ℕ → ℕ
-twoDigits at line = 10 * getD line at 0 + getD line (at + 1) 0
 
 -- One number for the four keys of an accepted line, each with a radix beyond what it reaches: so lines ascend by it as they do by their keys.
 unfoldable pub rank : List ℕ → ℕ

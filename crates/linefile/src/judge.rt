@@ -1,17 +1,19 @@
 // What a line is refused for by itself.
 ghost use mathlib.Core.Path.{_≡_};
 ghost use lib.ListN.{length};
-ghost use Rattle.linefile.specs.Files.{endedLength, lineNumber};
+ghost use Rattle.linefile.specs.Files.{endedLength, endedNumber};
+use columns::LINE_LENGTH;
 use limits::when;
 use reader::Reading;
 
-const COLUMNS: usize = 113;
+// Where line feed stands, behind carriage return.
+const LINE_FEED: usize = LINE_LENGTH + 1;
 
 pub fn line_refusal(line: &[u8]) -> u32
     requires { ⌜ length (now line) ≡ endedLength ⌝ }
-    ensures { λ r. ⌜ r ≡ lineNumber (now (line .entry)) ⌝ }
+    ensures { λ r. ⌜ r ≡ endedNumber (now (line .entry)) ⌝ }
 {
-    let reading = reader::read(&line[..COLUMNS]);
+    let reading = reader::read(&line[..LINE_LENGTH]);
     let Reading::Line {
         labels: _,
         numbers: _,
@@ -19,5 +21,8 @@ pub fn line_refusal(line: &[u8]) -> u32
     else {
         return reader::reading_number(reading);
     };
-    when(13, (line[113] != 13) | (line[114] != 10))
+    when(
+        13,
+        (line[LINE_LENGTH] != b'\r') | (line[LINE_FEED] != b'\n'),
+    )
 }

@@ -6,14 +6,16 @@ ghost use mathlib.Core.Bool.{cond};
 ghost use Prim.Native.Nat.{_≤_};
 ghost use Rattle.limits.specs.Refusal.{_then_};
 ghost use Rattle.linefile.specs.Files.{fileNumber};
-ghost use Rattle.linefile.specs.Walk.{twoDigits, stepOf};
+ghost use Rattle.linefile.specs.Walk.{stepOf};
+use columns::LINE_LENGTH;
 use limits::then;
 use limits::when;
 
 mod judge;
 mod rank;
 
-const LINE: usize = 115;
+// The bytes of a line of a file: its columns, carriage return and line feed.
+pub const LINE: usize = LINE_LENGTH + 2;
 
 // What a file is refused for. The lines are read one by one up to the first that is refused; then the tail is looked at.
 pub fn refusal(file: &[u8]) -> u32
@@ -45,19 +47,6 @@ pub fn refusals(first: &[u8], second: &[u8]) -> u32
         return number;
     }
     refusal(second)
-}
-
-// Two bytes of a line, as if they were digits and '0' were 0. What stands past its end counts as 0.
-pub fn two_digits(line: &[u8], at: usize) -> u64
-    ensures { λ r. ⌜ (r ≡ twoDigits at (now (line .entry))) × (r ≤ 2805) ⌝ }
-{
-    if line.len() <= at {
-        return 0;
-    }
-    if line.len() - at < 2 {
-        return 10 * rank::wide(line[at]);
-    }
-    rank::two_digits(line, at)
 }
 
 // Where a walk goes on: behind the earlier of two lines, or behind both where they have the same keys.

@@ -4,19 +4,18 @@
 use mathlib.Core.Path.{_≡_, refl, sym, ap, ap₂, subst, _∙_}
 use mathlib.Core.Bool.{Bool, true, false, cond, _||_}
 use mathlib.Core.List.{List, [], _++_}
-use Prim.Native.Nat.{ℕ, _*_, _/_}
-use native.Mathlib.Omega.{arith}
-use lib.Dec.{ltb, eqb}
+use Prim.Native.Nat.{ℕ}
+use lib.Dec.{ltb}
 use lib.ListN.{length, drop}
-use Rattle.limits.specs.Refusal.{_when_, _then_}
+use Rattle.limits.specs.Refusal.{_when_, _then_, after}
 use Rattle.limits.specs.Reply.{reply}
 use Rattle.limits.proofs.Laws.{then-passed}
-use Rattle.linefile.specs.Files.{endedLength, linesIn, lines, linesNumber, fileNumber, joined}
+use Rattle.linefile.specs.Files.{linesIn, lines, linesNumber, fileNumber, joined}
 use Rattle.linefile.specs.Partners.{partners}
 use Rattle.merging.specs.Merge.{anyDiffer, merged, mergedFile, mergeNumber, mergeRule, mergeAfter}
 use Rattle.linefile.proofs.Ascending.{Ascending, All, Accepted}
 use Rattle.linefile.proofs.Holding.{holds, times}
-use Rattle.linefile.proofs.Lines.{line-file, line-file-zero}
+use Rattle.linefile.proofs.Lines.{line-file, line-file-zero, whole-lines}
 use Rattle.linefile.proofs.Partners.{partners-nothing}
 use Rattle.linefile.proofs.Joined.{lines-joined, joined-lines}
 use Rattle.merging.proofs.Steps.{all-merged, merged-ascends, merged-nothing}
@@ -40,13 +39,10 @@ module _ (first second : List ℕ) (f : fileNumber first ≡ 0) (g : fileNumber 
   result-file =
       line-file-zero (mergedFile first second)
       (record {
-        whole = whole (length (merged (lines first) (lines second))) (length-merged first second);
+        whole = whole-lines (length (merged (lines first) (lines second))) (length-merged first second);
         ascends = result-ascends;
         accepted = subst (All Accepted) (sym (result-lines first second)) (all-merged Accepted (lines first) (lines second) (line-file first f .accepted) (line-file second g .accepted));
       })
-    where
-      whole : {n : ℕ} (m : ℕ) → n ≡ endedLength * m → n ≡ endedLength * (n / endedLength)
-      whole m e = omega arith
 
   -- each line of either is in it exactly once, and no other
   pub result-once : anyDiffer (partners (lines first) (lines second)) ≡ false → (line : List ℕ)
@@ -91,7 +87,7 @@ module _ (first second : List ℕ) (f : fileNumber first ≡ 0) (g : fileNumber 
   pub after-swapped : (lent : List ℕ) → mergeAfter first second lent ≡ mergeAfter second first lent
   unfolding mergeAfter
   after-swapped lent =
-      swapped (λ number bytes. cond (eqb number 0) (bytes ++ drop (length bytes) lent) lent) (λ a b. refl) (length lent)
+      swapped (λ number bytes. after number (bytes ++ drop (length bytes) lent) lent) (λ a b. refl) (length lent)
 
 -- ---- with itself, and with an empty file
 

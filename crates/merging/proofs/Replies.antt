@@ -6,10 +6,10 @@ use Prim.Native.Nat.{ℕ, _≤_, _<_}
 use native.Mathlib.Omega.{arith}
 use lib.Dec.{ltb}
 use lib.ListN.{length, drop}
-use borrow.Author.Tests.{eq-eqb, ne-eqb, ltb-false}
+use borrow.Author.Tests.{ltb-false}
 use Rattle.limits.specs.Refusal.{_when_, _then_}
 use Rattle.limits.specs.Reply.{reply}
-use Rattle.limits.proofs.Laws.{then-zero, then-refused, then-passed, then-assoc, when-zero}
+use Rattle.limits.proofs.Laws.{then-zero, then-refused, then-passed, then-assoc, when-zero, after-accepted, after-refused}
 use Rattle.limits.proofs.Replies.{reply-accepted, reply-refused}
 use Rattle.linefile.specs.Files.{lines, fileNumber}
 use Rattle.linefile.specs.Partners.{partners}
@@ -33,7 +33,7 @@ module _ (first second lent : List ℕ) where
   unfolding mergeRule mergeAfter
   refused {number} e h = (
     sym (ap (λ (n : ℕ). reply 0 n (length (mergedFile first second))) (sym e) ∙ reply-refused 0 (length (mergedFile first second)) h),
-    sym (simp (ne-eqb (mergeNumber first second (length lent)) 0 (other e h))),
+    sym (after-refused _ lent (other e h)),
   )
     where
       other : {m n : ℕ} → m ≡ n → 0 < m → n ≡ 0 → ⊥
@@ -61,5 +61,5 @@ module _ (first second lent : List ℕ) where
     unfolding mergeRule mergeAfter
     result-written e b w = (
       ap (λ (n : ℕ). record { number = 0; values = n }) b ∙ sym (reply-accepted 0 (length (mergedFile first second)) (number-is first second (length lent) z ∙ e)),
-      w ∙ sym (simp (eq-eqb (mergeNumber first second (length lent)) 0 (number-is first second (length lent) z ∙ e))),
+      w ∙ sym (after-accepted _ lent (number-is first second (length lent) z ∙ e)),
     )

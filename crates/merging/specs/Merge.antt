@@ -3,9 +3,9 @@
 use Prim.Native.Nat.{ℕ}
 use mathlib.Core.Bool.{Bool, false, cond, not, _||_}
 use mathlib.Core.List.{List, [], _∷_, _++_}
-use lib.Dec.{ltb, eqb}
+use lib.Dec.{ltb}
 use lib.ListN.{length, drop}
-use Rattle.limits.specs.Refusal.{_when_, _then_}
+use Rattle.limits.specs.Refusal.{_when_, _then_, after}
 use Rattle.limits.specs.Reply.{Reply, reply}
 use Rattle.linefile.specs.Files.{same, keys, before, lines, joined, fileNumber}
 use Rattle.linefile.specs.Partners.{partners}
@@ -48,6 +48,6 @@ mergeRule first second room = reply 0 (mergeNumber first second room) (length (m
 -- The lent file afterwards: the result in its first bytes where nothing is refused, and else as it was lent.
 unfoldable pub mergeAfter : (first second lent : List ℕ) → List ℕ
 mergeAfter first second lent =
-    cond (eqb (mergeNumber first second (length lent)) 0)
+    after (mergeNumber first second (length lent))
     (mergedFile first second ++ drop (length (mergedFile first second)) lent)
     lent

@@ -10,9 +10,8 @@ ghost use Rattle.linefile.specs.Files.{endedLength, lines, same, fileNumber, li
 ghost use Rattle.linefile.specs.Partners.{partners};
 ghost use Rattle.merging.specs.Merge.{anyDiffer, mergedFile};
 use lent::put;
+use linefile::LINE;
 use linefile::step;
-
-const LINE: usize = 115;
 
 // What is known of the result before it is written: whether two lines of the same keys differ, and how long it is.
 pub struct Measured {

@@ -19,6 +19,7 @@ use Rattle.line.proofs.AcceptedBlocks.{track-accepts}
 use Rattle.linefile.specs.Files.{endedLength, lines, same, keysOf, keys, fileNumber}
 use Rattle.linefile.specs.Partners.{partnersOf, partners}
 use Rattle.viewing.specs.View.{trklOf, refsysOf, sameTrkl, pairsOf, differences, viewed, figures, longest, viewNumber, viewRule}
+use Rattle.viewing.proofs.Pairing.{view-append, firsts, seconds}
 use Rattle.linefile.proofs.Ascending.{All}
 use Rattle.day.specs.Day.{blocksOf, endedLine, dayFile}
 use Rattle.day.proofs.Lines.{labels-are, numbers-are, lines-of, length-of}
@@ -61,23 +62,6 @@ alike k pair s =
 
 -- ---- lists of such lines
 
-abbrev first : List (List ℕ × List ℕ) → List (List ℕ)
-first ls = map (λ l. l .0) ls
-
-abbrev second : List (List ℕ × List ℕ) → List (List ℕ)
-second ls = map (λ l. l .1) ls
-
--- the differences of some pairs and of more
-view-append : (ps qs : List (List ℕ × List ℕ)) → differences (sameTrkl (ps ++ qs)) ≡ differences (sameTrkl ps) ++ differences (sameTrkl qs)
-unfolding sameTrkl differences
-view-append [] qs = refl
-view-append ((x, y) ∷ ps) qs = by-test (eqb (trklOf x) (trklOf y)) (view-append ps qs)
-  where
-    by-test : (b : Bool) → differences (sameTrkl (ps ++ qs)) ≡ differences (sameTrkl ps) ++ differences (sameTrkl qs)
-        → differences (cond b ((x, y) ∷ []) [] ++ sameTrkl (ps ++ qs)) ≡ differences (cond b ((x, y) ∷ []) [] ++ sameTrkl ps) ++ differences (sameTrkl qs)
-    by-test true h = ap (λ (t : List ℤ). (refsysOf x -ℤ refsysOf y) ∷ t) h
-    by-test false h = h
-
 -- two lines of the same keys
 level-viewed : (k : ℤ) (x y : List ℕ × List ℕ) → Alike k x → Alike k y
     → differences (sameTrkl ((x .1, y .1) ∷ [])) ≡ differences (sameTrkl ((x .0, y .0) ∷ []))
@@ -104,22 +88,22 @@ pair-viewed k x y a b =
 
 -- a line and its partners
 one-viewed : (k : ℤ) (x : List ℕ × List ℕ) → Alike k x → (ys : List (List ℕ × List ℕ)) → All (Alike k) ys
-    → differences (sameTrkl (partnersOf (x .1) (second ys))) ≡ differences (sameTrkl (partnersOf (x .0) (first ys)))
+    → differences (sameTrkl (partnersOf (x .1) (seconds ys))) ≡ differences (sameTrkl (partnersOf (x .0) (firsts ys)))
 unfolding partnersOf
 one-viewed k x a [] b = refl
 one-viewed k x a (y ∷ ys) b =
-    view-append (cond (same (keys (x .1)) (keys (y .1))) ((x .1, y .1) ∷ []) []) (partnersOf (x .1) (second ys))
+    view-append (cond (same (keys (x .1)) (keys (y .1))) ((x .1, y .1) ∷ []) []) (partnersOf (x .1) (seconds ys))
     ∙ ap₂ _++_ (pair-viewed k x y a (b .0)) (one-viewed k x a ys (b .1))
-    ∙ sym (view-append (cond (same (keys (x .0)) (keys (y .0))) ((x .0, y .0) ∷ []) []) (partnersOf (x .0) (first ys)))
+    ∙ sym (view-append (cond (same (keys (x .0)) (keys (y .0))) ((x .0, y .0) ∷ []) []) (partnersOf (x .0) (firsts ys)))
 
 all-viewed : (k : ℤ) (xs ys : List (List ℕ × List ℕ)) → All (Alike k) xs → All (Alike k) ys
-    → differences (sameTrkl (partners (second xs) (second ys))) ≡ differences (sameTrkl (partners (first xs) (first ys)))
+    → differences (sameTrkl (partners (seconds xs) (seconds ys))) ≡ differences (sameTrkl (partners (firsts xs) (firsts ys)))
 unfolding partners
 all-viewed k [] ys a b = refl
 all-viewed k (x ∷ xs) ys a b =
-    view-append (partnersOf (x .1) (second ys)) (partners (second xs) (second ys))
+    view-append (partnersOf (x .1) (seconds ys)) (partners (seconds xs) (seconds ys))
     ∙ ap₂ _++_ (one-viewed k x (a .0) ys b) (all-viewed k xs ys (a .1) b)
-    ∙ sym (view-append (partnersOf (x .0) (first ys)) (partners (first xs) (first ys)))
+    ∙ sym (view-append (partnersOf (x .0) (firsts ys)) (partners (firsts xs) (firsts ys)))
 
 -- ---- the days
 
@@ -164,13 +148,13 @@ lines-alike k (x ∷ xs) (y ∷ ys) s = (
   lines-alike k xs ys (rest k x y xs ys s),
 )
 
-ended-first : (k : ℤ) (xs ys : List (List ℕ)) → Shifted k xs ys → map endedLine xs ≡ first (map linesOf (zipped xs ys))
+ended-first : (k : ℤ) (xs ys : List (List ℕ)) → Shifted k xs ys → map endedLine xs ≡ firsts (map linesOf (zipped xs ys))
 ended-first k [] ys s = refl
 ended-first k (x ∷ xs) [] s = absurd (omega (arith, s .count))
 ended-first k (x ∷ xs) (y ∷ ys) s =
     ap (λ (t : List (List ℕ)). endedLine x ∷ t) (ended-first k xs ys (rest k x y xs ys s))
 
-ended-second : (k : ℤ) (xs ys : List (List ℕ)) → Shifted k xs ys → map endedLine ys ≡ second (map linesOf (zipped xs ys))
+ended-second : (k : ℤ) (xs ys : List (List ℕ)) → Shifted k xs ys → map endedLine ys ≡ seconds (map linesOf (zipped xs ys))
 ended-second k [] [] s = refl
 ended-second k [] (y ∷ ys) s = absurd (omega (arith, s .count))
 ended-second k (x ∷ xs) [] s = absurd (omega (arith, s .count))
@@ -195,10 +179,10 @@ module _ (k : ℤ) (before after : List ℕ) (s : ShiftedDay k before after) whe
   pairs-alike : All (Alike k) pairs
   pairs-alike = lines-alike k (blocksOf before) (blocksOf after) shifted-blocks
 
-  lines-before : lines (dayFile before) ≡ first pairs
+  lines-before : lines (dayFile before) ≡ firsts pairs
   lines-before = lines-of (blocksOf before) ∙ ended-first k (blocksOf before) (blocksOf after) shifted-blocks
 
-  lines-after : lines (dayFile after) ≡ second pairs
+  lines-after : lines (dayFile after) ≡ seconds pairs
   lines-after = lines-of (blocksOf after) ∙ ended-second k (blocksOf before) (blocksOf after) shifted-blocks
 
   length-stays : length (dayFile after) ≡ length (dayFile before)

@@ -11,7 +11,8 @@ use Rattle.whole.specs.Nearest.{nearest}
 use Rattle.whole.specs.Rounding.{nearest-shift}
 use Rattle.whole.specs.Identity.{identity, quote}
 use Rattle.whole.specs.Sums.{sum-cong, sum-eq, sums}
-use Rattle.exact.specs.Corrected.{at, steps}
+use Rattle.whole.specs.Table.{at}
+use Rattle.exact.specs.Corrected.{steps}
 use Rattle.exact.specs.Weights.{weights, place}
 use Rattle.exact.specs.Places.{sum-place}
 use Rattle.series.specs.Smooth.{smoothed}

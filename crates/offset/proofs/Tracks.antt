@@ -2,7 +2,7 @@
 -- Assumes nothing.
 use mathlib.Core.Path.{_≡_, refl, sym, ap, ap₂, _∙_, subst₂}
 use mathlib.Core.Bool.{false}
-use mathlib.Core.List.{List, [], _∷_}
+use mathlib.Core.List.{List, [], _∷_, map}
 use Prim.Native.Nat.{ℕ, zero, suc, _+_, _*_, _≤_, _<_}
 use native.Mathlib.Nat.{not-suc-le-zero, le-of-suc-le-suc}
 use native.Mathlib.Omega.{arith}
@@ -11,7 +11,8 @@ use lib.ListN.{length}
 use Rattle.whole.specs.Identity.{identity, quote}
 use Rattle.limits.specs.Refusal.{_when_}
 use Rattle.limits.proofs.Laws.{then-zero, when-zero}
-use Rattle.exact.specs.Corrected.{Given, at, block, toA, toB, steps}
+use Rattle.whole.specs.Table.{at}
+use Rattle.exact.specs.Corrected.{Given, block, toA, toB, steps}
 use Rattle.series.specs.Scatter.{dsg}
 use Rattle.fit.specs.declared.TrackRecord.{TrackRecord}
 use Rattle.correcting.specs.Correct.{blocks, smoothedAt, valueA, valueB, valueC, valueD, places, wrongSizes}
@@ -19,23 +20,22 @@ use Rattle.fit.specs.Track.{numbersWith, recordOf, results, trackNumber, trackR
 use Rattle.correcting.proofs.Arrays.{places-at}
 use Rattle.correcting.proofs.Refusals.{sized}
 use Rattle.line.proofs.Blocks.{track-number, track-record}
-use Rattle.offset.specs.Shifted.{raised, unit, shifted, Moved}
+use Rattle.offset.specs.Shifted.{unit, shifted, Moved}
 use Rattle.offset.proofs.Series.{smoothed-moves, midpoint-moves, slope-stays, squares-stay}
 
 -- ---- lists
 
-at-raised : (c : ℤ) (l : List ℤ) (i : ℕ) → i < length l → at (raised c l) i ≡ at l i +ℤ c
-unfolding raised
-at-raised c [] i h = absurd (not-suc-le-zero h)
-at-raised c (z ∷ l) zero h = refl
-at-raised c (z ∷ l) (suc i) h = at-raised c l i (le-of-suc-le-suc h)
+at-added : (c : ℤ) (l : List ℤ) (i : ℕ) → i < length l → at (map (λ (z : ℤ). z +ℤ c) l) i ≡ at l i +ℤ c
+at-added c [] i h = absurd (not-suc-le-zero h)
+at-added c (z ∷ l) zero h = refl
+at-added c (z ∷ l) (suc i) h = at-added c l i (le-of-suc-le-suc h)
 
 -- ---- the corrected values
 
 module _ (k : ℤ) (g : Given) (sized : length (g .measurements) ≡ 15 * blocks g) where
   seconds-move : (j i : ℕ) → j < blocks g → i < 15 → block (shifted k g) j i ≡ block g j i +ℤ unit *ℤ k
   unfolding block shifted
-  seconds-move j i h p = at-raised (unit *ℤ k) (g .measurements) (15 * j + i) (omega (arith, sized))
+  seconds-move j i h p = at-added (unit *ℤ k) (g .measurements) (15 * j + i) (omega (arith, sized))
 
   a-moves : (j : ℕ) → j < blocks g → valueA (shifted k g) j ≡ valueA g j +ℤ pos steps *ℤ (unit *ℤ k)
   unfolding valueA smoothedAt toA shifted

@@ -2,7 +2,7 @@
 -- move; hire blocks that are shifted alike, and days of them, of which `day` makes line files.
 -- Assumes nothing.
 use mathlib.Core.Path.{_≡_}
-use mathlib.Core.List.{List, [], _∷_}
+use mathlib.Core.List.{List, map}
 use lib.IntN.{ℤ, pos, _+ℤ_, _*ℤ_}
 use Prim.Native.Nat.{ℕ, _<_}
 use lib.ListN.{length}
@@ -10,11 +10,6 @@ use Rattle.limits.specs.declared.Numbers.{Numbers}
 use Rattle.hire.specs.Hire.{blockLabels, blockGiven}
 use Rattle.exact.specs.Corrected.{Given}
 use Rattle.day.specs.Day.{blocksOf, dayVerdict, blockAt, AllBytes}
-
--- c added to each number of a list.
-unfoldable pub raised : ℤ → List ℤ → List ℤ
-raised c [] = []
-raised c (z ∷ l) = (z +ℤ c) ∷ raised c l
 
 -- 0.1 ns, the unit of REFSV and REFSYS, in ps.
 abbrev pub unit : ℤ
@@ -24,7 +19,7 @@ unit = pos 100
 unfoldable pub shifted : ℤ → Given → Given
 shifted k g =
     record {
-      measurements = raised (unit *ℤ k) (g .measurements);
+      measurements = map (λ (z : ℤ). z +ℤ unit *ℤ k) (g .measurements);
       int = g .int;
       cab = g .cab;
       refdly = g .refdly;
@@ -59,7 +54,7 @@ pub record ShiftedBlock (k : ℤ) (before after : List ℕ) : Type 0 where
 pub record ShiftedDay (k : ℤ) (before after : List ℕ) : Type 0 where
   pub bytesBefore : AllBytes before
   pub bytesAfter : AllBytes after
-  pub acceptedBefore : dayVerdict before .number ≡ 0
-  pub acceptedAfter : dayVerdict after .number ≡ 0
+  pub acceptedBefore : dayVerdict before .refusal ≡ 0
+  pub acceptedAfter : dayVerdict after .refusal ≡ 0
   pub count : length (blocksOf after) ≡ length (blocksOf before)
   pub moved : (i : ℕ) → i < length (blocksOf before) → ShiftedBlock k (blockAt before i) (blockAt after i)

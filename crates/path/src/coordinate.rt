@@ -37,7 +37,7 @@ fn millimetres(x: f64) -> i64
     x as i64
 }
 
-// How far two coordinates that are not refused are apart.
+// How far two coordinates that are not refused are apart: at most twice their limit.
 pub fn apart(x: f64, y: f64) -> u64
     requires { ⌜ (whole x ≡ true) × (outside x ≡ false) × (whole y ≡ true) × (outside y ≡ false) ⌝ }
     ensures { λ r. ⌜ (r ≡ difference x y) × (r ≤ 100000000000) ⌝ }

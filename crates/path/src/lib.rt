@@ -74,7 +74,7 @@ fn refusal(satellite: Point, antenna: Point) -> u32
     then(when(23, fraction), when(24, outside))
 }
 
-// The sum of the squared differences of points that are not refused.
+// The sum of the squared differences of points that are not refused: at most three times (10^11)².
 fn sum_of_squares(satellite: Point, antenna: Point) -> Wide
     requires { ⌜ pathNumber satellite antenna ≡ 0 ⌝ }
     ensures { λ r. ⌜ Stands r (sumOfSquares satellite antenna) × (number r ≤ 30000000000000000000000) ⌝ }

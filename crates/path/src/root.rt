@@ -70,7 +70,7 @@ fn probed(w: Wide, b: Bounds, p: u64) -> Bounds
     }
 }
 
-// The root between bounds, by halving.
+// The root between bounds, by halving. It is below 2^38.
 fn halved(w: Wide, b: Bounds) -> u64
     requires { ⌜ Between w b ⌝ }
     ensures { λ r. ⌜ (r ≡ root (number w)) × (r < 274877906944) ⌝ }

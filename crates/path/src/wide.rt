@@ -1,4 +1,5 @@
 // Whole numbers of up to 76 bits in two words: products, the sum of three, and whether a product is not above such a number.
+// 1048576 is 2^20, and a factor is at most 2^38, which is 274877906944.
 ghost use mathlib.Core.Path.{_≡_};
 ghost use Prim.Native.Nat.{_+_, _*_, _≤_, _<_};
 ghost use lib.Dec.{leb};

@@ -4,24 +4,25 @@
 use mathlib.Core.Path.{_≡_, refl, sym, ap, ap₂, _∙_}
 use mathlib.Core.Bool.{true}
 use mathlib.Core.List.{List, [], _++_}
-use Prim.Native.Nat.{ℕ, zero, suc, _-_, _≤_, _<_}
+use Prim.Native.Nat.{ℕ, zero, suc, _≤_, _<_}
 use native.Mathlib.Omega.{arith}
-use lib.ListN.{length, drop, length-drop, take-append-drop}
+use lib.ListN.{length, drop, take-append-drop}
 use lib.Seq.{drop-at, drop-length}
 use borrow.Author.Tests.{eq-eqb, ne-eqb}
+use Rattle.limits.specs.Limits.{noNumbers}
 use Rattle.limits.specs.Reply.{Reply}
 use Rattle.limits.proofs.Replies.{reply-number}
 use Rattle.labels.specs.declared.Labels.{Labels}
 use Rattle.limits.specs.declared.Numbers.{Numbers}
-use Rattle.labels.specs.Content.{contentRule}
+use Rattle.labels.specs.Content.{contentNumber}
 use Rattle.columns.specs.Text.{lineLength, lineText}
 use Rattle.columns.specs.Columns.{readLabels, readNumbers}
 use Rattle.columns.proofs.Widths.{line-width}
 use Rattle.characters.specs.Kinds.{printable}
-use Rattle.reading.specs.Read.{readNumber, noLabels, noNumbers, readRule}
+use Rattle.reading.specs.Read.{readNumber, noLabels, readRule}
 use Rattle.reading.proofs.Refusals.{accepted}
 use Rattle.reading.proofs.AcceptedLine.{accepted-columns}
-use Rattle.reading.proofs.WrittenLine.{text-reads-back}
+use Rattle.reading.proofs.WrittenLine.{text-reads-back, comment-length}
 use Rattle.reader.specs.Comment.{commentOffset}
 
 module _ (line : List ℕ) where
@@ -55,18 +56,15 @@ accepted-comment line e =
     let behind : drop (commentOffset line) line ≡ drop lineLength line = ap (λ (n : ℕ). drop n line) (offset-accepted line e) in (
       sym (take-append-drop lineLength line) ∙ ap₂ _++_ (accepted-columns line e) (sym behind),
       ap printable behind ∙ s .comment,
-      rw (behind, length-drop) (few (length line) (s .most)),
+      rw behind (comment-length line (s .most)),
     )
-  where
-    few : (n : ℕ) → n ≤ 140 → n - 113 ≤ 27
-    few n h = omega arith
 
 -- The comment of a refused line is empty.
 pub refused-comment : (line : List ℕ) → 0 < readNumber line → drop (commentOffset line) line ≡ []
 refused-comment line h = ap (λ (n : ℕ). drop n line) (offset-refused line h) ∙ drop-length line
 
 -- The comment that was written behind the columns is the one that is handed back.
-pub written-comment : (l : Labels) (n : Numbers) (comment : List ℕ) → contentRule l n ≡ 0 → l .cl < 256 → printable comment ≡ true → length comment ≤ 27
+pub written-comment : (l : Labels) (n : Numbers) (comment : List ℕ) → contentNumber l n ≡ 0 → l .cl < 256 → printable comment ≡ true → length comment ≤ 27
     → let line = lineText l n ++ comment in drop (commentOffset line) line ≡ comment
 unfolding readRule
 written-comment l n comment e cl p few =

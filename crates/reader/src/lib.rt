@@ -4,11 +4,10 @@
 // behind the columns.
 ghost use Rattle.reader.specs.Comment.{commentOffset};
 ghost use Rattle.reader.specs.Part.{PartFrom};
+use columns::LINE_LENGTH;
 pub use reading::Reading;
 pub use reading::read;
 pub use reading::reading_number;
-
-const LINE_LENGTH: usize = 113;
 
 // The comment: the part of the line from column 114 on, or the empty part at its end where the line is refused.
 pub fn comment(line: &[u8]) -> &[u8]

@@ -1,4 +1,4 @@
--- A line that is read is one that Line would write (document 02, Job 1): its columns are the text of what was read, and Line accepts that.
+-- A line that is read is one that Line would write (document 02, Job 1): its columns are the text of what was read, whose content is not refused.
 -- What is left of the line is its comment (crate reader).
 -- Assumes nothing.
 use mathlib.Core.Path.{_≡_, refl, sym, ap, ap₂, _∙_}
@@ -9,26 +9,22 @@ use native.Mathlib.Omega.{arith}
 use lib.Dec.{ltb}
 use lib.ListN.{length, take, drop, getD}
 use lib.Seq.{take-add, drop-drop}
-use borrow.Author.Tests.{ltb-false, le-ltb}
+use borrow.Author.Tests.{ltb-false}
 use Rattle.limits.specs.Refusal.{_when_, _then_}
 use Rattle.limits.proofs.Laws.{or-false}
 use Rattle.fields.specs.Text.{bytesOf}
 use Rattle.fields.specs.Read.{readDecimal, readSigned}
-use Rattle.labels.specs.declared.Labels.{Labels}
-use Rattle.limits.specs.declared.Numbers.{Numbers}
-use Rattle.labels.specs.Content.{contentRule}
-use Rattle.columns.specs.Text.{lineLength, clock, trackColumns, clockColumns, delayColumns, columns, spaced, withCheck, lineText}
+use Rattle.labels.specs.Content.{contentNumber}
+use Rattle.columns.specs.Text.{lineLength, timeOfDay, trackColumns, clockColumns, delayColumns, columns, spaced, withCheck, lineText}
 use Rattle.columns.specs.Columns.{byteIn, field, labelsWith, readLabels, readNumbers}
-use Rattle.line.specs.Line.{lineAnswer, lineAfter}
-use Rattle.line.proofs.Accepted.{after-is}
 use Rattle.characters.specs.Kinds.{kinds, allowed}
-use Rattle.reading.specs.Read.{isMinusZero, minusZero, clockBeyond, readNumber}
+use Rattle.reading.specs.Read.{isMinusZero, minusZero, timeBeyond, readNumber}
 use Rattle.reading.specs.Fields.{digits, hexDigits}
 use Rattle.characters.proofs.Spelled.{Spelled}
 use Rattle.characters.proofs.Check.{next-byte, closed-by-check}
 use Rattle.reading.proofs.Columns.{Columns, columns-of, own-columns, shared}
 use Rattle.reading.proofs.Refusals.{Valued, accepted, content-is}
-use Rattle.reading.proofs.Spelling.{three-bytes, spell-decimal, spell-signed, spell-class, clock-is, texts, texts-spaced}
+use Rattle.reading.proofs.Spelling.{three-bytes, spell-decimal, spell-signed, spell-class, time-is, texts, texts-spaced}
 
 -- The kinds of the columns, field by field.
 abbrev pub fieldKinds : List (List ℕ)
@@ -73,9 +69,9 @@ time-joined line =
     ∙ ap (λ (t : List ℕ). take 2 (drop 13 line) ++ take 4 t) (drop-drop 2 13 line)
     ∙ ap (λ (t : List ℕ). take 2 (drop 13 line) ++ t) (take-add 2 2 (drop 15 line) ∙ ap (λ (t : List ℕ). take 2 (drop 15 line) ++ take 2 t) (drop-drop 2 15 line)))
 
-clock-within : (line : List ℕ) → clockBeyond line ≡ false → (readDecimal (field 16 17 line) ≤ 59) × (readDecimal (field 18 19 line) ≤ 59)
-unfolding clockBeyond
-clock-within line e =
+time-within : (line : List ℕ) → timeBeyond line ≡ false → (readDecimal (field 16 17 line) ≤ 59) × (readDecimal (field 18 19 line) ≤ 59)
+unfolding timeBeyond
+time-within line e =
     let second = or-false (ltb 23 (readDecimal (field 14 15 line)) || ltb 59 (readDecimal (field 16 17 line))) (ltb 59 (readDecimal (field 18 19 line))) e in
     let minute = or-false (ltb 23 (readDecimal (field 14 15 line))) (ltb 59 (readDecimal (field 16 17 line))) (second .0) in
     (ltb-false 59 _ (minute .1), ltb-false 59 _ (second .1))
@@ -87,11 +83,11 @@ module _ (line : List ℕ) (s : Spelled line) (v : Valued line) where
   long : lineLength ≤ length line
   long = s .least
 
-  spell-time : clock (readLabels line .start) ≡ take 6 (drop 13 line)
+  spell-time : timeOfDay (readLabels line .start) ≡ take 6 (drop 13 line)
   unfolding readLabels labelsWith
   spell-time =
-      let w = clock-within line (v .clock) in
-      clock-is (readDecimal (field 14 15 line)) (readDecimal (field 16 17 line)) (readDecimal (field 18 19 line)) (w .0) (w .1)
+      let w = time-within line (v .time) in
+      time-is (readDecimal (field 14 15 line)) (readDecimal (field 16 17 line)) (readDecimal (field 18 19 line)) (w .0) (w .1)
       ∙ ap₂ _++_ (spell-decimal (in-columns .hour)) (ap₂ _++_ (spell-decimal (in-columns .minute)) (spell-decimal (in-columns .second)))
       ∙ time-joined line
 
@@ -140,14 +136,9 @@ module _ (line : List ℕ) (s : Spelled line) (v : Valued line) where
   unfolding lineText
   text-is = ap withCheck columns-are ∙ sym (closed-by-check 111 line (s .check) long)
 
-  content-zero : contentRule (readLabels line) (readNumbers line) ≡ 0
+  content-zero : contentNumber (readLabels line) (readNumbers line) ≡ 0
   unfolding _when_ _then_
   content-zero = content-is line (shared line (s .columns)) (readLabels line) ∙ simp (v .labels, v .trkl, v .start)
-
--- Line answers 0 to content that is not refused, where there is room
-pub answer-zero : (l : Labels) (n : Numbers) (room : ℕ) → contentRule l n ≡ 0 → lineLength ≤ room → lineAnswer l n room ≡ 0
-unfolding lineAnswer _when_ _then_
-answer-zero l n room e h = simp (e, le-ltb room lineLength h)
 
 -- ---- the theorems
 
@@ -156,15 +147,5 @@ pub accepted-columns : (line : List ℕ) → readNumber line ≡ 0 → take line
 accepted-columns line e = let a = accepted line e in sym (text-is line (a .0) (a .1))
 
 -- Line has nothing against them: so the refusals 3, 4, 5 and 6 can't arise in an accepted line.
-pub accepted-content : (line : List ℕ) → readNumber line ≡ 0 → contentRule (readLabels line) (readNumbers line) ≡ 0
+pub accepted-content : (line : List ℕ) → readNumber line ≡ 0 → contentNumber (readLabels line) (readNumbers line) ≡ 0
 accepted-content line e = let a = accepted line e in content-zero line (a .0) (a .1)
-
--- Lent a line with room, Line answers 0 and writes the same columns again.
-pub accepted-written-again : (line lent : List ℕ) → readNumber line ≡ 0 → lineLength ≤ length lent
-    → (lineAnswer (readLabels line) (readNumbers line) (length lent) ≡ 0)
-    × (lineAfter (readLabels line) (readNumbers line) lent ≡ take lineLength line ++ drop lineLength lent)
-accepted-written-again line lent e h =
-    let z = answer-zero (readLabels line) (readNumbers line) (length lent) (accepted-content line e) h in (
-      z,
-      after-is (readLabels line) (readNumbers line) lent z ∙ ap (λ (t : List ℕ). t ++ drop lineLength lent) (sym (accepted-columns line e)),
-    )

@@ -7,15 +7,15 @@ use Prim.Native.Nat.{ℕ, suc, _+_, _-_, _^_, _≤_, _<_}
 use native.Mathlib.Nat.{pow-le-pow-right, lt-of-lt-of-le, le-refl, le-trans}
 use native.Mathlib.Omega.{arith}
 use lib.Dec.{T, leb, le→leb, lit<, lit≤}
-use lib.ListN.{length, take, drop, getD, length-replicate, length-drop}
+use lib.ListN.{length, take, drop, getD, getD-replicate, length-replicate, length-drop}
 use lib.Seq.{length-take-le, drop-cons, drop-drop, getD-drop}
 use Rattle.fields.specs.Read.{readDecimal}
 use Rattle.columns.specs.Columns.{field}
 use Rattle.fields.specs.Text.{bytesOf}
+use Rattle.fields.proofs.Decimals.{Figures, read-bound}
 use Rattle.characters.specs.Kinds.{allows, kinds, sharedKinds, oldKinds, allowed}
 use Rattle.reading.specs.Fields.{digits, hexDigits, Holds, Shared, Digits, Signed}
-use Rattle.characters.proofs.Allowed.{allowed-length, allowed-at, allowed-drop, allowed-take, allowed-cut}
-use Rattle.reading.proofs.Decimals.{read-bound}
+use Rattle.characters.proofs.Allowed.{digit-range, allowed-length, allowed-at, allowed-drop, allowed-take, allowed-cut}
 
 -- ---- columns of some kinds
 
@@ -27,6 +27,12 @@ pub holds-length : (column : ℕ) (kinds line : List ℕ) → Holds column kinds
 holds-length column kinds line h = rw length-drop at (allowed-length kinds (drop (column - 1) line) h)
 
 -- ---- a field of digits
+
+-- columns of digits hold them
+pub digit-at : (n : ℕ) (text : List ℕ) → allowed (digits n) text ≡ true → Figures n text
+digit-at n text e i h =
+    digit-range (getD text i 0)
+    (ap (λ (k : ℕ). allows k (getD text i 0)) (sym (getD-replicate n i 57 0 h)) ∙ allowed-at (digits n) text e i (rw length-replicate h))
 
 -- a field has as many columns as its numbers say
 pub field-is : (first last : ℕ) (line : List ℕ) → 1 ≤ first → take (last - (first - 1)) (drop (first - 1) line) ≡ field first last line
@@ -63,7 +69,15 @@ field-digits {most} {first} {last} {line} d =
 pub field-bound : {most first last : ℕ} {line : List ℕ} → Digits most first last line → readDecimal (field first last line) < 10 ^ most
 unfolding field
 field-bound {most} {first} {last} {line} d =
-    lt-of-lt-of-le (read-bound (last + 1 - first) (drop (first - 1) line) (d .holds)) (pow-le-pow-right (lit< tt) (d .few))
+    lt-of-lt-of-le (read-bound (last + 1 - first) (drop (first - 1) line) (digit-at _ _ (d .holds))) (pow-le-pow-right (lit< tt) (d .few))
+
+-- so it is at most the greatest number of so many digits
+pub field-most : (limit : ℕ) {most first last : ℕ} {line : List ℕ} → Digits most first last line → 10 ^ most ≡ suc limit
+    → readDecimal (field first last line) ≤ limit
+field-most limit {most} d e = below (field-bound d)
+  where
+    below : {n : ℕ} → n < 10 ^ most → n ≤ limit
+    below h = omega (arith, e)
 
 -- a field of few digits is one of more
 pub at-most : (more : ℕ) {most first last : ℕ} {line : List ℕ} → most ≤ more → Digits most first last line → Digits more first last line

@@ -1,6 +1,4 @@
-pub mod Decimals
 pub mod Columns
-pub mod Hexadecimals
 pub mod Signs
 pub mod Refusals
 pub mod Readings
@@ -8,3 +6,4 @@ pub mod Spelling
 pub mod AcceptedLine
 pub mod Writing
 pub mod WrittenLine
+pub mod SignedFields

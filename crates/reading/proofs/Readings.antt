@@ -3,12 +3,13 @@
 use mathlib.Core.Path.{_≡_, sym, ap, _∙_, subst}
 use mathlib.Core.List.{List}
 use Prim.Native.Nat.{ℕ, _<_}
+use Rattle.limits.specs.Limits.{noNumbers}
 use Rattle.limits.specs.Reply.{Reply}
 use Rattle.limits.proofs.Replies.{reply-number, reply-values}
 use Rattle.labels.specs.declared.Labels.{Labels}
 use Rattle.limits.specs.declared.Numbers.{Numbers}
 use Rattle.columns.specs.Columns.{readLabels, readNumbers}
-use Rattle.reading.specs.Read.{readNumber, noLabels, noNumbers, readRule}
+use Rattle.reading.specs.Read.{readNumber, noLabels, readRule}
 use Rattle.reading.specs.declared.Reading.{Reading}
 use Rattle.reading.specs.Answers.{readReply, readNumbered}
 

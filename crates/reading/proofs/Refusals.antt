@@ -1,32 +1,31 @@
 -- The rows of refusals (specs/Read.antt): what it takes for a row to be 0, and that the row of the values is that of Line's content.
 -- Assumes nothing.
 use mathlib.Core.Path.{_≡_, refl, sym, ap, ap₂, _∙_}
-use mathlib.Core.Bool.{Bool, true, false, not, _||_}
+use mathlib.Core.Bool.{true, false, not}
 use mathlib.Core.List.{List}
-use Prim.Native.Nat.{ℕ, zero, suc, _^_, _≤_, _<_}
+use Prim.Native.Nat.{ℕ, suc, _^_, _<_, zero-le}
 use native.Mathlib.Omega.{arith}
-use lib.Dec.{eqb·suc-zero}
 use lib.IntN.{pos, natAbs}
-use borrow.Author.Tests.{le-ltb, not-false}
+use borrow.Author.Tests.{not-false}
 use Rattle.limits.specs.Refusal.{_when_, _then_}
-use Rattle.limits.specs.Limits.{outside, beyond, limitsRule, dsgRule}
-use Rattle.limits.proofs.Laws.{then-zero, then-refused, then-passed, then-assoc, when-zero, within-magnitude}
+use Rattle.limits.specs.Limits.{outside, beyond, limitsNumber, dsgNumber, noNumbers}
+use Rattle.limits.proofs.Laws.{then-zero, then-refused, then-passed, then-assoc, then-none, when-zero, when-either, within-magnitude, within-natural}
 use Rattle.limits.specs.Reply.{reply}
 use Rattle.limits.proofs.Replies.{reply-accepted, reply-refused}
-use Rattle.schedule.specs.Schedule.{startRule}
+use Rattle.schedule.specs.Schedule.{startNumber}
 use Rattle.fields.specs.Read.{readDecimal, readSigned}
+use Rattle.fields.proofs.Signs.{read-magnitude}
 use Rattle.labels.specs.declared.Labels.{Labels}
 use Rattle.limits.specs.declared.Numbers.{Numbers}
 use Rattle.labels.specs.Labels.{labelsFit, trackLengthFits}
-use Rattle.labels.specs.Content.{contentRule}
+use Rattle.labels.specs.Content.{contentNumber}
 use Rattle.columns.specs.Columns.{field, readLabels, readNumbers}
 use Rattle.characters.specs.Kinds.{kinds}
 use Rattle.characters.specs.Characters.{charactersNumber}
 use Rattle.characters.proofs.Spelled.{Spelled, spelled, spelled-zero}
-use Rattle.reading.specs.Read.{signedFields, minusZero, clockBeyond, valuesNumber, readNumber, noLabels, noNumbers, readRule}
+use Rattle.reading.specs.Read.{signedFields, minusZero, timeBeyond, valuesNumber, readNumber, noLabels, readRule}
 use Rattle.reading.specs.Fields.{Shared, Digits, Signed}
-use Rattle.reading.proofs.Columns.{columns-of, field-bound, signed-field}
-use Rattle.reading.proofs.Signs.{read-magnitude}
+use Rattle.reading.proofs.Columns.{columns-of, field-most, signed-field}
 
 -- ---- what a row that is 0 tells, and what makes it 0
 
@@ -34,8 +33,8 @@ pub record ValuedAs (l : Labels) (n : Numbers) (line : List ℕ) : Type 0 where
   pub minus : minusZero signedFields line ≡ false
   pub labels : labelsFit l ≡ true
   pub trkl : trackLengthFits (n .trkl) ≡ true
-  pub start : startRule (l .mjd) (l .start) ≡ 0
-  pub clock : clockBeyond line ≡ false
+  pub start : startNumber (l .mjd) (l .start) ≡ 0
+  pub time : timeBeyond line ≡ false
 
 -- a line with the labels and numbers in its own columns
 abbrev pub Valued : List ℕ → Type 0
@@ -53,12 +52,12 @@ valued l n line e =
       labels = not-false _ (when-zero _ _ (seven .0));
       trkl = not-false _ (when-zero _ _ (trkl .0));
       start = eight .0;
-      clock = when-zero 7 _ (eight .1);
+      time = when-zero 7 _ (eight .1);
     }
 
 pub valued-zero : (l : Labels) (n : Numbers) (line : List ℕ) → ValuedAs l n line → valuesNumber l n line ≡ 0
 unfolding valuesNumber _when_ _then_
-valued-zero l n line v = simp (v .minus, v .labels, v .trkl, v .start, v .clock)
+valued-zero l n line v = simp (v .minus, v .labels, v .trkl, v .start, v .time)
 
 pub accepted : (line : List ℕ) → readNumber line ≡ 0 → Spelled line × Valued line
 unfolding readNumber
@@ -68,45 +67,22 @@ pub accepted-zero : (line : List ℕ) → Spelled line → Valued line → readN
 unfolding readNumber _then_
 accepted-zero line s v = simp (spelled-zero line s, valued-zero (readLabels line) (readNumbers line) line v)
 
-then-none : (number : ℕ) → number then 0 ≡ number
-unfolding _then_
-then-none zero = refl
-then-none (suc n) = rw (eqb·suc-zero n)
-
--- one test on two conditions is two tests
-when-either : (number : ℕ) (a b : Bool) → number when (a || b) ≡ number when a then number when b
-unfolding _when_ _then_
-when-either zero true true = refl
-when-either zero true false = refl
-when-either (suc n) true b = rw (eqb·suc-zero n)
-when-either number false b = refl
-
 -- ---- the numbers of a line are within their limits
-
-natural-inside : (low high n : ℕ) → low ≤ n → n ≤ high → outside (pos low) (pos high) (pos n) ≡ false
-unfolding outside
-natural-inside low high n h k = ap₂ _||_ (le-ltb n low h) (le-ltb high n k)
 
 signed-inside : (limit : ℕ) {most first last : ℕ} {line : List ℕ} → Signed most first last line → 10 ^ most ≡ suc limit
     → beyond limit (readSigned (field first last line)) ≡ false
 signed-inside limit {most} {first} {last} {line} s e =
     within-magnitude limit (readSigned (field first last line))
-    (below (ap (λ (t : List ℕ). natAbs (readSigned t)) (signed-field s) ∙ read-magnitude _ _) (field-bound (s .digits)))
-  where
-    below : {m n : ℕ} → m ≡ n → n < 10 ^ most → m ≤ limit
-    below p h = omega (arith, e)
+    (omega (arith, ap (λ (t : List ℕ). natAbs (readSigned t)) (signed-field s) ∙ read-magnitude _ _, field-most limit (s .digits) e))
 
 decimal-inside : (limit : ℕ) {most first last : ℕ} {line : List ℕ} → Digits most first last line → 10 ^ most ≡ suc limit
     → outside (pos 0) (pos limit) (pos (readDecimal (field first last line))) ≡ false
 decimal-inside limit {most} {first} {last} {line} d e =
-    natural-inside 0 limit (readDecimal (field first last line)) (omega arith) (below (field-bound d))
-  where
-    below : {n : ℕ} → n < 10 ^ most → n ≤ limit
-    below h = omega (arith, e)
+    within-natural 0 limit (readDecimal (field first last line)) zero-le (field-most limit d e)
 
 module _ (line : List ℕ) (e : Shared line) where
-  pub limits-zero : limitsRule (readNumbers line) ≡ 0
-  unfolding limitsRule readNumbers _when_ _then_
+  pub limits-zero : limitsNumber (readNumbers line) ≡ 0
+  unfolding limitsNumber readNumbers _when_ _then_
   limits-zero =
       let c = columns-of line e in
       simp (
@@ -120,21 +96,21 @@ module _ (line : List ℕ) (e : Shared line) where
         decimal-inside 9999 (c .mdio) refl,
       )
 
-  pub dsg-zero : dsgRule (readNumbers line .dsg) ≡ 0
-  unfolding dsgRule readNumbers _when_
+  pub dsg-zero : dsgNumber (readNumbers line .dsg) ≡ 0
+  unfolding dsgNumber readNumbers _when_
   dsg-zero = simp (decimal-inside 9999 (columns-of line e .dsg) refl)
 
   -- ---- what is left of Line's refusals of the content
 
-  pub content-is : (l : Labels) → contentRule l (readNumbers line)
+  pub content-is : (l : Labels) → contentNumber l (readNumbers line)
       ≡ 7 when not (labelsFit l)
       then 7 when not (trackLengthFits (readNumbers line .trkl))
-      then startRule (l .mjd) (l .start)
-  unfolding contentRule
+      then startNumber (l .mjd) (l .start)
+  unfolding contentNumber
   content-is l = simp (limits-zero, dsg-zero, then-none, when-either, then-assoc)
 
   -- the row that the code goes by
-  pub values-row : (l : Labels) → 13 when minusZero signedFields line then contentRule l (readNumbers line) then 8 when clockBeyond line
+  pub values-row : (l : Labels) → 13 when minusZero signedFields line then contentNumber l (readNumbers line) then 8 when timeBeyond line
       ≡ valuesNumber l (readNumbers line) line
   unfolding valuesNumber
   values-row l = simp (content-is, then-assoc)

@@ -14,18 +14,18 @@ use lib.Seq.{drop-drop, take-add, drop-append-seam}
 use borrow.Author.Tests.{eqb-true}
 use Rattle.fields.specs.Text.{decimal, sign, signed, hexadecimal}
 use Rattle.fields.specs.Read.{readDecimal, readSigned, readHexadecimal}
-use Rattle.columns.specs.Text.{clock, spaced}
+use Rattle.fields.proofs.Decimals.{write-decimal}
+use Rattle.fields.proofs.Hexadecimals.{write-hexadecimal}
+use Rattle.fields.proofs.Signs.{minus-read, plus-read}
+use Rattle.columns.specs.Text.{timeOfDay, spaced}
 use Rattle.columns.specs.Columns.{byteIn, field}
 use Rattle.characters.specs.Kinds.{allows, allowed}
 use Rattle.reading.specs.Read.{isMinusZero}
 use Rattle.reading.specs.Fields.{digits, hexDigits, Holds, Digits, Signed}
 use Rattle.limits.proofs.Laws.{both, either}
-use Rattle.characters.proofs.Allowed.{sign-is, space-is, allowed-drop}
+use Rattle.characters.proofs.Allowed.{hex-range, sign-is, space-is, allowed-drop}
 use Rattle.characters.proofs.Check.{next-byte, two-bytes}
-use Rattle.reading.proofs.Decimals.{write-decimal}
-use Rattle.reading.proofs.Hexadecimals.{write-hexadecimal}
-use Rattle.reading.proofs.Signs.{minus-read, plus-read}
-use Rattle.reading.proofs.Columns.{holds-at, holds-length, signed-field}
+use Rattle.reading.proofs.Columns.{digit-at, holds-at, holds-length, signed-field}
 
 -- ---- single bytes of a line
 
@@ -38,7 +38,7 @@ three-bytes at line h = next-byte 2 at line (omega arith) ∙ ap (λ (t : List �
 pub spell-decimal : {most first last : ℕ} {line : List ℕ} → Digits most first last line
     → decimal (last + 1 - first) (readDecimal (field first last line)) ≡ field first last line
 unfolding field
-spell-decimal {most} {first} {last} {line} d = write-decimal (last + 1 - first) (drop (first - 1) line) (d .holds)
+spell-decimal {most} {first} {last} {line} d = write-decimal (last + 1 - first) (drop (first - 1) line) (digit-at _ _ (d .holds))
 
 -- of a sign and digits, where no minus stands before a zero
 spell-minus : (width m : ℕ) (text : List ℕ) → isMinusZero 45 (negℤ (pos m)) ≡ false → decimal width m ≡ text → signed (suc width) (negℤ (pos m)) ≡ 45 ∷ text
@@ -85,7 +85,7 @@ unfolding field
 spell-class line h =
     let e = two-bytes 4 line (long (holds-length 5 (hexDigits 2) line h)) in
     ap (λ (t : List ℕ). hexadecimal (readHexadecimal t)) e
-    ∙ write-hexadecimal (getD line 4 0) (getD line 5 0) (holds-at 5 (hexDigits 2) line h 0 (lit< tt)) (holds-at 5 (hexDigits 2) line h 1 (lit< tt))
+    ∙ write-hexadecimal (getD line 4 0) (getD line 5 0) (hex-range _ (holds-at 5 (hexDigits 2) line h 0 (lit< tt))) (hex-range _ (holds-at 5 (hexDigits 2) line h 1 (lit< tt)))
     ∙ sym e
   where
     long : 2 ≤ length line - 4 → 5 < length line
@@ -102,9 +102,9 @@ module _ (h m s : ℕ) (mb : m ≤ 59) (sb : s ≤ 59) where
   second-is : (3600 * h + 60 * m + s) % 60 ≡ s
   second-is = omega arith
 
-  pub clock-is : clock (3600 * h + 60 * m + s) ≡ decimal 2 h ++ (decimal 2 m ++ decimal 2 s)
-  unfolding clock
-  clock-is = simp (hour-is, minute-is, second-is)
+  pub time-is : timeOfDay (3600 * h + 60 * m + s) ≡ decimal 2 h ++ (decimal 2 m ++ decimal 2 s)
+  unfolding timeOfDay
+  time-is = simp (hour-is, minute-is, second-is)
 
 -- ---- fields with a space behind each
 

@@ -14,8 +14,8 @@ use Rattle.fields.proofs.Laws.{length-decimal, length-signed, length-hexadecima
 use Rattle.labels.specs.declared.Labels.{Labels}
 use Rattle.limits.specs.declared.Numbers.{Numbers}
 use Rattle.labels.specs.Labels.{constellationFits, codeFits, labelsFit}
-use Rattle.columns.specs.Text.{clock, trackColumns, clockColumns, delayColumns, columns, spaced}
-use Rattle.columns.proofs.Widths.{length-clock}
+use Rattle.columns.specs.Text.{timeOfDay, trackColumns, clockColumns, delayColumns, columns, spaced}
+use Rattle.columns.proofs.Widths.{length-time}
 use Rattle.characters.specs.Kinds.{within, letterFits, allows, kinds, allowed}
 use Rattle.reading.specs.Fields.{digits, hexDigits}
 use Rattle.limits.proofs.Laws.{both, either}
@@ -74,9 +74,9 @@ hexadecimal-allowed : (n : ℕ) → allowed (hexDigits 2) (hexadecimal n) ≡ tr
 unfolding hexadecimal allowed
 hexadecimal-allowed n = and-true-both (hex-allowed (n / 16)) (and-true-both (hex-allowed n) refl)
 
-clock-allowed : (second : ℕ) → allowed (digits 6) (clock second) ≡ true
-unfolding clock
-clock-allowed second =
+time-allowed : (second : ℕ) → allowed (digits 6) (timeOfDay second) ≡ true
+unfolding timeOfDay
+time-allowed second =
     allowed-append (digits 2) (digits 4) (decimal 2 _) _ (sym (length-decimal 2 _)) (decimal-allowed 2 _)
     (allowed-append (digits 2) (digits 2) (decimal 2 _) _ (sym (length-decimal 2 _)) (decimal-allowed 2 _) (decimal-allowed 2 _))
 
@@ -147,7 +147,7 @@ fitting l n e =
     one (ap suc (sym (length-decimal 2 _))) (and-true-both (letter-is _ ∙ letter-fits (l .constellation) (l .ioe) (l .fr) (f .0)) (decimal-allowed 2 _))
     (one (sym (length-hexadecimal _)) (hexadecimal-allowed _)
     (one (sym (length-decimal 5 _)) (decimal-allowed 5 _)
-    (one (sym (length-clock _)) (clock-allowed _)
+    (one (sym (length-time _)) (time-allowed _)
     (one (sym (length-decimal 4 _)) (decimal-allowed 4 _)
     (one (sym (length-decimal 3 _)) (decimal-allowed 3 _)
     (one (sym (length-decimal 4 _)) (decimal-allowed 4 _)

@@ -1,40 +1,37 @@
--- What Line wrote is read back whole (document 02, Job 1), whatever comment may stand behind it.
+-- The text of a line is read back whole (document 02, Job 1), whatever comment may stand behind it.
 -- Assumes nothing.
 use mathlib.Core.Path.{_≡_, refl, sym, ap, ap₂, _∙_}
 use mathlib.Core.Bool.{true, false}
-use mathlib.Core.List.{List, [], _++_, append-assoc, append-nil}
+use mathlib.Core.List.{List, _++_, append-assoc}
 use Prim.Native.Nat.{ℕ, suc, _+_, _-_, _/_, _%_, _≤_, _<_}
-use native.Mathlib.Nat.{add-zero, le-refl}
+use native.Mathlib.Nat.{add-zero}
 use native.Mathlib.Omega.{arith}
-use lib.Dec.{eqb·suc-zero, lit<, lit≤}
+use lib.Dec.{eqb·suc-zero, lit<}
 use lib.IntN.{ℤ, pos, negsuc}
 use lib.ListN.{length, take, drop, getD, length-append, length-drop}
 use lib.Seq.{take-at, drop-at, getD-drop, getD-take}
 use borrow.Author.Tests.{le-ltb}
-use Rattle.limits.proofs.Laws as limits
-use Rattle.schedule.specs.Schedule.{startRule}
+use Rattle.schedule.specs.Schedule.{startNumber}
 use Rattle.schedule.proofs.Minutes as schedule
-use Rattle.fields.specs.Text.{bytesOf, decimal, sign, signed, hexadecimal, checksum}
+use Rattle.fields.specs.Text.{decimal, sign, signed, hexadecimal, checksum}
 use Rattle.fields.specs.Read.{readDecimal, readSigned}
 use Rattle.fields.proofs.Laws.{length-decimal, read-decimal}
 use Rattle.labels.specs.declared.Labels.{Labels}
 use Rattle.limits.specs.declared.Numbers.{Numbers}
 use Rattle.labels.specs.Labels.{labelsFit, trackLengthFits}
-use Rattle.labels.specs.Content.{contentRule}
-use Rattle.columns.specs.Text.{lineLength, clock, trackColumns, clockColumns, delayColumns, columns, spaced, lineText}
+use Rattle.labels.specs.Content.{contentNumber}
+use Rattle.labels.proofs.Accepted.{Accepted, accepted}
+use Rattle.columns.specs.Text.{lineLength, timeOfDay, trackColumns, clockColumns, delayColumns, columns, spaced, lineText}
 use Rattle.columns.specs.Columns.{byteIn, field, readLabels, readNumbers}
 use Rattle.columns.proofs.Widths.{columns-sized, columns-width, line-width, column-at}
-use Rattle.line.specs.Line.{lineAnswer, lineAfter}
-use Rattle.line.proofs.Accepted.{Accepted, accepted, after-is}
-use Rattle.line.proofs.Sample as sample
-use Rattle.line.proofs.ReadBack.{numbers-back, labels-back}
+use Rattle.columns.proofs.ReadBack.{numbers-back, labels-back}
 use Rattle.characters.specs.Kinds.{printable}
 use Rattle.characters.proofs.Spelled.{Spelled}
 use Rattle.characters.proofs.Check.{check-closes}
-use Rattle.reading.specs.Read.{signedFields, isMinusZero, minusZero, clockBeyond, readRule}
+use Rattle.reading.specs.Read.{signedFields, isMinusZero, minusZero, timeBeyond, readRule}
 use Rattle.reading.proofs.Columns.{columns-of, shared, field-length}
 use Rattle.reading.proofs.Refusals.{Valued, accepted-zero, reply-line}
-use Rattle.reading.proofs.AcceptedLine.{time-joined, answer-zero}
+use Rattle.reading.proofs.AcceptedLine.{time-joined}
 use Rattle.reading.proofs.Writing.{columns-allowed}
 
 -- a sign that is written is no minus before a zero
@@ -60,7 +57,10 @@ parted {n} {a} {b} {c} {d} p q e = (
   sym (drop-at a b n p) ∙ ap (drop n) e ∙ drop-at c d n q,
 )
 
-module _ (l : Labels) (n : Numbers) (comment : List ℕ) (a : Accepted l n lineLength) (cl : l .cl < 256) (p : printable comment ≡ true) (few : length comment ≤ 27) where
+module _ (l : Labels) (n : Numbers) (comment : List ℕ) (e : contentNumber l n ≡ 0) (cl : l .cl < 256) (p : printable comment ≡ true) (few : length comment ≤ 27) where
+  a : Accepted l n
+  a = accepted l n e
+
   abbrev sum : ℕ
   sum = checksum (spaced (columns l n))
 
@@ -75,10 +75,10 @@ module _ (l : Labels) (n : Numbers) (comment : List ℕ) (a : Accepted l n lineL
   line-is = append-assoc (spaced (columns l n)) (hexadecimal sum) comment
 
   labels-are : readLabels line ≡ l
-  labels-are = ap readLabels (sym line-is) ∙ labels-back l n lineLength comment a cl
+  labels-are = ap readLabels (sym line-is) ∙ labels-back l n comment e cl
 
   numbers-are : readNumbers line ≡ n
-  numbers-are = ap readNumbers (sym line-is) ∙ numbers-back l n lineLength comment a
+  numbers-are = ap readNumbers (sym line-is) ∙ numbers-back l n comment e
 
   -- ---- the characters
 
@@ -121,7 +121,7 @@ module _ (l : Labels) (n : Numbers) (comment : List ℕ) (a : Accepted l n lineL
   time : (field 14 15 line ≡ decimal 2 (l .start / 3600))
       × (field 16 17 line ≡ decimal 2 (l .start / 60 % 60))
       × (field 18 19 line ≡ decimal 2 (l .start % 60))
-  unfolding clock columns trackColumns
+  unfolding timeOfDay columns trackColumns
   time =
       let whole = time-joined line ∙ column-at (columns-sized l n) 3 (lit< tt) behind in
       let c = columns-of line (shared line (spelled .columns)) in
@@ -129,8 +129,8 @@ module _ (l : Labels) (n : Numbers) (comment : List ℕ) (a : Accepted l n lineL
       let rest = parted (field-length (c .minute)) (length-decimal 2 _) (hour .1) in
       (hour .0, rest .0, rest .1)
 
-  time-fits : clockBeyond line ≡ false
-  unfolding clockBeyond
+  time-fits : timeBeyond line ≡ false
+  unfolding timeBeyond
   time-fits =
       let s = schedule.accepted (l .mjd) (l .start) (a .start) in
       let hour = ap readDecimal (time .0) ∙ read-decimal 2 (l .start / 3600) (omega (arith, s)) in
@@ -144,8 +144,8 @@ module _ (l : Labels) (n : Numbers) (comment : List ℕ) (a : Accepted l n lineL
         minus = no-minus;
         labels = ap labelsFit labels-are ∙ a .labels;
         trkl = ap (λ (m : Numbers). trackLengthFits (m .trkl)) numbers-are ∙ a .trkl;
-        start = ap (λ (m : Labels). startRule (m .mjd) (m .start)) labels-are ∙ a .start;
-        clock = time-fits;
+        start = ap (λ (m : Labels). startNumber (m .mjd) (m .start)) labels-are ∙ a .start;
+        time = time-fits;
       }
 
   reply-is : readRule (lineText l n ++ comment) ≡ record { number = 0; values = (l, n) }
@@ -154,26 +154,10 @@ module _ (l : Labels) (n : Numbers) (comment : List ℕ) (a : Accepted l n lineL
 -- ---- the theorems
 
 -- The text of content that Line accepts reads to that content, with a comment of up to 27 printable bytes behind it. CL is a byte.
-pub text-reads-back : (l : Labels) (n : Numbers) (comment : List ℕ) → contentRule l n ≡ 0 → l .cl < 256 → printable comment ≡ true → length comment ≤ 27
+pub text-reads-back : (l : Labels) (n : Numbers) (comment : List ℕ) → contentNumber l n ≡ 0 → l .cl < 256 → printable comment ≡ true → length comment ≤ 27
     → readRule (lineText l n ++ comment) ≡ record { number = 0; values = (l, n) }
-text-reads-back l n comment e cl p few =
-    reply-is l n comment (accepted l n lineLength (answer-zero l n lineLength e (le-refl lineLength))) cl p few
+text-reads-back l n comment e cl p few = reply-is l n comment e cl p few
 
--- A lent line in which Line wrote reads to what was written, where it is at most 140 bytes long and what stands behind the columns may be a comment.
-pub written-reads-back : (l : Labels) (n : Numbers) (lent : List ℕ) → lineAnswer l n (length lent) ≡ 0 → l .cl < 256 → length lent ≤ 140
-    → printable (drop lineLength lent) ≡ true → readRule (lineAfter l n lent) ≡ record { number = 0; values = (l, n) }
-unfolding lineAnswer
-written-reads-back l n lent e cl most p =
-    ap readRule (after-is l n lent e)
-    ∙ text-reads-back l n (drop lineLength lent) (limits.then-zero _ _ e .0) cl p (rw length-drop (few (length lent) most))
-  where
-    few : (k : ℕ) → k ≤ 140 → k - 113 ≤ 27
-    few k h = omega arith
-
--- The sample line of document 01 reads to its labels and numbers.
-pub sample-reads : readRule (bytesOf "G05 FF 50722 000200 0780 450 1800 +0000000010 +00000 +0000000010 +00000 0000 007 0000 +000 0000 +000 00 00 L1C 26")
-    ≡ record { number = 0; values = (sample.labels, sample.numbers) }
-unfolding lineAnswer printable
-sample-reads =
-    ap readRule (sym (append-nil (lineText sample.labels sample.numbers) ∙ sample.sample))
-    ∙ text-reads-back sample.labels sample.numbers [] (limits.then-zero _ _ sample.sample-accepted .0) (lit< tt) refl (lit≤ tt)
+-- what stands behind the columns of a line of up to 140 bytes is that short
+pub comment-length : (line : List ℕ) → length line ≤ 140 → length (drop lineLength line) ≤ 27
+comment-length line most = rw length-drop (omega (arith, most))

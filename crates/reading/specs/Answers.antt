@@ -2,10 +2,11 @@
 -- where there is a refusal.
 -- Assumes nothing.
 use Prim.Native.Nat.{_<_}
+use Rattle.limits.specs.Limits.{noNumbers}
 use Rattle.limits.specs.Reply.{Reply}
 use Rattle.labels.specs.declared.Labels.{Labels}
 use Rattle.limits.specs.declared.Numbers.{Numbers}
-use Rattle.reading.specs.Read.{noLabels, noNumbers}
+use Rattle.reading.specs.Read.{noLabels}
 use Rattle.reading.specs.declared.Reading.{Reading}
 
 abbrev pub readReply : Reading → Reply (Labels × Numbers)

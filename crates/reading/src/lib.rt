@@ -28,8 +28,8 @@ fn values_refusal(line: &[u8], labels: Labels, numbers: Numbers) -> u32
 {
     let minus = when(13, values::minus_zero(line, numbers));
     let label = labels::refusal(labels, numbers);
-    let clock = when(8, values::clock_beyond(line));
-    then(minus, then(label, clock))
+    let time = when(8, values::time_beyond(line));
+    then(minus, then(label, time))
 }
 
 // The labels and the numbers in the columns of a line.

@@ -7,7 +7,7 @@ ghost use lib.ListN.{length};
 ghost use Rattle.fields.specs.Read.{readDecimal, readSigned, readDigit, readHexadecimal};
 ghost use Rattle.columns.specs.Columns.{field, labelsWith, readLabels, readNumbers};
 ghost use Rattle.characters.specs.Kinds.{kinds, allowed};
-ghost use Rattle.reading.specs.Read.{signedFields, isMinusZero, minusZero, clockBeyond};
+ghost use Rattle.reading.specs.Read.{signedFields, isMinusZero, minusZero, timeBeyond};
 ghost use Rattle.reading.specs.Fields.{digits, hexDigits, IsHexDigit, Holds, Shared, Digits, Signed};
 use labels::Labels;
 use labels::Numbers;
@@ -100,9 +100,9 @@ fn start(line: &[u8]) -> u32
 }
 
 // Whether the hour, the minute or the second is none of a day.
-pub fn clock_beyond(line: &[u8]) -> bool
+pub fn time_beyond(line: &[u8]) -> bool
     requires { ⌜ Shared (now line) ⌝ }
-    ensures { λ r. ⌜ r ≡ clockBeyond (now (line .entry)) ⌝ }
+    ensures { λ r. ⌜ r ≡ timeBeyond (now (line .entry)) ⌝ }
 {
     (23 < decimal32(line, 14, 15)) | (59 < decimal32(line, 16, 17)) | (59 < decimal32(line, 18, 19))
 }

@@ -11,7 +11,7 @@ use lib.IntN.{pos, negsuc, subℕ, negℤ-negℤ, _-ℤ_}
 use borrow.Author.Tests.{lt-ltb, le-ltb, eq-eqb, leb-true, leb-false, eqb-true, eqb-false, ltb-false, not-false}
 use mir.Facts.{and-yes}
 use Rattle.limits.proofs.Laws.{then-zero, when-zero, or-false}
-use Rattle.schedule.specs.Schedule.{firstDate, lastDate, day, tracks, broughtIn, startMinute, some, isStart, startRule}
+use Rattle.schedule.specs.Schedule.{firstDate, lastDate, repeatPeriod, tracks, broughtIn, startMinute, some, isStart, startNumber}
 
 -- ---- differences of natural numbers
 
@@ -27,28 +27,28 @@ sub-below a b h = simp (lt-ltb a b h)
 
 -- ---- a difference brought in: days of 1436 minutes are added or taken
 
-brought-above : (x : ℕ) → broughtIn (pos x) ≡ x % day
+brought-above : (x : ℕ) → broughtIn (pos x) ≡ x % repeatPeriod
 unfolding broughtIn
 brought-above x =
-    simp (sub-is x (day * (x / day)), sub-above x (day * (x / day)) (omega arith)) (omega arith)
+    simp (sub-is x (repeatPeriod * (x / repeatPeriod)), sub-above x (repeatPeriod * (x / repeatPeriod)) (omega arith)) (omega arith)
 
-brought-below : (y : ℕ) → broughtIn (negsuc y) ≡ day * suc (y / day) - suc y
+brought-below : (y : ℕ) → broughtIn (negsuc y) ≡ repeatPeriod * suc (y / repeatPeriod) - suc y
 unfolding broughtIn
-brought-below y = simp (negℤ-negℤ, sub-above (day * suc (y / day)) (suc y) (omega arith))
+brought-below y = simp (negℤ-negℤ, sub-above (repeatPeriod * suc (y / repeatPeriod)) (suc y) (omega arith))
 
-brought-difference : (a b : ℕ) → broughtIn (pos a -ℤ pos b) ≡ (a + (day - 1) * b) % day
-brought-difference a b = ap broughtIn (sub-is a b) ∙ elim (leb b a) as (λ t. leb b a ≡ t → broughtIn (subℕ a b) ≡ (a + (day - 1) * b) % day) [
+brought-difference : (a b : ℕ) → broughtIn (pos a -ℤ pos b) ≡ (a + (repeatPeriod - 1) * b) % repeatPeriod
+brought-difference a b = ap broughtIn (sub-is a b) ∙ elim (leb b a) as (λ t. leb b a ≡ t → broughtIn (subℕ a b) ≡ (a + (repeatPeriod - 1) * b) % repeatPeriod) [
   | true ↦ λ e. ap broughtIn (sub-above a b (leb-true b a e)) ∙ brought-above (a - b) ∙ above a b (leb-true b a e)
   | false ↦ λ e. ap broughtIn (sub-below a b (leb-false b a e)) ∙ brought-below (b - suc a) ∙ below a b (leb-false b a e)
 ] refl
   where
-    above : (a b : ℕ) → b ≤ a → (a - b) % day ≡ (a + (day - 1) * b) % day
+    above : (a b : ℕ) → b ≤ a → (a - b) % repeatPeriod ≡ (a + (repeatPeriod - 1) * b) % repeatPeriod
     above a b h = omega arith
 
-    below : (a b : ℕ) → a < b → day * suc ((b - suc a) / day) - suc (b - suc a) ≡ (a + (day - 1) * b) % day
+    below : (a b : ℕ) → a < b → repeatPeriod * suc ((b - suc a) / repeatPeriod) - suc (b - suc a) ≡ (a + (repeatPeriod - 1) * b) % repeatPeriod
     below a b h = omega arith
 
-pub start-minute : (n k : ℕ) → startMinute n (suc k) ≡ (2 + 16 * k + (day - 1) * (4 * n)) % day
+pub start-minute : (n k : ℕ) → startMinute n (suc k) ≡ (2 + 16 * k + (repeatPeriod - 1) * (4 * n)) % repeatPeriod
 unfolding startMinute
 start-minute n k = simp (le-ltb (suc k) 1 (omega arith), sub-one) (brought-difference (2 + 16 * k) (4 * n))
 
@@ -88,23 +88,23 @@ some-found (suc limit) test t = elim (test (suc limit)) as (λ b. test (suc limi
 
 -- What the program tests of a second: minute is second / 60, and since-first the time since the first track.
 abbrev pub sinceFirst : (n second : ℕ) → ℕ
-sinceFirst n second = (second / 60 + 4 * n + day - 2) % day
+sinceFirst n second = (second / 60 + 4 * n + repeatPeriod - 2) % repeatPeriod
 
 pub record Tests (n second : ℕ) : Type 0 where
   pub whole : second % 60 ≡ 0
-  pub inside : second / 60 < day
+  pub inside : second / 60 < repeatPeriod
   pub step : sinceFirst n second % 16 ≡ 0
   pub track : sinceFirst n second / 16 < tracks
 
 -- they find the track
-pub found : (n second : ℕ) → Tests n second → second ≡ 60 * ((2 + 16 * (sinceFirst n second / 16) + (day - 1) * (4 * n)) % day)
+pub found : (n second : ℕ) → Tests n second → second ≡ 60 * ((2 + 16 * (sinceFirst n second / 16) + (repeatPeriod - 1) * (4 * n)) % repeatPeriod)
 found n second t = omega arith
 
-since-first : (n second k : ℕ) → k < tracks → second ≡ 60 * ((2 + 16 * k + (day - 1) * (4 * n)) % day) → sinceFirst n second ≡ 16 * k
+since-first : (n second k : ℕ) → k < tracks → second ≡ 60 * ((2 + 16 * k + (repeatPeriod - 1) * (4 * n)) % repeatPeriod) → sinceFirst n second ≡ 16 * k
 since-first n second k h e = omega arith
 
 -- and each track passes them
-pub passes : (n second k : ℕ) → k < tracks → second ≡ 60 * ((2 + 16 * k + (day - 1) * (4 * n)) % day) → Tests n second
+pub passes : (n second k : ℕ) → k < tracks → second ≡ 60 * ((2 + 16 * k + (repeatPeriod - 1) * (4 * n)) % repeatPeriod) → Tests n second
 passes n second k h e = omega (arith, since-first n second k h e)
 
 pub start-found : (n second : ℕ) → Tests n second → T (isStart n second)
@@ -129,14 +129,14 @@ same false false f g = refl
 
 -- the tests in a row say whether there is a track
 pub row : (n second : ℕ)
-    → (eqb (second % 60) 0 && ltb (second / 60) day && eqb (sinceFirst n second % 16) 0 && ltb (sinceFirst n second / 16) tracks) ≡ isStart n second
+    → (eqb (second % 60) 0 && ltb (second / 60) repeatPeriod && eqb (sinceFirst n second % 16) 0 && ltb (sinceFirst n second / 16) tracks) ≡ isStart n second
 row n second = same (whole && inside && step && track) (isStart n second) (λ t. start-found n second (tests t)) (λ t. flags (start-passes n second t))
   where
     whole : Bool
     whole = eqb (second % 60) 0
 
     inside : Bool
-    inside = ltb (second / 60) day
+    inside = ltb (second / 60) repeatPeriod
 
     step : Bool
     step = eqb (sinceFirst n second % 16) 0
@@ -151,7 +151,7 @@ row n second = same (whole && inside && step && track) (isStart n second) (λ t.
         let w = and-yes whole inside (v .0) in
         record {
           whole = eqb→eq (second % 60) 0 (w .0);
-          inside = ltb→lt (second / 60) day (w .1);
+          inside = ltb→lt (second / 60) repeatPeriod (w .1);
           step = eqb→eq (sinceFirst n second % 16) 0 (v .1);
           track = ltb→lt (sinceFirst n second / 16) tracks (u .1);
         }
@@ -160,8 +160,8 @@ row n second = same (whole && inside && step && track) (isStart n second) (λ t.
     flags t = simp (eq-eqb _ _ (t .whole), lt-ltb _ _ (t .inside), eq-eqb _ _ (t .step), lt-ltb _ _ (t .track)) tt
 
 -- an accepted date and start
-pub accepted : (mjd second : ℕ) → startRule mjd second ≡ 0 → (mjd ≤ lastDate) × (second < 60 * day)
-unfolding startRule
+pub accepted : (mjd second : ℕ) → startNumber mjd second ≡ 0 → (mjd ≤ lastDate) × (second < 60 * repeatPeriod)
+unfolding startNumber
 accepted mjd second e =
     let f = then-zero _ _ e in
     let date = or-false (ltb mjd firstDate) (ltb lastDate mjd) (when-zero 6 _ (f .0)) in

@@ -18,12 +18,12 @@ abbrev pub tracks : ℕ
 tracks = 89
 
 -- The minutes after which the tracks repeat, 23 h 56 min, and by which a start is brought into the day.
-abbrev pub day : ℕ
-day = 1436
+abbrev pub repeatPeriod : ℕ
+repeatPeriod = 1436
 
--- A minute brought into 0 to day - 1 by adding or taking 1436 minutes, as often as needed: z less the day times the floor of z / day.
+-- A minute brought into 0 to 1435 by adding or taking 1436 minutes, as often as needed: z less the period times the floor of z / period.
 unfoldable pub broughtIn : ℤ → ℕ
-broughtIn z = natAbs (z -ℤ pos day *ℤ shrZ z day)
+broughtIn z = natAbs (z -ℤ pos repeatPeriod *ℤ shrZ z repeatPeriod)
 
 -- The minute at which track i starts, n days after the first date.
 unfoldable pub startMinute : (n i : ℕ) → ℕ
@@ -39,7 +39,7 @@ unfoldable pub isStart : (n second : ℕ) → Bool
 isStart n second = some tracks (λ i. eqb second (60 * startMinute n i))
 
 -- 7: the date is out of range. 8: the second is no start of that day.
-unfoldable pub startRule : (mjd second : ℕ) → ℕ
-startRule mjd second =
+unfoldable pub startNumber : (mjd second : ℕ) → ℕ
+startNumber mjd second =
     7 when (ltb mjd firstDate || ltb lastDate mjd)
     then 8 when not (isStart (mjd - firstDate) second)

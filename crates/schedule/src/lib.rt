@@ -2,7 +2,7 @@
 // It answers 0, 7 where the date is out of range, or 8 where the second is no start.
 ghost use mathlib.Core.Path.{_≡_};
 ghost use Prim.Native.Nat.{_-_, _≤_};
-ghost use Rattle.schedule.specs.Schedule.{firstDate, lastDate, isStart, startRule};
+ghost use Rattle.schedule.specs.Schedule.{firstDate, lastDate, isStart, startNumber};
 use limits::when;
 
 const FIRST_DATE: u32 = 50722;
@@ -12,7 +12,7 @@ const LAST_DATE: u32 = 99999;
 const TRACKS: u32 = 89;
 
 // The minutes after which the tracks repeat: 23 h 56 min.
-const DAY: u32 = 1436;
+const REPEAT_PERIOD: u32 = 1436;
 
 // The minutes by which the tracks of a day start earlier than those of the day before.
 const EARLIER: u32 = 4;
@@ -24,12 +24,15 @@ fn is_start(n: u32, second: u32) -> bool
     ensures { λ r. ⌜ r ≡ isStart n second ⌝ }
 {
     let minute = second / 60;
-    let since_first = (minute + EARLIER * n + DAY - 2) % DAY;
-    (second % 60 == 0) & (minute < DAY) & (since_first % 16 == 0) & (since_first / 16 < TRACKS)
+    let since_first = (minute + EARLIER * n + REPEAT_PERIOD - 2) % REPEAT_PERIOD;
+    (second % 60 == 0)
+        & (minute < REPEAT_PERIOD)
+        & (since_first % 16 == 0)
+        & (since_first / 16 < TRACKS)
 }
 
 pub fn start(mjd: u32, second: u32) -> u32
-    ensures { λ r. ⌜ r ≡ startRule mjd second ⌝ }
+    ensures { λ r. ⌜ r ≡ startNumber mjd second ⌝ }
 {
     if (mjd < FIRST_DATE) | (LAST_DATE < mjd) {
         return 7;

@@ -21,13 +21,14 @@ use Rattle.whole.specs.Order.{_⩽_, pos-le, pos-le-is, zero-le-pos, mul-le, le
 use Rattle.whole.specs.Magnitude.{natAbs-mul, magnitude-le}
 use Rattle.whole.specs.Rounding.{nearest-scale}
 use Rattle.whole.specs.Words.{Word, Within, told, partial}
-use Rattle.exact.specs.Corrected.{at, steps}
+use Rattle.whole.specs.Table.{at}
+use Rattle.exact.specs.Corrected.{steps}
 use Rattle.exact.specs.Weights.{place}
 use Rattle.exact.specs.Places.{sum-magnitude-place}
 use Rattle.limits.specs.Blocks.{blocksFit}
 use Rattle.limits.specs.Refusal.{_when_, _then_}
-use Rattle.limits.specs.Lists.{anyBeyond, rangeRule}
-use Rattle.series.specs.Fit.{total, moment, midpoint, slope, valuesRule, fitRule, valuesLimit}
+use Rattle.limits.specs.Lists.{anyBeyond, rangeNumber}
+use Rattle.series.specs.Fit.{total, moment, midpoint, slope, seriesNumber, fitRule, valueLimit}
 use Rattle.limits.specs.Reply.{Reply}
 use Rattle.limits.proofs.Blocks.{blocks-within, within-blocks}
 use Rattle.limits.proofs.Lists.{within-limit, list-accepted, list-passes, any-take}
@@ -45,55 +46,55 @@ unfolding place
 place-bound n j h = apart (2 * j) (n - 1) n (omega arith) (omega arith)
 
 -- sums over the first k of n values that are inside Fit's limit, n being at most 52
-module _ (l : List ℤ) (e : anyBeyond valuesLimit l ≡ false) (n : ℕ) (h : n ≤ 52) where
-  pub total-part : (k : ℕ) → k ≤ n → natAbs (sum k (at l)) ≤ 52 * valuesLimit
+module _ (l : List ℤ) (e : anyBeyond valueLimit l ≡ false) (n : ℕ) (h : n ≤ 52) where
+  pub total-part : (k : ℕ) → k ≤ n → natAbs (sum k (at l)) ≤ 52 * valueLimit
   total-part k m =
-      le-trans (partial n k (at l) valuesLimit m (λ j i. within-limit valuesLimit l e j)) (mul-le-mul-right valuesLimit h)
+      le-trans (partial n k (at l) valueLimit m (λ j i. within-limit valueLimit l e j)) (mul-le-mul-right valueLimit h)
 
-  pub total-bound : natAbs (total n (at l)) ≤ 52 * valuesLimit
+  pub total-bound : natAbs (total n (at l)) ≤ 52 * valueLimit
   unfolding total
   total-bound = total-part n (le-refl n)
 
   -- the magnitudes of the places add up to at most n² / 2: half of what the number of terms would give
-  pub moment-bound : natAbs (moment n (at l)) ≤ 1352 * valuesLimit
+  pub moment-bound : natAbs (moment n (at l)) ≤ 1352 * valueLimit
   unfolding moment
   moment-bound =
       pos-le-is
       (⩽-trans (magnitude-sum n (λ j. place n j *ℤ at l j))
       (⩽-trans (sum-le n each)
-      (⩽-trans (⩽-of-eq (sym (sum-scale n (pos valuesLimit) (λ j. magnitude (place n j))) ∙ halved (sum n (λ j. magnitude (place n j)))))
+      (⩽-trans (⩽-of-eq (sym (sum-scale n (pos valueLimit) (λ j. magnitude (place n j))) ∙ halved (sum n (λ j. magnitude (place n j)))))
       (⩽-trans (mul-le (pos half) (zero-le-pos half) (sum-magnitude-place n))
       (pos-le {m = half * (n * n)} (omega (arith, mul-le-mul h h)))))))
     where
       half : ℕ
       half = steps * 10 ^ 12
 
-      halved : (u : ℤ) → pos valuesLimit *ℤ u ≡ pos half *ℤ (pos 2 *ℤ u)
+      halved : (u : ℤ) → pos valueLimit *ℤ u ≡ pos half *ℤ (pos 2 *ℤ u)
       halved u = identity (u ∷ []) (search quote depth 20) tt
 
-      each : (j : ℕ) → j < n → magnitude (place n j *ℤ at l j) ⩽ pos valuesLimit *ℤ magnitude (place n j)
+      each : (j : ℕ) → j < n → magnitude (place n j *ℤ at l j) ⩽ pos valueLimit *ℤ magnitude (place n j)
       each j k =
           pos-le
           (le-trans (le-of-eq (natAbs-mul (place n j) (at l j) ∙ mul-comm (natAbs (place n j)) (natAbs (at l j))))
-          (mul-le-mul-right (natAbs (place n j)) (within-limit valuesLimit l e j)))
+          (mul-le-mul-right (natAbs (place n j)) (within-limit valueLimit l e j)))
 
 -- a list that Fit and Scatter do not refuse has from 4 to 52 values, inside their limit
-pub values-inside : (l : List ℤ) → valuesRule l ≡ 0 → (4 ≤ length l) × (length l ≤ 52) × (anyBeyond valuesLimit l ≡ false)
+pub values-inside : (l : List ℤ) → seriesNumber l ≡ 0 → (4 ≤ length l) × (length l ≤ 52) × (anyBeyond valueLimit l ≡ false)
 values-inside l e =
     let a = list-accepted _ _ _ l e in
     let b = blocks-within (length l) (a .0) in
     (b .0, b .1, a .1)
 
 -- and one that they refuse is refused for its count first
-pub values-miscounted : (l : List ℤ) → not (blocksFit (length l)) ≡ true → valuesRule l ≡ 1
-unfolding rangeRule _when_ _then_
+pub values-miscounted : (l : List ℤ) → not (blocksFit (length l)) ≡ true → seriesNumber l ≡ 1
+unfolding rangeNumber _when_ _then_
 values-miscounted l e = rw e
 
-pub values-beyond : (l : List ℤ) → not (blocksFit (length l)) ≡ false → anyBeyond valuesLimit l ≡ true → valuesRule l ≡ 2
-unfolding rangeRule _when_ _then_
+pub values-beyond : (l : List ℤ) → not (blocksFit (length l)) ≡ false → anyBeyond valueLimit l ≡ true → seriesNumber l ≡ 2
+unfolding rangeNumber _when_ _then_
 values-beyond l e h = rw (e, h)
 
-pub values-pass : (l : List ℤ) → not (blocksFit (length l)) ≡ false → anyBeyond valuesLimit l ≡ false → valuesRule l ≡ 0
+pub values-pass : (l : List ℤ) → not (blocksFit (length l)) ≡ false → anyBeyond valueLimit l ≡ false → seriesNumber l ≡ 0
 values-pass l e h = list-passes _ _ _ l e h
 
 -- n² - 1 and n (n² - 1), for n from 2 to 52
@@ -185,13 +186,13 @@ module _ (n : ℕ) {u v : ℕ → ℤ} (same : (j : ℕ) → j < n → u j ≡ v
   slope-cong = ap (λ (z : ℤ). nearest (pos 4 *ℤ z) (steps * (n * (n * n - 1)))) moment-cong
 
 -- Fit's reply to values that are not refused
-fit-accepted : (l : List ℤ) → 4 ≤ length l → length l ≤ 52 → anyBeyond valuesLimit l ≡ false
+fit-accepted : (l : List ℤ) → 4 ≤ length l → length l ≤ 52 → anyBeyond valueLimit l ≡ false
     → fitRule l ≡ record { number = 0; values = (midpoint steps (length l) (at l), slope steps (length l) (at l)) }
 unfolding fitRule
 fit-accepted l h k e = reply-accepted _ _ (list-passes _ _ _ l (within-blocks (length l) h k) e)
 
 -- to the first n values of a list
-pub fit-part : (n : ℕ) (l : List ℤ) → 4 ≤ n → n ≤ 52 → n ≤ length l → anyBeyond valuesLimit l ≡ false
+pub fit-part : (n : ℕ) (l : List ℤ) → 4 ≤ n → n ≤ 52 → n ≤ length l → anyBeyond valueLimit l ≡ false
     → fitRule (take n l) ≡ record { number = 0; values = (midpoint steps n (at l), slope steps n (at l)) }
 fit-part n l h k m e =
     fit-accepted (take n l) (subst (λ (i : ℕ). 4 ≤ i) (sym count) h) (subst (λ (i : ℕ). i ≤ 52) (sym count) k) (any-take _ _ n l e)

@@ -3,7 +3,7 @@
 use mathlib.Core.Path.{_≡_, refl, ap, sym, _∙_}
 use mathlib.Core.Bool.{Bool, true, false, true≢false}
 use mathlib.Core.List.{List, [], _∷_}
-use Prim.Native.Nat.{ℕ, zero, suc, zero-le, _+_, _*_, _-_, _^_, _≤_, _<_}
+use Prim.Native.Nat.{ℕ, zero, suc, zero-le, _+_, _*_, _-_, _≤_, _<_}
 use native.Mathlib.Nat.{le-trans, mul-le-mul, mul-le-mul-right}
 use native.Mathlib.Decide.{decLt}
 use native.Mathlib.Omega.{arith}
@@ -12,13 +12,13 @@ use lib.ListN.{length, List·getD-eq-default}
 use Rattle.whole.specs.Sum.{sum}
 use Rattle.whole.specs.Sums.{sum-eq, sums, natAbs-sum}
 use Rattle.whole.specs.Identity.{identity, quote}
-use Rattle.exact.specs.Corrected.{at}
+use Rattle.whole.specs.Table.{at}
 use Rattle.exact.specs.Weights.{place}
 use Rattle.limits.specs.Limits.{beyond}
 use Rattle.limits.specs.Lists.{anyBeyond}
 use Rattle.limits.proofs.Laws.{magnitude-within, within-magnitude}
 use Rattle.limits.proofs.Lists.{within-limit, limit-within}
-use Rattle.series.specs.Fit.{total, moment, valuesLimit}
+use Rattle.series.specs.Fit.{total, moment, valueLimit}
 
 -- the sums of the first k values, for each k below n, added up
 abbrev pub totals : ℕ → (ℕ → ℤ) → ℤ
@@ -57,38 +57,38 @@ moment-running n v h =
 -- ---- values that are inside Fit's limit so far
 
 abbrev pub Inside : List ℤ → ℕ → Type 0
-Inside l j = (i : ℕ) → i < j → natAbs (at l i) ≤ valuesLimit
+Inside l j = (i : ℕ) → i < j → natAbs (at l i) ≤ valueLimit
 
 module _ (l : List ℤ) (j : ℕ) (h : j ≤ 52) (so-far : Inside l j) where
-  pub total-so-far : natAbs (sum j (at l)) ≤ 52 * valuesLimit
-  total-so-far = le-trans (natAbs-sum j (at l) valuesLimit so-far) (mul-le-mul-right valuesLimit h)
+  pub total-so-far : natAbs (sum j (at l)) ≤ 52 * valueLimit
+  total-so-far = le-trans (natAbs-sum j (at l) valueLimit so-far) (mul-le-mul-right valueLimit h)
 
-  pub totals-so-far : natAbs (totals j (at l)) ≤ 2704 * valuesLimit
-  totals-so-far = le-trans (natAbs-sum j (λ k. sum k (at l)) (52 * valuesLimit) each) (mul-le-mul-right (52 * valuesLimit) h)
+  pub totals-so-far : natAbs (totals j (at l)) ≤ 2704 * valueLimit
+  totals-so-far = le-trans (natAbs-sum j (λ k. sum k (at l)) (52 * valueLimit) each) (mul-le-mul-right (52 * valueLimit) h)
     where
-      each : (k : ℕ) → k < j → natAbs (sum k (at l)) ≤ 52 * valuesLimit
+      each : (k : ℕ) → k < j → natAbs (sum k (at l)) ≤ 52 * valueLimit
       each k i =
           let few : k ≤ 52 = omega (arith, i, h) in
-          le-trans (natAbs-sum k (at l) valuesLimit (λ m p. so-far m (omega (arith, p, i)))) (mul-le-mul-right valuesLimit few)
+          le-trans (natAbs-sum k (at l) valueLimit (λ m p. so-far m (omega (arith, p, i)))) (mul-le-mul-right valueLimit few)
 
   -- the next one is inside too
-  pub inside-more : beyond valuesLimit (at l j) ≡ false → Inside l (j + 1)
+  pub inside-more : beyond valueLimit (at l j) ≡ false → Inside l (j + 1)
   inside-more e i k = elim (decLt i j) [ yes p ↦ so-far i p | no p ↦ here (omega arith) ]
     where
-      here : i ≡ j → natAbs (at l i) ≤ valuesLimit
-      here q = rw q (magnitude-within valuesLimit (at l j) e)
+      here : i ≡ j → natAbs (at l i) ≤ valueLimit
+      here q = rw q (magnitude-within valueLimit (at l j) e)
 
 -- one is outside
-pub outside-found : (l : List ℤ) (j : ℕ) → beyond valuesLimit (at l j) ≡ true → true ≡ anyBeyond valuesLimit l
-outside-found l j h = by (anyBeyond valuesLimit l) refl
+pub outside-found : (l : List ℤ) (j : ℕ) → beyond valueLimit (at l j) ≡ true → true ≡ anyBeyond valueLimit l
+outside-found l j h = by (anyBeyond valueLimit l) refl
   where
-    by : (b : Bool) → anyBeyond valuesLimit l ≡ b → true ≡ b
+    by : (b : Bool) → anyBeyond valueLimit l ≡ b → true ≡ b
     by true e = refl
-    by false e = absurd (true≢false (sym h ∙ within-magnitude valuesLimit (at l j) (within-limit valuesLimit l e j)))
+    by false e = absurd (true≢false (sym h ∙ within-magnitude valueLimit (at l j) (within-limit valueLimit l e j)))
 
 -- none is
-pub all-inside : (l : List ℤ) → Inside l (length l) → anyBeyond valuesLimit l ≡ false
-all-inside l h = limit-within valuesLimit l (λ i. elim (decLt i (length l)) [ yes p ↦ h i p | no p ↦ past i (omega arith) ])
+pub all-inside : (l : List ℤ) → Inside l (length l) → anyBeyond valueLimit l ≡ false
+all-inside l h = limit-within valueLimit l (λ i. elim (decLt i (length l)) [ yes p ↦ h i p | no p ↦ past i (omega arith) ])
   where
-    past : (i : ℕ) → length l ≤ i → natAbs (at l i) ≤ valuesLimit
+    past : (i : ℕ) → length l ≤ i → natAbs (at l i) ≤ valueLimit
     past i p = rw (List·getD-eq-default l (pos 0) p) zero-le

@@ -7,7 +7,7 @@ use mathlib.Core.List.{List, [], _∷_}
 use mathlib.Core.Logic.{⊎-elim}
 use lib.ListN.{length, take}
 use lib.Seq.{length-take-le, getD-take}
-use Prim.Native.Nat.{ℕ, zero, suc, _+_, _*_, _-_, _^_, _≤_, _<_, zero-le}
+use Prim.Native.Nat.{ℕ, zero, suc, _+_, _*_, _-_, _≤_, _<_, zero-le}
 use native.Mathlib.Nat.{le-trans, lt-of-not-le, mul-le-mul, mul-le-mul-left, mul-comm, le-antisymm}
 use native.Mathlib.Decide.{decLe}
 use native.Mathlib.Omega.{arith}
@@ -21,12 +21,13 @@ use Rattle.whole.specs.Linear.{eq-by}
 use Rattle.whole.specs.Order.{_⩽_, _⋖_, le-lt-trans, lt-le-trans, lt-irrefl, le-trans as chain, le-or-lt, pos-le, pos-lt}
 use Rattle.whole.specs.Magnitude.{le-magnitude}
 use Rattle.limits.specs.Refusal.{_when_}
-use Rattle.limits.specs.Limits.{outside, dsgRule}
-use Rattle.exact.specs.Corrected.{at, steps}
+use Rattle.limits.specs.Limits.{outside, dsgNumber}
+use Rattle.whole.specs.Table.{at}
+use Rattle.exact.specs.Corrected.{steps}
 use Rattle.limits.specs.Lists.{anyBeyond}
 use Rattle.limits.specs.Reply.{Reply, reply}
-use Rattle.series.specs.Fit.{valuesLimit}
-use Rattle.series.specs.Scatter.{squares, threshold, climb, dsg, scatterRule}
+use Rattle.series.specs.Fit.{valueLimit}
+use Rattle.series.specs.Scatter.{squares, threshold, climb, dsg, scatterRule, squaresCap}
 use Rattle.limits.proofs.Blocks.{within-blocks}
 use Rattle.limits.proofs.Lists.{list-passes, any-take}
 use Rattle.series.proofs.Residuals.{squares-cong}
@@ -98,8 +99,8 @@ unfolding threshold
 first-threshold-52 = refl
 
 -- the threshold of 10000, from which on DSG is above 9999
-pub cap-is : (n : ℕ) → threshold steps n 10000 ≡ pos ((steps * 999950) ^ 2 * n)
-cap-is n = threshold-natural steps n 10000 (lit< tt) ∙ ap pos (mul-comm n ((steps * 999950) ^ 2))
+pub cap-is : (n : ℕ) → threshold steps n 10000 ≡ pos (squaresCap * n)
+cap-is n = threshold-natural steps n 10000 (lit< tt) ∙ ap pos (mul-comm n squaresCap)
 
 pub threshold-mono : (s n : ℕ) {d e : ℕ} → 0 < d → d ≤ e → threshold s n d ⩽ threshold s n e
 threshold-mono s n {d} {e} h k =
@@ -180,26 +181,26 @@ module _ (s n : ℕ) (s-pos : 0 < s) (n-pos : 0 < n) where
 
 -- the reply with a DSG, or with its refusal
 abbrev pub sigmaReply : ℕ → Reply ℤ
-sigmaReply d = reply (pos 0) (dsgRule (pos d)) (pos d)
+sigmaReply d = reply (pos 0) (dsgNumber (pos d)) (pos d)
 
-pub sigma-refused : (d : ℕ) → 9999 < d → dsgRule (pos d) ≡ 6
-unfolding dsgRule outside _when_
+pub sigma-refused : (d : ℕ) → 9999 < d → dsgNumber (pos d) ≡ 6
+unfolding dsgNumber outside _when_
 sigma-refused d h = rw (le-ltb d 0 zero-le, lt-ltb 9999 d h)
 
-pub sigma-accepted : (d : ℕ) → d ≤ 9999 → dsgRule (pos d) ≡ 0
-unfolding dsgRule outside _when_
+pub sigma-accepted : (d : ℕ) → d ≤ 9999 → dsgNumber (pos d) ≡ 0
+unfolding dsgNumber outside _when_
 sigma-accepted d h = rw (le-ltb d 0 zero-le, le-ltb 9999 d h)
 
 -- Scatter's reply to values that are not refused before their DSG is known
-scatter-passed : (l : List ℤ) → 4 ≤ length l → length l ≤ 52 → anyBeyond valuesLimit l ≡ false
+scatter-passed : (l : List ℤ) → 4 ≤ length l → length l ≤ 52 → anyBeyond valueLimit l ≡ false
     → scatterRule l ≡ sigmaReply (dsg steps (length l) (squares (length l) (at l)))
 unfolding scatterRule
 scatter-passed l h k e =
     let sigma = pos (dsg steps (length l) (squares (length l) (at l))) in
-    ap (λ (n : ℕ). reply (pos 0) n sigma) (then-passed _ (dsgRule sigma) (list-passes _ _ _ l (within-blocks (length l) h k) e))
+    ap (λ (n : ℕ). reply (pos 0) n sigma) (then-passed _ (dsgNumber sigma) (list-passes _ _ _ l (within-blocks (length l) h k) e))
 
 -- to the first n values of a list
-pub scatter-part : (n : ℕ) (l : List ℤ) → 4 ≤ n → n ≤ 52 → n ≤ length l → anyBeyond valuesLimit l ≡ false
+pub scatter-part : (n : ℕ) (l : List ℤ) → 4 ≤ n → n ≤ 52 → n ≤ length l → anyBeyond valueLimit l ≡ false
     → scatterRule (take n l) ≡ sigmaReply (dsg steps n (squares n (at l)))
 scatter-part n l h k m e =
     scatter-passed (take n l) (subst (λ (i : ℕ). 4 ≤ i) (sym count) h) (subst (λ (i : ℕ). i ≤ 52) (sym count) k) (any-take _ _ n l e)

@@ -9,9 +9,10 @@ use lib.ListN.{length}
 use Rattle.exact.specs.Weights.{place}
 use Rattle.whole.specs.Sum.{sum}
 use Rattle.whole.specs.Nearest.{nearest}
-use Rattle.exact.specs.Corrected.{at, steps}
+use Rattle.whole.specs.Table.{at}
+use Rattle.exact.specs.Corrected.{steps}
 use Rattle.limits.specs.Blocks.{blocksFit}
-use Rattle.limits.specs.Lists.{listRule}
+use Rattle.limits.specs.Lists.{listNumber}
 use Rattle.limits.specs.Reply.{Reply, reply}
 
 -- S and T of document 01: with 52 values, place 52 j is 2j - 51.
@@ -28,14 +29,14 @@ midpoint s n v = nearest (total n v) (100 * s * n)
 unfoldable pub slope : ℕ → ℕ → (ℕ → ℤ) → ℤ
 slope s n v = nearest (pos 4 *ℤ moment n v) (s * (n * (n * n - 1)))
 
--- The limit on values in steps: 2 × 10^13 tenths.
-abbrev pub valuesLimit : ℕ
-valuesLimit = steps * (2 * 10 ^ 12)
+-- The limit on a value, in steps: 2 × 10^12 ps, which is 2 × 10^13 tenths.
+abbrev pub valueLimit : ℕ
+valueLimit = steps * (2 * 10 ^ 12)
 
--- The refusals of a list that Fit and Scatter share. 1: the count is not from 4 to 52. 2: a value is outside ±2 × 10^13 tenths.
-abbrev pub valuesRule : List ℤ → ℕ
-valuesRule l = listRule (not (blocksFit (length l))) valuesLimit l
+-- The refusals of a list that Fit and Scatter share. 1: the count is not from 4 to 52. 2: a value is beyond its limit.
+abbrev pub seriesNumber : List ℤ → ℕ
+seriesNumber l = listNumber (not (blocksFit (length l))) valueLimit l
 
 -- The values of an accepted reply are the midpoint and the slope.
 unfoldable pub fitRule : List ℤ → Reply (ℤ × ℤ)
-fitRule l = let n = length l in reply (pos 0, pos 0) (valuesRule l) (midpoint steps n (at l), slope steps n (at l))
+fitRule l = let n = length l in reply (pos 0, pos 0) (seriesNumber l) (midpoint steps n (at l), slope steps n (at l))

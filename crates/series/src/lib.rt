@@ -6,7 +6,11 @@
 mod number;
 mod sums;
 
+use exact::STEPS;
+use limits::MEASUREMENT_LEAST;
+use limits::MEASUREMENT_LIMIT;
 use limits::blocks_fit;
+use number::PS;
 use number::nearest;
 use number::nearest_by_count;
 use number::nearest_by_span;
@@ -21,6 +25,11 @@ ghost use Rattle.series.specs.Answers.{smoothReply, smoothNumbered, fitR
 ghost use Rattle.series.specs.Smooth.{smoothRule};
 ghost use Rattle.series.specs.Fit.{fitRule};
 ghost use Rattle.series.specs.Scatter.{scatterRule};
+
+// The limit of a value, in steps, and its negative.
+pub const VALUE_LIMIT: i64 = STEPS * 2_000_000_000_000;
+
+pub const VALUE_LEAST: i64 = -VALUE_LIMIT;
 
 // What Smooth answers: the smoothed value in tenths, or the number of the refusal.
 pub enum Smoothed {
@@ -58,8 +67,8 @@ pub fn smooth(measurements: &[i64]) -> Smoothed
     let refusal = list_refusal(
         measurements,
         measurements.len() != 15,
-        -1_000_000_000_000,
-        1_000_000_000_000,
+        MEASUREMENT_LEAST,
+        MEASUREMENT_LIMIT,
     );
     if refusal != 0 {
         return Smoothed::Refused(refusal);
@@ -83,7 +92,7 @@ pub fn fit(values: &[i64]) -> Fitted
     }
     Fitted::Line {
         midpoint: nearest_by_count(s.total, n),
-        slope: nearest_by_span(4 * s.moment, 10, n),
+        slope: nearest_by_span(4 * s.moment, PS, n),
     }
 }
 

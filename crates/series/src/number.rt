@@ -1,10 +1,21 @@
 // The nearest whole number to a fraction.
+use exact::STEPS;
 ghost use mathlib.Core.Path.{_≡_};
 ghost use Prim.Native.Nat.{_+_, _*_, _-_, _^_, _≤_, _<_};
 ghost use lib.Signed.{mag, shrZ};
 ghost use Rattle.whole.specs.Nearest.{nearest};
 ghost use Rattle.whole.specs.Words.{Within};
 ghost use Rattle.exact.specs.Corrected.{steps};
+
+// The steps of a picosecond, and of 0.1 ns, the unit of a midpoint and of DSG.
+pub const PS: u32 = STEPS as u32;
+
+pub const UNIT: u32 = 100 * PS;
+
+// What the sum of a full track's 52 values is divided by, and the n (n² - 1) of them: a quotient by a constant costs less.
+const FULL_UNIT: u32 = 52 * UNIT;
+
+const FULL_SPAN: u32 = 140556;
 
 // How far v lies from 0, or where it is below 0 from -1.
 fn folded(v: i64) -> u64
@@ -31,25 +42,24 @@ pub fn nearest(n: i64, d: u32) -> i64
     floor(n + (d / 2) as i64, d as u64)
 }
 
-// The nearest whole number to numerator / 1000n: a midpoint of n values in tenths. The divisor of a full track is written out, as below.
+// The nearest whole number to the n-th part of the numerator in units: a midpoint of n values in steps.
 pub fn nearest_by_count(numerator: i64, n: usize) -> i64
     requires { ⌜ Within (2 ^ 63 - 2 ^ 31) numerator × (2 ≤ n) × (n ≤ 52) ⌝ }
-    ensures { λ r. ⌜ r ≡ nearest numerator (1000 * n) ⌝ }
+    ensures { λ r. ⌜ r ≡ nearest numerator (100 * steps * n) ⌝ }
 {
     if n == 52 {
-        return nearest(numerator, 52000);
+        return nearest(numerator, FULL_UNIT);
     }
-    nearest(numerator, 1000 * n as u32)
+    nearest(numerator, UNIT * n as u32)
 }
 
-// The nearest whole number to numerator / (s n (n² - 1)), for values in steps of which a picosecond has s. A full track has 52
-// values: their n (n² - 1) is written out, as a quotient by a constant costs less.
+// The nearest whole number to numerator / (s n (n² - 1)), for values in steps of which a picosecond has s.
 pub fn nearest_by_span(numerator: i64, s: u32, n: usize) -> i64
     requires { ⌜ Within (2 ^ 63 - 2 ^ 31) numerator × (0 < s) × (s ≤ steps) × (2 ≤ n) × (n ≤ 52) ⌝ }
     ensures { λ r. ⌜ r ≡ nearest numerator (s * (n * (n * n - 1))) ⌝ }
 {
     if n == 52 {
-        return nearest(numerator, s * 140556);
+        return nearest(numerator, s * FULL_SPAN);
     }
     nearest(numerator, s * (n * (n * n - 1)) as u32)
 }

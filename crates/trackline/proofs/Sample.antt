@@ -10,7 +10,7 @@ use Rattle.whole.specs.Sum.{sum}
 use Rattle.whole.specs.Nearest.{nearest}
 use Rattle.whole.specs.Table.{tabulate}
 use Rattle.limits.specs.Refusal.{_when_, _then_}
-use Rattle.limits.specs.Limits.{outside, limitsRule, dsgRule}
+use Rattle.limits.specs.Limits.{outside, limitsNumber, dsgNumber}
 use Rattle.decode.proofs.Rows.{repeat, signeds-behind, signeds-repeat, signeds-zeros}
 use Rattle.decode.specs.Number.{little, unsignedAt, twosComplement, signedAt, signedsAt}
 use Rattle.exact.specs.Corrected.{Given, block, toA, toB}
@@ -22,8 +22,8 @@ use Rattle.series.specs.Fit.{total, moment, midpoint, slope}
 use Rattle.series.specs.Scatter.{residual, squares, threshold, climb, dsg}
 use Rattle.fit.specs.declared.TrackRecord.{TrackRecord}
 use Rattle.correcting.specs.Correct.{smoothedAt, valueA, valueB, valueC, valueD, places, given, wrongSizes, outOfLimits}
-use Rattle.fit.specs.Track.{numbersWith, recordOf, results, numbersRule, trackNumber}
-use Rattle.columns.specs.Text.{lineLength, lineText}
+use Rattle.fit.specs.Track.{numbersWith, recordOf, results, recordNumber, trackNumber}
+use Rattle.columns.specs.Text.{lineLength, lineText, lineEnd}
 use Rattle.line.specs.Line.{lineAnswer}
 use Rattle.hire.specs.Hire.{measurementsIn, blocksIn, sizesFit, blockLabels, givenIn, blockGiven}
 use Rattle.line.specs.Block.{blockNumbers, sizesNumber, blockAnswer}
@@ -74,8 +74,8 @@ sample-inside : (wrongSizes sampleTrack ≡ false) × (outOfLimits sampleTrack �
 unfolding blocksFit outside anyOutside wrongSizes outOfLimits
 sample-inside = (refl, refl)
 
-sample-record-accepted : numbersRule sampleRecord ≡ 0
-unfolding sum nearest place total moment midpoint slope residual squares threshold climb dsg recordOf numbersWith outside _when_ _then_ limitsRule dsgRule numbersRule
+sample-record-accepted : recordNumber sampleRecord ≡ 0
+unfolding sum nearest place total moment midpoint slope residual squares threshold climb dsg recordOf numbersWith outside _when_ _then_ limitsNumber dsgNumber recordNumber
 sample-record-accepted = refl
 
 sample-accepted-track : trackNumber sampleTrack ≡ 0
@@ -144,10 +144,10 @@ sample-answer =
 
 -- and the line is printed whole
 pub sample-printed : printed sampleBlock
-    ≡ bytesOf "G05 FF 50722 000200 0780 450 1800 +0000000010 +00000 +0000000010 +00000 0000 007 0000 +000 0000 +000 00 00 L1C 26" ++ (13 ∷ 10 ∷ [])
+    ≡ bytesOf "G05 FF 50722 000200 0780 450 1800 +0000000010 +00000 +0000000010 +00000 0000 007 0000 +000 0000 +000 00 00 L1C 26" ++ lineEnd
 unfolding printed
 sample-printed =
-    ap (λ (x : List ℕ). x ++ (13 ∷ 10 ∷ []))
+    ap (λ (x : List ℕ). x ++ lineEnd)
     (accepted-answer sampleBlock sample-answer
     ∙ ap₂ (λ (l : Labels) (n : Numbers). lineText l n) sample-labels sample-numbers-given
     ∙ sample)

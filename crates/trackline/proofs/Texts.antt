@@ -10,18 +10,19 @@ use lib.ListN.{length, take, drop, length-append, length-drop, drop-of-length-le
 use lib.Seq.{take-length, take-at}
 use lib.Dec.{lit≤}
 use borrow.Author.Tests.{lt-ltb, le-ltb, eq-eqb, ne-eqb}
+use Rattle.limits.proofs.Laws.{after-accepted}
 use Rattle.fields.specs.Text.{decimal}
-use Rattle.columns.specs.Text.{lineLength}
+use Rattle.columns.specs.Text.{lineLength, lineEnd}
 use Rattle.hire.specs.Hire.{blockLabels}
-use Rattle.line.specs.Block.{blockNumbers, blockLine, blockAnswer, blockAfter}
+use Rattle.line.specs.Block.{blockNumbers, blockLine, blockAnswer, blockAfter, blockNumber}
 use Rattle.columns.proofs.Widths.{line-width}
 use Rattle.trackline.specs.Printed.{refusal, answer, printed}
-use Rattle.trackline.specs.Buffer.{Text, Pushed}
+use Rattle.trackline.specs.Buffer.{Text, Pushed, outputLength}
 
 -- ---- texts
 
 -- a text copied to the front
-pub copied : (text out after : List ℕ) (n : ℕ) → n ≡ length text → length text ≤ 115 → length out ≡ 115
+pub copied : (text out after : List ℕ) (n : ℕ) → n ≡ length text → length text ≤ outputLength → length out ≡ outputLength
     → after ≡ take (length text) text ++ drop (length text) out → Text after n text
 copied text out after n e h l a =
     let is : after ≡ text ++ drop (length text) out = a ∙ ap (λ (x : List ℕ). x ++ drop (length text) out) (take-length text) in
@@ -67,33 +68,34 @@ refusal-length number = go (decLt number 10)
 
 -- ---- the answer
 
-pub refused-answer : (b : List ℕ) (number : ℕ) → number ≡ blockAnswer b lineLength → (number ≡ 0 → ⊥) → refusal number ≡ answer b
+pub refused-answer : (b : List ℕ) (number : ℕ) → number ≡ blockNumber b → (number ≡ 0 → ⊥) → refusal number ≡ answer b
 unfolding answer
 refused-answer b number e h = rw (← e, ne-eqb number 0 h)
 
-pub accepted-answer : (b : List ℕ) → blockAnswer b lineLength ≡ 0 → answer b ≡ blockLine b
+pub accepted-answer : (b : List ℕ) → blockNumber b ≡ 0 → answer b ≡ blockLine b
 unfolding answer
-accepted-answer b e = rw (eq-eqb (blockAnswer b lineLength) 0 e)
+accepted-answer b e = rw (eq-eqb (blockNumber b) 0 e)
 
 pub written-answer : (b lent after : List ℕ) → length lent ≡ lineLength → blockAnswer b (length lent) ≡ 0 → after ≡ blockAfter b lent
     → after ≡ answer b
 unfolding blockAfter
 written-answer b lent after l e a =
     a
-    ∙ rw (eq-eqb (blockAnswer b (length lent)) 0 e) (ap (λ (x : List ℕ). blockLine b ++ x) (drop-of-length-le lent (le-of-eq l)))
+    ∙ after-accepted (blockLine b ++ drop lineLength lent) lent e
+    ∙ ap (λ (x : List ℕ). blockLine b ++ x) (drop-of-length-le lent (le-of-eq l))
     ∙ append-nil (blockLine b)
     ∙ sym (accepted-answer b (ap (blockAnswer b) (sym l) ∙ e))
 
-pub answer-length : (b : List ℕ) → length (answer b) ≤ 113
-answer-length b = go (ℕ-discrete (blockAnswer b lineLength) 0)
+pub answer-length : (b : List ℕ) → length (answer b) ≤ lineLength
+answer-length b = go (ℕ-discrete (blockNumber b) 0)
   where
-    go : Dec (blockAnswer b lineLength ≡ 0) → length (answer b) ≤ 113
+    go : Dec (blockNumber b ≡ 0) → length (answer b) ≤ lineLength
     go (yes e) = omega (arith, ap length (accepted-answer b e) ∙ line-width (blockLabels b) (blockNumbers b))
     go (no h) =
-        omega (arith, ap length (refused-answer b (blockAnswer b lineLength) refl h), refusal-length (blockAnswer b lineLength))
+        omega (arith, ap length (refused-answer b (blockNumber b) refl h), refusal-length (blockNumber b))
 
 -- there is room for what is printed
-pub room : (b : List ℕ) {out : List ℕ} {end : ℕ} → Text out end (answer b) → end ≤ 113
+pub room : (b : List ℕ) {out : List ℕ} {end : ℕ} → Text out end (answer b) → end ≤ lineLength
 room b t = omega (arith, t .ends, answer-length b)
 
 pub printed-is : (b : List ℕ) → (answer b ++ 13 ∷ []) ++ 10 ∷ [] ≡ printed b
@@ -102,4 +104,4 @@ printed-is b = append-assoc (answer b) (13 ∷ []) (10 ∷ [])
 
 pub printed-room : (b : List ℕ) {out : List ℕ} {end : ℕ} → Text out end (printed b) → end ≤ length out
 unfolding printed
-printed-room b t = omega (arith, t .ends, t .long, answer-length b, length-append (answer b) (13 ∷ 10 ∷ []))
+printed-room b t = omega (arith, t .ends, t .long, answer-length b, length-append (answer b) lineEnd)

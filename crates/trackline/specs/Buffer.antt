@@ -2,14 +2,19 @@
 -- Assumes nothing.
 use mathlib.Core.Path.{_≡_}
 use mathlib.Core.List.{List, [], _∷_, _++_}
-use Prim.Native.Nat.{ℕ, suc}
+use Prim.Native.Nat.{ℕ, suc, _+_}
 use lib.ListN.{length, take}
+use Rattle.columns.specs.Text.{lineLength}
 
--- A text stands at the front of a buffer of 115 bytes: it ends at that place.
+-- The output buffer has room for a line, carriage return and line feed.
+abbrev pub outputLength : ℕ
+outputLength = lineLength + 2
+
+-- A text stands at its front: it ends at that place.
 pub record Text (out : List ℕ) (end : ℕ) (text : List ℕ) : Type 0 where
   pub is : take end out ≡ text
   pub ends : end ≡ length text
-  pub long : length out ≡ 115
+  pub long : length out ≡ outputLength
 
 -- One byte more behind what stands up to a place.
 pub record Pushed (before after : List ℕ) (at byte next : ℕ) : Type 0 where

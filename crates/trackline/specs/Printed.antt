@@ -6,8 +6,8 @@ use Prim.Native.Nat.{ℕ}
 use Prim.Native.Char.{code}
 use lib.Dec.{ltb, eqb}
 use Rattle.fields.specs.Text.{decimal}
-use Rattle.columns.specs.Text.{lineLength}
-use Rattle.line.specs.Block.{blockLine, blockAnswer}
+use Rattle.columns.specs.Text.{lineEnd}
+use Rattle.line.specs.Block.{blockLine, blockNumber}
 
 -- `refused`, a space, and the number in one digit or two.
 unfoldable pub refusal : ℕ → List ℕ
@@ -15,11 +15,11 @@ refusal number =
     (code "r" ∷ code "e" ∷ code "f" ∷ code "u" ∷ code "s" ∷ code "e" ∷ code "d" ∷ code " " ∷ [])
     ++ decimal (cond (ltb number 10) 1 2) number
 
--- The block's line where Block accepts it with room for a line, else the refusal.
+-- The block's line where Block accepts it, else the refusal.
 unfoldable pub answer : List ℕ → List ℕ
 answer b =
-    cond (eqb (blockAnswer b lineLength) 0) (blockLine b) (refusal (blockAnswer b lineLength))
+    cond (eqb (blockNumber b) 0) (blockLine b) (refusal (blockNumber b))
 
--- Either, ended by carriage return (13) and line feed (10).
+-- Either, with a line end behind it.
 unfoldable pub printed : List ℕ → List ℕ
-printed b = answer b ++ 13 ∷ 10 ∷ []
+printed b = answer b ++ lineEnd

@@ -5,7 +5,8 @@ ghost use mathlib.Core.Path.{_≡_};
 ghost use Prim.Native.Nat.{_+_, _≤_, _<_};
 ghost use lib.ListN.{length, take};
 ghost use Rattle.trackline.specs.Printed.{refusal, answer, printed};
-ghost use Rattle.trackline.specs.Buffer.{Text, Pushed};
+ghost use Rattle.trackline.specs.Buffer.{outputLength, Text, Pushed};
+use columns::LINE_LENGTH;
 use libc::STDIN_FILENO;
 use libc::STDOUT_FILENO;
 
@@ -13,7 +14,7 @@ use libc::STDOUT_FILENO;
 const INPUT: usize = 8379;
 
 // Room for a line, carriage return and line feed.
-const OUTPUT: usize = 115;
+const OUTPUT: usize = LINE_LENGTH + 2;
 
 // Puts one more byte and gives the place after it.
 fn push(out: &mut [u8], at: usize, byte: u8) -> usize
@@ -26,7 +27,7 @@ fn push(out: &mut [u8], at: usize, byte: u8) -> usize
 
 // `refused`, a space and the number, which has one or two digits.
 fn put_refusal(out: &mut [u8], number: u32) -> usize
-    requires { ⌜ length (now out) ≡ 115 ⌝ }
+    requires { ⌜ length (now out) ≡ outputLength ⌝ }
     ensures { λ r. ⌜ Text (now (out .exit)) r (refusal number) ⌝ }
 {
     let at = bytes::copy(b"refused ", out);
@@ -39,10 +40,10 @@ fn put_refusal(out: &mut [u8], number: u32) -> usize
 
 // The line of the block, or its refusal.
 fn put_answer(block: &[u8], out: &mut [u8]) -> usize
-    requires { ⌜ length (now out) ≡ 115 ⌝ }
+    requires { ⌜ length (now out) ≡ outputLength ⌝ }
     ensures { λ r. ⌜ Text (now (out .exit)) r (answer (now (block .entry))) ⌝ }
 {
-    let mut line = [0u8; 113];
+    let mut line = [0u8; LINE_LENGTH];
     let number = line::block(block, &mut line);
     if number != 0 {
         return put_refusal(out, number);
@@ -52,7 +53,7 @@ fn put_answer(block: &[u8], out: &mut [u8]) -> usize
 
 // All that is printed.
 fn put_reply(block: &[u8], out: &mut [u8]) -> usize
-    requires { ⌜ length (now out) ≡ 115 ⌝ }
+    requires { ⌜ length (now out) ≡ outputLength ⌝ }
     ensures { λ r. ⌜ Text (now (out .exit)) r (printed (now (block .entry))) ⌝ }
 {
     let at = put_answer(block, out);

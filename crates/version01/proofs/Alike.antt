@@ -1,34 +1,19 @@
 -- Two lines with the same columns 2 to 101 read alike, but for the labels in the other columns.
 -- Assumes nothing.
-use mathlib.Core.Path.{_≡_, refl, sym, ap, ap₂, _∙_}
+use mathlib.Core.Path.{_≡_, sym, ap, ap₂, _∙_}
 use mathlib.Core.Bool.{_||_}
-use mathlib.Core.List.{List, [], _∷_}
-use Prim.Native.Nat.{ℕ, zero, suc, _+_, _-_, _*_, _≤_, _<_}
+use mathlib.Core.List.{List}
+use Prim.Native.Nat.{ℕ, _+_, _-_, _*_, _≤_, _<_}
 use native.Mathlib.Omega.{arith}
 use lib.Dec.{T, leb, ltb, lit≤}
 use lib.IntN.{pos}
 use lib.ListN.{take, drop, getD}
-use lib.Seq.{take-take, drop-drop, getD-take, getD-drop}
+use lib.Seq.{drop-drop, getD-take, getD-drop}
+use Rattle.fields.proofs.Lists.{piece-of}
 use Rattle.fields.specs.Read.{readDecimal, readSigned, readHexadecimal}
 use Rattle.labels.specs.declared.Labels.{Labels}
 use Rattle.columns.specs.Columns.{byteIn, field, labelsWith, readNumbers}
-use Rattle.reading.specs.Read.{signedFields, isMinusZero, minusZero, clockBeyond, valuesNumber}
-
--- a part of the first bytes is a part of all
-pub within-first : (n w m : ℕ) (l : List ℕ) → n + w ≤ m → take w (drop n (take m l)) ≡ take w (drop n l)
-within-first zero w m l h = take-take w m l (less h)
-  where
-    less : 0 + w ≤ m → w ≤ m
-    less h = omega arith
-within-first (suc n) w zero l h = absurd (never h)
-  where
-    never : suc n + w ≤ 0 → ⊥
-    never h = omega arith
-within-first (suc n) w (suc m) [] h = refl
-within-first (suc n) w (suc m) (x ∷ l) h = within-first n w m l (less h)
-  where
-    less : suc n + w ≤ suc m → n + w ≤ m
-    less h = omega arith
+use Rattle.reading.specs.Read.{signedFields, isMinusZero, minusZero, timeBeyond, valuesNumber}
 
 module _ (a b : List ℕ) (alike : field 2 101 a ≡ field 2 101 b) where
   pub same-field : (first last : ℕ) → T (leb 2 first) → T (leb first last) → T (leb last 101) → field first last a ≡ field first last b
@@ -43,7 +28,7 @@ module _ (a b : List ℕ) (alike : field 2 101 a ≡ field 2 101 b) where
 
       inside : (t : List ℕ) → take (last + 1 - first) (drop (first - 2) (take 100 (drop 1 t))) ≡ take (last + 1 - first) (drop (first - 1) t)
       inside t =
-          within-first (first - 2) (last + 1 - first) 100 (drop 1 t) (fits first last (lit≤ f) (lit≤ o) (lit≤ l))
+          piece-of (first - 2) (last + 1 - first) 100 (drop 1 t) (fits first last (lit≤ f) (lit≤ o) (lit≤ l))
           ∙ ap (take (last + 1 - first)) (drop-drop (first - 2) 1 t ∙ ap (λ (n : ℕ). drop n t) (place first (lit≤ f)))
 
   pub same-byte : (column : ℕ) → T (leb 2 column) → T (leb column 101) → byteIn column a ≡ byteIn column b
@@ -113,13 +98,13 @@ module _ (a b : List ℕ) (alike : field 2 101 a ≡ field 2 101 b) where
         same-sign 97 100 tt tt tt tt,
       )
 
-  same-clock : clockBeyond a ≡ clockBeyond b
-  unfolding clockBeyond
-  same-clock =
+  same-time : timeBeyond a ≡ timeBeyond b
+  unfolding timeBeyond
+  same-time =
       λ i. ltb 23 (readDecimal (same-field 14 15 tt tt tt i))
       || ltb 59 (readDecimal (same-field 16 17 tt tt tt i))
       || ltb 59 (readDecimal (same-field 18 19 tt tt tt i))
 
   pub same-values : (l : Labels) → valuesNumber l (readNumbers a) a ≡ valuesNumber l (readNumbers b) b
   unfolding valuesNumber
-  same-values l = simp (same-minus, same-numbers, same-clock)
+  same-values l = simp (same-minus, same-numbers, same-time)

@@ -1,14 +1,13 @@
 -- The columns of either form, written one behind the other, and what an answer leaves in a lent line (specs/Convert.antt).
 -- Assumes nothing.
-use mathlib.Core.Path.{_≡_, refl, sym, ap, _∙_}
-use mathlib.Core.Bool.{Bool, cond}
+use mathlib.Core.Path.{_≡_, refl, ap, _∙_}
 use mathlib.Core.List.{List, [], _∷_, _++_}
 use Prim.Native.Nat.{ℕ, suc, _+_, _-_, _≤_}
 use native.Mathlib.Omega.{arith}
-use lib.Dec.{eqb, ltb}
+use lib.Dec.{ltb}
 use lib.ListN.{length, take, drop, length-append, length-drop}
 use lib.Seq.{length-take-le}
-use borrow.Author.Tests.{ltb-false, eq-eqb, ne-eqb}
+use borrow.Author.Tests.{ltb-false}
 use Rattle.limits.specs.Refusal.{_when_}
 use Rattle.limits.proofs.Laws.{when-zero}
 use Rattle.lent.specs.Placed.{placed, placedWithin}
@@ -68,14 +67,6 @@ module _ (first : ℕ) (line behind lent : List ℕ) (long : 101 ≤ length line
         put-behind lent columnsOf (hexadecimal sum) columns-length (omega (arith, length-hexadecimal sum)) e f
         ∙ ap (λ (n : ℕ). placed lent 0 (columnsOf ++ hexadecimal n)) (s ∙ ap checksum (ap (take (101 + length behind)) e ∙ placed-front lent columnsOf (101 + length behind) columns-length))
         ∙ placed-first lent (formText first line behind) form-length
-
--- ---- what an answer leaves
-
-pub kept : {answer : ℕ} (written lent : List ℕ) → (answer ≡ 0 → ⊥) → lent ≡ cond (eqb answer 0) written lent
-kept {answer} written lent h = sym (ap (λ (t : Bool). cond t written lent) (ne-eqb answer 0 h))
-
-pub given : {answer : ℕ} (written lent : List ℕ) → answer ≡ 0 → written ≡ cond (eqb answer 0) written lent
-given {answer} written lent e = sym (ap (λ (t : Bool). cond t written lent) (eq-eqb answer 0 e))
 
 -- there is room where the last test is passed
 pub room-enough : (room least : ℕ) → 9 when ltb room least ≡ 0 → least ≤ room

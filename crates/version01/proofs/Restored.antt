@@ -11,14 +11,15 @@ use lib.ListN.{length, take, drop, getD}
 use lib.Seq.{take-all, take-at, drop-at, drop-drop, drop-cons, getD-drop}
 use borrow.Author.Tests.{le-ltb, eqb-true, not-false}
 use Rattle.limits.specs.Refusal.{_when_, _then_}
-use Rattle.limits.proofs.Laws.{then-zero, then-passed, when-zero, both}
+use Rattle.limits.proofs.Laws.{then-zero, then-passed, when-zero, both, after-accepted}
 use Rattle.limits.specs.declared.Numbers.{Numbers}
+use Rattle.fields.proofs.Lists.{piece-of}
 use Rattle.fields.specs.Text.{bytesOf, decimal, signed, hexadecimal, checksum}
-use Rattle.fields.specs.Read.{readDecimal, digitsAfter}
+use Rattle.fields.specs.Read.{readDecimal, digitsFrom}
 use Rattle.fields.proofs.Laws.{read-decimal}
 use Rattle.labels.specs.declared.Labels.{Labels}
 use Rattle.labels.specs.Labels.{constellationFits, labelsFit}
-use Rattle.columns.specs.Text.{lineLength, clock, trackColumns, clockColumns, delayColumns, columns, spaced, withCheck, lineText}
+use Rattle.columns.specs.Text.{lineLength, timeOfDay, trackColumns, clockColumns, delayColumns, columns, spaced, withCheck, lineText}
 use Rattle.columns.specs.Columns.{byteIn, field, labelsWith, readLabels, readNumbers}
 use Rattle.characters.specs.Kinds.{kinds, oldKinds}
 use Rattle.characters.proofs.Allowed.{space-is, allowed-at}
@@ -30,14 +31,14 @@ use Rattle.reading.proofs.Refusals.{Valued, valued, accepted, reply-line}
 use Rattle.reading.proofs.AcceptedLine.{accepted-columns}
 use Rattle.reading.proofs.Writing.{code-fits}
 use Rattle.version01.specs.Convert.{oldLength, formText, downText, supplied, upText, downAnswer, downAfter, upAnswer, upAfter}
-use Rattle.version01.proofs.Forms.{shared-length, form-length, given}
-use Rattle.version01.proofs.Alike.{within-first, same-numbers, same-labels, same-values}
+use Rattle.version01.proofs.Forms.{shared-length, form-length}
+use Rattle.version01.proofs.Alike.{same-numbers, same-labels, same-values}
 use Rattle.version01.proofs.Characters.{old-spelled, supplied-length, our-spelled}
 
 -- the text of a line, as columns 2 to 101 and what stands around them
 text-form : (l : Labels) (n : Numbers)
     → lineText l n ≡ withCheck (l .constellation ∷ (field 2 101 (lineText l n) ++ spaced (decimal 2 (l .fr) ∷ decimal 2 (l .hc) ∷ (l .frc1 ∷ l .frc2 ∷ l .frc3 ∷ []) ∷ [])))
-unfolding lineText columns trackColumns clockColumns delayColumns spaced clock decimal signed hexadecimal field
+unfolding lineText columns trackColumns clockColumns delayColumns spaced timeOfDay decimal signed hexadecimal field
 text-form l n = refl
 
 -- columns 2 to 101 stay
@@ -52,7 +53,7 @@ labels-own line = refl
 
 shared-first : (line : List ℕ) → field 2 101 (take lineLength line) ≡ field 2 101 line
 unfolding field
-shared-first line = within-first 1 100 113 line (lit≤ tt)
+shared-first line = piece-of 1 100 113 line (lit≤ tt)
 
 gps-fits : (ioe fr : ℕ) → constellationFits 71 ioe fr ≡ leb ioe 255 && eqb fr 0
 unfolding constellationFits
@@ -156,7 +157,7 @@ module _ (hc frc1 frc2 frc3 : ℕ) (old : List ℕ) (e : oldNumber hc frc1 frc2 
   two-behind i = ap (take 2) (sym (drop-drop i 101 our) ∙ ap (drop i) behind)
 
   fr-there : readDecimal (field 102 103 our) ≡ 0
-  unfolding field supplied spaced decimal readDecimal digitsAfter
+  unfolding field supplied spaced decimal readDecimal digitsFrom
   fr-there = ap readDecimal (two-behind 0)
 
   hc-there : readDecimal (field 105 106 our) ≡ hc
@@ -219,14 +220,14 @@ module _ (hc frc1 frc2 frc3 : ℕ) (old : List ℕ) (e : oldNumber hc frc1 frc2 
 down-written : (line lent : List ℕ) → downAnswer line (length lent) ≡ 0 → 101 ≤ length line → take oldLength (downAfter line lent) ≡ downText line
 unfolding downAfter
 down-written line lent e long =
-    ap (take oldLength) (sym (given {answer = downAnswer line (length lent)} (downText line ++ drop oldLength lent) lent e))
+    ap (take oldLength) (after-accepted (downText line ++ drop oldLength lent) lent e)
     ∙ take-at (downText line) (drop oldLength lent) oldLength (form-length 32 line [] [] long)
 
 up-written : (hc frc1 frc2 frc3 : ℕ) (old lent : List ℕ) → upAnswer hc frc1 frc2 frc3 old (length lent) ≡ 0 → 101 ≤ length old
     → take lineLength (upAfter hc frc1 frc2 frc3 old lent) ≡ upText hc frc1 frc2 frc3 old
 unfolding upAfter supplied spaced decimal
 up-written hc frc1 frc2 frc3 old lent e long =
-    ap (take lineLength) (sym (given {answer = upAnswer hc frc1 frc2 frc3 old (length lent)} (upText hc frc1 frc2 frc3 old ++ drop lineLength lent) lent e))
+    ap (take lineLength) (after-accepted (upText hc frc1 frc2 frc3 old ++ drop lineLength lent) lent e)
     ∙ take-at (upText hc frc1 frc2 frc3 old) (drop lineLength lent) lineLength (form-length 71 old (supplied hc frc1 frc2 frc3) [] long)
 
 -- what an accepted line tells
@@ -246,14 +247,14 @@ up-goes : (hc frc1 frc2 frc3 : ℕ) (old room : List ℕ) → oldNumber hc frc1 
 unfolding upAfter upAnswer _when_ _then_
 up-goes hc frc1 frc2 frc3 old room e h =
     let z : upAnswer hc frc1 frc2 frc3 old (length room) ≡ 0 = simp (e, le-ltb (length room) lineLength h) in
-    (z, sym (given {answer = upAnswer hc frc1 frc2 frc3 old (length room)} _ room z))
+    (z, after-accepted _ room z)
 
 down-goes : (line room : List ℕ) → readNumber line ≡ 0 → byteIn 1 line ≡ 71 → oldLength ≤ length room
     → (downAnswer line (length room) ≡ 0) × (downAfter line room ≡ downText line ++ drop oldLength room)
 unfolding downAfter downAnswer _when_ _then_
 down-goes line room e g h =
     let z : downAnswer line (length room) ≡ 0 = simp (e, g, le-ltb (length room) oldLength h) in
-    (z, sym (given {answer = downAnswer line (length room)} _ room z))
+    (z, after-accepted _ room z)
 
 -- Down, and then up with the HC and FRC that were dropped, restores the 113 columns.
 pub down-then-up : (line lent room : List ℕ) → downAnswer line (length lent) ≡ 0 → lineLength ≤ length room

@@ -3,11 +3,11 @@
 -- Assumes nothing.
 use Prim.Native.Nat.{ℕ}
 use Prim.Native.Char.{code}
-use mathlib.Core.Bool.{cond, not}
+use mathlib.Core.Bool.{not}
 use mathlib.Core.List.{List, [], _∷_, _++_}
 use lib.ListN.{length, drop}
 use lib.Dec.{ltb, eqb}
-use Rattle.limits.specs.Refusal.{_when_, _then_}
+use Rattle.limits.specs.Refusal.{_when_, _then_, after}
 use Rattle.fields.specs.Text.{decimal}
 use Rattle.columns.specs.Text.{lineLength, spaced, withCheck}
 use Rattle.columns.specs.Columns.{byteIn, field}
@@ -43,7 +43,7 @@ downAnswer line room =
 
 -- The lent line afterwards: 103 bytes are written where the answer is 0, and else none.
 unfoldable pub downAfter : (line lent : List ℕ) → List ℕ
-downAfter line lent = cond (eqb (downAnswer line (length lent)) 0) (downText line ++ drop oldLength lent) lent
+downAfter line lent = after (downAnswer line (length lent)) (downText line ++ drop oldLength lent) lent
 
 -- Up. What an old line with this HC and FRC is refused for, then 9: the lent line is too short.
 unfoldable pub upAnswer : (hc frc1 frc2 frc3 : ℕ) (old : List ℕ) (room : ℕ) → ℕ
@@ -52,4 +52,4 @@ upAnswer hc frc1 frc2 frc3 old room = oldNumber hc frc1 frc2 frc3 old then 9 whe
 -- The lent line afterwards: 113 bytes are written where the answer is 0, and else none.
 unfoldable pub upAfter : (hc frc1 frc2 frc3 : ℕ) (old lent : List ℕ) → List ℕ
 upAfter hc frc1 frc2 frc3 old lent =
-    cond (eqb (upAnswer hc frc1 frc2 frc3 old (length lent)) 0) (upText hc frc1 frc2 frc3 old ++ drop lineLength lent) lent
+    after (upAnswer hc frc1 frc2 frc3 old (length lent)) (upText hc frc1 frc2 frc3 old ++ drop lineLength lent) lent

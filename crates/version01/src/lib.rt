@@ -6,12 +6,11 @@ ghost use mathlib.Core.List.{_++_};
 ghost use Prim.Native.Nat.{_+_, _≤_};
 ghost use lib.ListN.{length, drop};
 ghost use Rattle.version01.specs.Convert.{formText, downAnswer, downAfter, upAnswer, upAfter};
+use columns::LINE_LENGTH;
 use lent::put;
 use limits::then;
 use limits::when;
 use reading::Reading;
-
-const LINE_LENGTH: usize = 113;
 
 const OLD_LENGTH: usize = 103;
 

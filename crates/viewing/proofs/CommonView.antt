@@ -2,34 +2,26 @@
 -- has all differences 0; the smallest and the largest are differences that bound all others and, as often as there are pairs, the sum.
 -- Assumes nothing.
 use mathlib.Core.Path.{_≡_, refl, sym, ap, ap₂, _∙_}
-use mathlib.Core.Bool.{Bool, true, false, _||_, or-comm}
+use mathlib.Core.Bool.{Bool, or-comm, or-self}
 use mathlib.Core.List.{List, [], _∷_, map}
 use Prim.Native.Nat.{ℕ, zero, suc, _≤_}
 use native.Mathlib.Nat.{suc-ne-zero}
 use lib.Dec.{ltb, eqb}
 use lib.IntN.{ℤ, pos, negℤ, _+ℤ_, _*ℤ_}
 use lib.Signed.{_≤ℤ_}
-use lib.ListN.{length, replicate, length-replicate}
+use lib.ListN.{length, replicate, length-replicate, length-map}
 use Rattle.limits.specs.Refusal.{_when_, _then_}
 use Rattle.limits.specs.Reply.{reply}
 use Rattle.limits.proofs.Laws.{then-passed}
 use Rattle.viewing.specs.declared.Figures.{Figures}
 use Rattle.linefile.specs.Files.{lines, fileNumber}
 use Rattle.linefile.specs.Partners.{partners}
-use Rattle.viewing.specs.View.{sameTrkl, pairsOf, differences, viewed, total, smaller, larger, chosen, extreme, figures, longest, viewNumber, viewRule}
+use Rattle.viewing.specs.View.{sameTrkl, pairsOf, differences, viewed, sumOf, smaller, larger, chosen, extreme, figures, longest, viewNumber, viewRule}
 use Rattle.linefile.proofs.Lines.{line-file}
 use Rattle.linefile.proofs.Ascending.{All}
 use Rattle.linefile.proofs.Holding.{times}
 use Rattle.viewing.proofs.Extremes.{Among, smallest-is, largest-is, smallest-sum, largest-sum, total-turned, smallest-turned, largest-turned}
 use Rattle.viewing.proofs.Pairing.{exchanged, partners-exchanged, trkl-exchanged, differences-exchanged, partners-itself, differences-itself, firsts, seconds, firsts-once, seconds-once}
-
-length-map : {A B : Type 0} (f : A → B) (l : List A) → length (map f l) ≡ length l
-length-map f [] = refl
-length-map f (a ∷ l) = ap suc (length-map f l)
-
-or-self : (b : Bool) → b || b ≡ b
-or-self true = refl
-or-self false = refl
 
 -- ---- the figures of any differences
 
@@ -72,8 +64,8 @@ figures-turned : (ds es : List ℤ) → es ≡ map negℤ ds → Turned (figures
 unfolding figures
 figures-turned ds es e =
     record {
-      pairs = ap (λ (l : List ℤ). pos (length l)) e ∙ ap pos (length-map negℤ ds);
-      sum = ap total e ∙ total-turned ds;
+      pairs = ap (λ (l : List ℤ). pos (length l)) e ∙ ap pos (length-map ds negℤ);
+      sum = ap sumOf e ∙ total-turned ds;
       smallest = ap (extreme smaller) e ∙ smallest-turned ds;
       largest = ap (extreme larger) e ∙ largest-turned ds;
     }
@@ -103,7 +95,7 @@ module _ (first second : List ℕ) (f : fileNumber first ≡ 0) (g : fileNumber 
       λ i. 19 when or-comm (ltb longest (length second)) (ltb longest (length first)) i
       then (g ∙ sym f) i
       then (f ∙ sym g) i
-      then 18 when eqb ((ap length viewed-exchanged ∙ length-map negℤ (viewed first second)) i) 0
+      then 18 when eqb ((ap length viewed-exchanged ∙ length-map (viewed first second) negℤ) i) 0
 
   pub report-exchanged : Turned (viewRule first second .values) (viewRule second first .values)
   unfolding viewRule
@@ -118,13 +110,13 @@ module _ (first second : List ℕ) (f : fileNumber first ≡ 0) (g : fileNumber 
 
 -- ---- a file with itself
 
-zeros : (n : ℕ) → (total (replicate n (pos 0)) ≡ pos 0) × (chosen smaller (pos 0) (replicate n (pos 0)) ≡ pos 0) × (chosen larger (pos 0) (replicate n (pos 0)) ≡ pos 0)
-unfolding total chosen smaller larger
+zeros : (n : ℕ) → (sumOf (replicate n (pos 0)) ≡ pos 0) × (chosen smaller (pos 0) (replicate n (pos 0)) ≡ pos 0) × (chosen larger (pos 0) (replicate n (pos 0)) ≡ pos 0)
+unfolding sumOf chosen smaller larger
 zeros zero = (refl, refl, refl)
 zeros (suc n) = let z = zeros n in (ap (λ (s : ℤ). pos 0 +ℤ s) (z .0), z .1, z .2)
 
 figures-zero : (n : ℕ) → figures (replicate n (pos 0)) ≡ record { pairs = pos n; sum = pos 0; smallest = pos 0; largest = pos 0 }
-unfolding figures total extreme
+unfolding figures sumOf extreme
 figures-zero zero = refl
 figures-zero (suc n) =
     let l = ap (λ (k : ℕ). pos (suc k)) (length-replicate n (pos 0)) in

@@ -15,7 +15,7 @@ use lib.ListN.{length}
 use Rattle.whole.specs.Order.{le-refl, le-trans, le-of-lt, add-le}
 use Rattle.whole.specs.Identity.{identity, quote}
 use Rattle.whole.specs.Linear.{le-by, le-is}
-use Rattle.viewing.specs.View.{total, smaller, larger, chosen, extreme}
+use Rattle.viewing.specs.View.{sumOf, smaller, larger, chosen, extreme}
 use Rattle.linefile.proofs.Ascending.{All}
 
 -- A number is one of these.
@@ -50,14 +50,14 @@ module _ (choose : ℤ → ℤ → ℤ) (R : ℤ → ℤ → Type 0) (same : (d 
   extreme-is d ds = (chosen-among d ds, chosen-first d ds)
 
   module _ (add : (x y u v : ℤ) → R x y → R u v → R (x +ℤ u) (y +ℤ v)) where
-    sum-before : (b : ℤ) (ds : List ℤ) → All (R b) ds → R (b *ℤ pos (length ds)) (total ds)
-    unfolding total
+    sum-before : (b : ℤ) (ds : List ℤ) → All (R b) ds → R (b *ℤ pos (length ds)) (sumOf ds)
+    unfolding sumOf
     sum-before b [] a = subst (λ (z : ℤ). R z (pos 0)) (sym (none b)) (same (pos 0))
       where
         none : (b : ℤ) → b *ℤ pos 0 ≡ pos 0
         none b = identity (b ∷ []) (search quote depth 20) tt
     sum-before b (d ∷ ds) a =
-        subst (λ (z : ℤ). R z (d +ℤ total ds)) (sym (one-more b (length ds))) (add _ _ _ _ (a .0) (sum-before b ds (a .1)))
+        subst (λ (z : ℤ). R z (d +ℤ sumOf ds)) (sym (one-more b (length ds))) (add _ _ _ _ (a .0) (sum-before b ds (a .1)))
       where
         spread : (b n : ℤ) → b *ℤ (pos 1 +ℤ n) ≡ b +ℤ b *ℤ n
         spread b n = identity (b ∷ n ∷ []) (search quote depth 20) tt
@@ -65,8 +65,8 @@ module _ (choose : ℤ → ℤ → ℤ) (R : ℤ → ℤ → Type 0) (same : (d 
         one-more : (b : ℤ) (n : ℕ) → b *ℤ pos (suc n) ≡ b +ℤ b *ℤ pos n
         one-more b n = ap (λ (z : ℤ). b *ℤ z) (sym (pos-+ℤ-pos 1 n ∙ ap pos (one-add n))) ∙ spread b (pos n)
 
-    pub extreme-sum : (ds : List ℤ) → R (extreme choose ds *ℤ pos (length ds)) (total ds)
-    unfolding total extreme
+    pub extreme-sum : (ds : List ℤ) → R (extreme choose ds *ℤ pos (length ds)) (sumOf ds)
+    unfolding sumOf extreme
     extreme-sum [] = same (pos 0)
     extreme-sum (d ∷ ds) = sum-before (extreme choose (d ∷ ds)) (d ∷ ds) (extreme-is d ds .1)
 
@@ -121,7 +121,7 @@ largest-is =
     (by-test-one After le-refl ltZ (λ d e t. le-of-lt (less d e t)) not-less)
 
 -- the sum lies between as many times the smallest and as many times the largest
-pub smallest-sum : (ds : List ℤ) → (extreme smaller ds *ℤ pos (length ds)) ≤ℤ total ds
+pub smallest-sum : (ds : List ℤ) → (extreme smaller ds *ℤ pos (length ds)) ≤ℤ sumOf ds
 unfolding smaller
 smallest-sum =
     extreme-sum smaller _≤ℤ_ le-refl (λ x y z p q. le-trans p q)
@@ -130,7 +130,7 @@ smallest-sum =
     (by-test-one _≤ℤ_ le-refl (λ d e. ltZ e d) (λ d e t. le-of-lt (less e d t)) (λ d e t. not-less e d t))
     (λ x y u v p q. add-le p q)
 
-pub largest-sum : (ds : List ℤ) → total ds ≤ℤ (extreme larger ds *ℤ pos (length ds))
+pub largest-sum : (ds : List ℤ) → sumOf ds ≤ℤ (extreme larger ds *ℤ pos (length ds))
 unfolding larger
 largest-sum =
     extreme-sum larger After le-refl (λ x y z p q. le-trans q p)
@@ -156,10 +156,10 @@ less-turned d e = by-tests (ltZ (negℤ d) (negℤ e)) (ltZ e d) refl refl
     by-tests true false p q = clashℤ (less (negℤ d) (negℤ e) p) (back (not-less e d q))
     by-tests false true p q = clashℤ (less e d q) (forth (not-less (negℤ d) (negℤ e) p))
 
-pub total-turned : (ds : List ℤ) → total (map negℤ ds) ≡ negℤ (total ds)
-unfolding total
+pub total-turned : (ds : List ℤ) → sumOf (map negℤ ds) ≡ negℤ (sumOf ds)
+unfolding sumOf
 total-turned [] = refl
-total-turned (d ∷ ds) = ap (λ (z : ℤ). negℤ d +ℤ z) (total-turned ds) ∙ both d (total ds)
+total-turned (d ∷ ds) = ap (λ (z : ℤ). negℤ d +ℤ z) (total-turned ds) ∙ both d (sumOf ds)
   where
     both : (x y : ℤ) → negℤ x +ℤ negℤ y ≡ negℤ (x +ℤ y)
     both x y = identity (x ∷ y ∷ []) (search quote depth 20) tt

@@ -16,7 +16,7 @@ use Rattle.whole.specs.Magnitude.{natAbs-add, natAbs-neg}
 use Rattle.viewing.specs.declared.Figures.{Figures}
 use Rattle.linefile.specs.declared.Next.{Next}
 use Rattle.linefile.specs.Partners.{partners}
-use Rattle.viewing.specs.View.{trklOf, refsysOf, sameTrkl, differences, total, smaller, larger, chosen, extreme, figures}
+use Rattle.viewing.specs.View.{trklOf, refsysOf, sameTrkl, differences, sumOf, smaller, larger, chosen, extreme, figures}
 use Rattle.viewing.specs.Gather.{counted, widest, Bounded}
 use Rattle.linefile.proofs.Ascending.{Accepted}
 use Rattle.viewing.proofs.Values.{refsys-bound}
@@ -24,14 +24,14 @@ use Rattle.linefile.proofs.Steps.{Stepped, end-pairs}
 
 -- ---- one difference more
 
-pub total-append : (ds es : List ℤ) → total (ds ++ es) ≡ total ds +ℤ total es
-unfolding total
-total-append [] es = sym (+ℤ-idl (total es))
-total-append (d ∷ ds) es = ap (λ (z : ℤ). d +ℤ z) (total-append ds es) ∙ sym (+ℤ-assoc d (total ds) (total es))
+pub total-append : (ds es : List ℤ) → sumOf (ds ++ es) ≡ sumOf ds +ℤ sumOf es
+unfolding sumOf
+total-append [] es = sym (+ℤ-idl (sumOf es))
+total-append (d ∷ ds) es = ap (λ (z : ℤ). d +ℤ z) (total-append ds es) ∙ sym (+ℤ-assoc d (sumOf ds) (sumOf es))
 
-total-one : (ds : List ℤ) (d : ℤ) → total ds +ℤ d ≡ total (ds ++ d ∷ [])
-unfolding total
-total-one ds d = ap (λ (z : ℤ). total ds +ℤ z) (sym (+ℤ-idr d)) ∙ sym (total-append ds (d ∷ []))
+total-one : (ds : List ℤ) (d : ℤ) → sumOf ds +ℤ d ≡ sumOf (ds ++ d ∷ [])
+unfolding sumOf
+total-one ds d = ap (λ (z : ℤ). sumOf ds +ℤ z) (sym (+ℤ-idr d)) ∙ sym (total-append ds (d ∷ []))
 
 chosen-one : (choose : ℤ → ℤ → ℤ) (d : ℤ) (ds : List ℤ) (e : ℤ) → chosen choose d (ds ++ e ∷ []) ≡ choose (chosen choose d ds) e
 unfolding chosen
@@ -100,7 +100,7 @@ pub record Gathered (all left : List ℤ) (f : Figures) : Type 0 where
   pub is : f ≡ figures seen
 
 pub nothing-gathered : (all : List ℤ) → Gathered all all (record { pairs = pos 0; sum = pos 0; smallest = pos 0; largest = pos 0 })
-unfolding figures total extreme
+unfolding figures sumOf extreme
 nothing-gathered all = record { seen = []; whole = refl; is = refl }
 
 pub all-gathered : {all left : List ℤ} {f : Figures} → left ≡ [] → Gathered all left f → f ≡ figures all

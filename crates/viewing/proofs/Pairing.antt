@@ -1,4 +1,4 @@
--- The pairs of two files (specs/View.antt): whichever file is the first, those of a file with itself, and that no line is in two of them.
+-- The pairs of two files (specs/View.antt): those of two lists behind each other, whichever file is the first, those of a file with itself, and that no line is in two of them.
 -- Assumes nothing.
 use mathlib.Core.Path.{_≡_, refl, sym, ap, ap₂, subst, _∙_}
 use mathlib.Core.Bool.{Bool, true, false, cond}
@@ -18,6 +18,18 @@ use Rattle.linefile.proofs.Keys.{same-refl, Order, below, level, above, order}
 use Rattle.linefile.proofs.Ascending.{Ascending, all-behind}
 use Rattle.linefile.proofs.Partners.{partners-none, partners-nothing, below-partners, above-partners, level-partners}
 use Rattle.linefile.proofs.Holding.{holds, times, ascending-once}
+
+-- ---- some pairs and more
+
+pub view-append : (ps qs : List (List ℕ × List ℕ)) → differences (sameTrkl (ps ++ qs)) ≡ differences (sameTrkl ps) ++ differences (sameTrkl qs)
+unfolding sameTrkl differences
+view-append [] qs = refl
+view-append ((x, y) ∷ ps) qs = by-test (eqb (trklOf x) (trklOf y)) (view-append ps qs)
+  where
+    by-test : (b : Bool) → differences (sameTrkl (ps ++ qs)) ≡ differences (sameTrkl ps) ++ differences (sameTrkl qs)
+        → differences (cond b ((x, y) ∷ []) [] ++ sameTrkl (ps ++ qs)) ≡ differences (cond b ((x, y) ∷ []) [] ++ sameTrkl ps) ++ differences (sameTrkl qs)
+    by-test true h = ap (λ (t : List ℤ). (refsysOf x -ℤ refsysOf y) ∷ t) h
+    by-test false h = h
 
 -- ---- whichever is the first
 

@@ -18,7 +18,11 @@ counted f d =
 
 -- The largest magnitude of a difference of two REFSYS.
 abbrev pub widest : ℕ
-widest = 19999999998
+widest = 2 * 9999999999
+
+-- The lines of two files, 10000 each at most: no walk over them has more steps.
+abbrev pub mostLines : ℕ
+mostLines = 2 * 10000
 
 -- The report of so many pairs at most.
 pub record Bounded (most : ℕ) (f : Figures) : Type 0 where

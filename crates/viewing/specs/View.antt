@@ -1,7 +1,7 @@
 -- The common view report (document 02, Job 6): which lines of two files are a pair, what is reported of the pairs, and what is refused, for every
 -- input.
 -- Assumes nothing.
-use Prim.Native.Nat.{ℕ}
+use Prim.Native.Nat.{ℕ, _*_}
 use mathlib.Core.Bool.{cond, _||_}
 use mathlib.Core.List.{List, [], _∷_, _++_}
 use lib.Dec.{ltb, eqb}
@@ -11,7 +11,7 @@ use lib.ListN.{length}
 use Rattle.limits.specs.Refusal.{_when_, _then_}
 use Rattle.limits.specs.Reply.{Reply, reply}
 use Rattle.columns.specs.Columns.{readNumbers}
-use Rattle.linefile.specs.Files.{columnsOf, lines, fileNumber}
+use Rattle.linefile.specs.Files.{endedLength, columnsOf, lines, fileNumber}
 use Rattle.linefile.specs.Partners.{partners}
 use Rattle.viewing.specs.declared.Figures.{Figures}
 
@@ -42,9 +42,9 @@ unfoldable pub viewed : (first second : List ℕ) → List ℤ
 viewed first second = differences (pairsOf first second)
 
 -- Their sum.
-unfoldable pub total : List ℤ → ℤ
-total [] = pos 0
-total (d ∷ rest) = d +ℤ total rest
+unfoldable pub sumOf : List ℤ → ℤ
+sumOf [] = pos 0
+sumOf (d ∷ rest) = d +ℤ sumOf rest
 
 -- The smaller and the larger of two.
 unfoldable pub smaller : ℤ → ℤ → ℤ
@@ -65,11 +65,11 @@ extreme choose (d ∷ rest) = chosen choose d rest
 -- What is reported of differences: how many there are, their sum, the smallest and the largest.
 unfoldable pub figures : List ℤ → Figures
 figures ds =
-    record { pairs = pos (length ds); sum = total ds; smallest = extreme smaller ds; largest = extreme larger ds }
+    record { pairs = pos (length ds); sum = sumOf ds; smallest = extreme smaller ds; largest = extreme larger ds }
 
 -- The bytes of 10000 lines, which a file has at most.
 abbrev pub longest : ℕ
-longest = 1150000
+longest = 10000 * endedLength
 
 -- 19: either file is longer than that. Then the first file's refusals, then the second's. 18: there is no pair, and so no difference.
 unfoldable pub viewNumber : (first second : List ℕ) → ℕ

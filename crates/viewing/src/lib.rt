@@ -3,11 +3,12 @@
 ghost use mathlib.Core.Path.{_≡_};
 ghost use Rattle.viewing.specs.View.{viewRule};
 ghost use Rattle.viewing.specs.Answers.{viewReply, viewNumbered};
+use linefile::LINE;
 
 mod pairs;
 
 // The bytes of 10000 lines.
-const LONGEST: usize = 1150000;
+const LONGEST: usize = 10000 * LINE;
 
 // How many pairs there are, the sum of their differences, the smallest and the largest, in 0.1 ns.
 pub struct Figures {

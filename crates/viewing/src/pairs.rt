@@ -7,18 +7,17 @@ ghost use lib.IntN.{pos, natAbs, _-ℤ_};
 ghost use lib.ListN.{length};
 ghost use Rattle.fields.specs.Read.{readDecimal};
 ghost use Rattle.columns.specs.Columns.{field};
-ghost use Rattle.linefile.specs.Files.{columnsOf, lineNumber, fileNumber};
+ghost use Rattle.linefile.specs.Files.{columnsOf, endedNumber, fileNumber};
 ghost use Rattle.viewing.specs.View.{trklOf, refsysOf, figures, viewed, longest};
-ghost use Rattle.viewing.specs.Gather.{counted, widest, Bounded};
+ghost use Rattle.viewing.specs.Gather.{counted, widest, mostLines, Bounded};
 use super::Figures;
+use fields::two_digits;
+use linefile::LINE;
 use linefile::step;
-use linefile::two_digits;
-
-const LINE: usize = 115;
 
 // TRKL of an accepted line, as its digits stand: 48 · 1111 more than it.
 fn trkl(line: &[u8]) -> u64
-    requires { ⌜ lineNumber (now line) ≡ 0 ⌝ }
+    requires { ⌜ endedNumber (now line) ≡ 0 ⌝ }
     ensures { λ r. ⌜ r ≡ trklOf (now (line .entry)) + 53328 ⌝ }
 {
     100 * two_digits(line, 20) + two_digits(line, 22)
@@ -26,7 +25,7 @@ fn trkl(line: &[u8]) -> u64
 
 // The magnitude of an accepted line's REFSYS. Its ten digits as they stand are 48 · 1111111111 more.
 fn refsys_size(line: &[u8]) -> i64
-    requires { ⌜ lineNumber (now line) ≡ 0 ⌝ }
+    requires { ⌜ endedNumber (now line) ≡ 0 ⌝ }
     ensures { λ r. ⌜ r ≡ pos (readDecimal (field 55 64 (columnsOf (now (line .entry))))) ⌝ }
 {
     let high = 1000000 * two_digits(line, 54)
@@ -38,7 +37,7 @@ fn refsys_size(line: &[u8]) -> i64
 
 // REFSYS of an accepted line.
 fn refsys(line: &[u8]) -> i64
-    requires { ⌜ lineNumber (now line) ≡ 0 ⌝ }
+    requires { ⌜ endedNumber (now line) ≡ 0 ⌝ }
     ensures { λ r. ⌜ r ≡ refsysOf (now (line .entry)) ⌝ }
 {
     let size = refsys_size(line);
@@ -57,7 +56,7 @@ fn choose(new: bool, d: i64, e: i64) -> i64
 
 // One difference more.
 fn count(figures: Figures, difference: i64) -> Figures
-    requires { ⌜ Bounded 20000 figures ⌝ }
+    requires { ⌜ Bounded mostLines figures ⌝ }
     requires { ⌜ natAbs difference ≤ widest ⌝ }
     ensures { λ r. ⌜ r ≡ counted figures difference ⌝ }
 {
@@ -80,9 +79,9 @@ fn count(figures: Figures, difference: i64) -> Figures
 
 // The difference of two lines is counted where they are a pair. `level` tells whether they have the same keys.
 fn count_pair(figures: Figures, line: &[u8], other: &[u8], level: bool) -> Figures
-    requires { ⌜ Bounded 20000 figures ⌝ }
-    requires { ⌜ lineNumber (now line) ≡ 0 ⌝ }
-    requires { ⌜ lineNumber (now other) ≡ 0 ⌝ }
+    requires { ⌜ Bounded mostLines figures ⌝ }
+    requires { ⌜ endedNumber (now line) ≡ 0 ⌝ }
+    requires { ⌜ endedNumber (now other) ≡ 0 ⌝ }
     ensures { λ r. ⌜ r ≡ cond (level && eqb (trklOf (now (line .entry))) (trklOf (now (other .entry))))
         (counted figures (refsysOf (now (line .entry)) -ℤ refsysOf (now (other .entry)))) figures ⌝ }
 {

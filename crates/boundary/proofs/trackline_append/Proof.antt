@@ -1,7 +1,6 @@
 -- `boundary::trackline_append` meets its contract: the case of the answer tells whether the place is written.
 -- Assumes nothing.
 use Rattle.boundary.proofs.Rows.{place-kept}
-use Rattle.boundary.specs.Values.{placeAfter}
 use Rattle.delays.proofs.Answers.{append-refused-case, append-bytes-case}
 use Rattle.delays.specs.Append.{appendRule, appendAfter}
 use Rattle.delays.specs.Answers.{appendReply}
@@ -66,7 +65,6 @@ same-length-2 : tie.Need-same-length-2
 same-length-2 c = search needs
 
 returns-2 : tie.Need-returns-2
-unfolding placeAfter
 returns-2 c = let e = c .before .appended .given .1 in
     let p = c .before .before .before .before .before in
     let a = p .before .before .before .before .args in

@@ -7,7 +7,7 @@ use lib.ListN.{length}
 use Rattle.day.specs.Day.{dayFile}
 use Rattle.day.specs.Answers.{writtenNumber, writtenBytes}
 use Rattle.day.proofs.Answers.{answer-number, answer-bytes, refused-case}
-use Rattle.boundary.specs.Values.{placeAfter, placeRefused}
+use Rattle.boundary.specs.Values.{refusedAfter}
 use Rattle.boundary.proofs.Rows.{place-kept, place-named}
 use borrow.Author.Needs.{needs}
 use Rattle.boundary.proofs.trackline_day.Statement.{statement}
@@ -62,7 +62,7 @@ same-length-2 : tie.Need-same-length-2
 same-length-2 c = search needs
 
 returns-2 : tie.Need-returns-2
-unfolding placeAfter placeRefused
+unfolding refusedAfter
 returns-2 c =
     let told = c .before in
     let d = told .before .before .before .before in

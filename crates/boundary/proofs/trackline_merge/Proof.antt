@@ -7,7 +7,6 @@ use Rattle.merging.specs.declared.Merged.{Merged}
 use Rattle.merging.specs.Answers.{mergeReply}
 use Rattle.merging.specs.Merge.{mergedFile}
 use Rattle.merging.proofs.Answers.{accepted-case, refused-case}
-use Rattle.boundary.specs.Values.{placeAfter}
 use Rattle.boundary.proofs.Rows.{place-kept}
 use borrow.Author.Needs.{needs}
 use Rattle.boundary.proofs.trackline_merge.Statement.{statement}
@@ -47,7 +46,6 @@ same-length-2 : tie.Need-same-length-2
 same-length-2 c = search needs
 
 returns-2 : tie.Need-returns-2
-unfolding placeAfter
 returns-2 c =
     let told = c .before in
     let m = told .before .before .before .before in

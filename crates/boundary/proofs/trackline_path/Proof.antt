@@ -7,7 +7,6 @@ use Rattle.path.specs.declared.Measured.{Measured}
 use Rattle.path.specs.Path.{lengthOf}
 use Rattle.path.specs.Answers.{measuredReply}
 use Rattle.path.proofs.Answers.{length-case, refused-case}
-use Rattle.boundary.specs.Values.{placeAfter}
 use Rattle.boundary.proofs.Rows.{place-kept}
 use borrow.Author.Needs.{needs}
 use Rattle.boundary.proofs.trackline_path.Statement.{statement}
@@ -43,7 +42,6 @@ returns c =
     (n ∙ r .0, place-kept (c .measured-number .result) (lengthOf (satellite b) (antenna b)) (b .args .length .now) (omega (arith, n, r .1)))
 
 returns-2 : tie.Need-returns-2
-unfolding placeAfter
 returns-2 c =
     let told = c .before in
     let m = told .before .before in

@@ -3,10 +3,10 @@
 use mathlib.Core.Bool.{false, _||_}
 use mathlib.Core.List.{List}
 use mathlib.Core.Path.{_≡_, refl, sym, ap, ap₂, _∙_, subst}
-use Prim.Native.Nat.{ℕ, _^_}
+use Prim.Native.Nat.{ℕ}
 use lib.IntN.{ℤ}
 use mir.Facts.{toZ-ofZ}
-use Rattle.limits.specs.Limits.{beyond}
+use Rattle.limits.specs.Limits.{beyond, delayLimit}
 use Rattle.exact.specs.Corrected.{Given}
 use Rattle.correcting.specs.Correct.{given, wrongSizes, valueA, valueB, valueC, valueD}
 use Rattle.correcting.specs.Answer.{othersBeyond, filled, wholeBlocks, correctedBlocks}
@@ -36,7 +36,7 @@ sizes-fit c = sym (sizes-are (c .before)) ∙ c .if1 .left
 delays-are : (c : tie.After-delays-beyond)
     → let a = c .before .before .before .before .args in
     c .delays-beyond .result
-    ≡ beyond (10 ^ 10) (a .int) || beyond (10 ^ 10) (a .cab) || beyond (10 ^ 10) (a .refdly) || beyond (10 ^ 10) (a .gd)
+    ≡ beyond delayLimit (a .int) || beyond delayLimit (a .cab) || beyond delayLimit (a .refdly) || beyond delayLimit (a .gd)
 delays-are c =
     let f = c .before .before .before .before .fits in
     simp (toZ-ofZ (f .int), toZ-ofZ (f .cab), toZ-ofZ (f .refdly), toZ-ofZ (f .gd)) at (c .delays-beyond .ensures)

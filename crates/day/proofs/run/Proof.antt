@@ -24,7 +24,7 @@ known c =
       cache = _;
       at = s .start .ensures .0;
       count = s .start .ensures .1;
-      number = s .start .ensures .2;
+      refusal = s .start .ensures .2;
       wrote = w .write .ensures .0;
       verdict = c .judge .ensures;
     }
@@ -35,7 +35,7 @@ number : (c : tie.After-then)
     c .then .result ≡ dayNumber (a .blocks .now) (length (a .file .now))
 number c =
     c .then .ensures
-    ∙ ap (λ (n : ℕ). c .before .before .judge .result .number then n) (c .before .when .ensures)
+    ∙ ap (λ (n : ℕ). c .before .before .judge .result .refusal then n) (c .before .when .ensures)
     ∙ number-is (known (c .before .before)) (length (c .before .before .before .before .before .before .before .before .before .before .before .args .file .now))
 
 start-requires : tie.Need-start-requires

@@ -1,6 +1,7 @@
 -- `delays::append` meets its contract: each test tells what is answered and whether anything is written.
 -- Assumes nothing.
-use Rattle.delays.proofs.Answers.{some, append-refused, append-done, Fitting, fitting}
+use native.Mathlib.Nat.{pos-of-ne-zero}
+use Rattle.delays.proofs.Answers.{append-refused, append-done, Fitting, fitting}
 use Rattle.delays.proofs.Writing.{length-longer}
 use Rattle.lent.proofs.Placing.{placed-first}
 use Rattle.delays.specs.Append.{longerStore, appendNumber}
@@ -36,8 +37,8 @@ fits c =
 
 returns : tie.Need-returns
 returns c = let a = c .before .before .before .before .args in
-    let r = append-refused (a .store .now) (a .mjd) (a .int) (a .cab) (a .refdly) (a .gd) (a .longer .now) (number (c .before)) (some (c .if1 .taken)) in
-    (r .0, (some (c .if1 .taken), r .1))
+    let r = append-refused (a .store .now) (a .mjd) (a .int) (a .cab) (a .refdly) (a .gd) (a .longer .now) (number (c .before)) (pos-of-ne-zero (c .if1 .taken)) in
+    (r .0, (pos-of-ne-zero (c .if1 .taken), r .1))
 
 unsigned16-requires : tie.Need-unsigned16-requires
 unsigned16-requires c κs = search needs

@@ -2,11 +2,12 @@
 -- Assumes nothing.
 use mathlib.Core.Path.{_≡_, sym, ap, subst, _∙_}
 use Prim.Native.Nat.{ℕ, _+_, _*_, _-_, _≤_}
+use native.Mathlib.Nat.{pos-of-ne-zero}
 use native.Mathlib.Omega.{arith}
 use lib.ListN.{length}
 use Rattle.delays.specs.Store.{start, count, storeNumber}
 use Rattle.delays.specs.Lookup.{inForce, setOf}
-use Rattle.delays.proofs.Answers.{some, in-force-most, accepted, groups-fit, lookup-bad, lookup-none, lookup-found}
+use Rattle.delays.proofs.Answers.{in-force-most, accepted, groups-fit, lookup-bad, lookup-none, lookup-found}
 use borrow.Author.Needs.{needs}
 use Rattle.delays.proofs.lookup.Statement.{statement}
 use Rattle.delays.proofs.lookup.Tie as tie
@@ -17,7 +18,7 @@ store-number-requires c κs = search needs
 returns : tie.Need-returns
 returns c =
     let a = c .before .before .before .args in
-    (lookup-bad (a .store .now) (a .mjd) (c .before .store-number .ensures) (some (c .if1 .taken)), some (c .if1 .taken))
+    (lookup-bad (a .store .now) (a .mjd) (c .before .store-number .ensures) (pos-of-ne-zero (c .if1 .taken)), pos-of-ne-zero (c .if1 .taken))
 
 count-requires : tie.Need-count-requires
 count-requires c κs = search needs
@@ -56,7 +57,7 @@ set-of-requires : tie.Need-set-of-requires
 set-of-requires c κs =
     let f = c .before in
     let a = f .before .before .before .before .before .args in
-    omega (arith, some (c .if2 .left), f .in-force .ensures, in-force-most (start (a .store .now)) (a .mjd) (f .before .count .result), f .before .count .ensures .1)
+    omega (arith, pos-of-ne-zero (c .if2 .left), f .in-force .ensures, in-force-most (start (a .store .now)) (a .mjd) (f .before .count .result), f .before .count .ensures .1)
 
 returns-3 : tie.Need-returns-3
 returns-3 c =

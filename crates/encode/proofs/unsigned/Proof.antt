@@ -7,19 +7,19 @@ use lib.ListN.{length, take, length-set}
 use native.Mathlib.Omega.{arith}
 use Rattle.encode.proofs.Bytes.{bytes-turn, bytes-done}
 use borrow.Author.Needs.{needs}
-use Rattle.encode.specs.Encode.{bytesOf}
+use Rattle.encode.specs.Encode.{littleBytes}
 use Rattle.encode.proofs.unsigned.Statement.{statement}
 use Rattle.encode.proofs.unsigned.Tie as tie
 
 abbrev Inv-loop : tie.InvT-loop
 Inv-loop value out₀ rest₀ i₀ i-end out rest i =
-    (i ≤ length out) × (length out ≡ length out₀) × (bytesOf (length out₀) value ≡ take i out ++ bytesOf (length out₀ - i) rest)
+    (i ≤ length out) × (length out ≡ length out₀) × (littleBytes (length out₀) value ≡ take i out ++ littleBytes (length out₀ - i) rest)
 
 abbrev μ-loop : tie.MeasureT-loop
 μ-loop value out₀ rest₀ i₀ i-end out rest i = length out₀ - i
 
 loop-holds : tie.Need-loop-holds Inv-loop μ-loop
-loop-holds c = (search needs, search needs, ap (λ (k : ℕ). bytesOf k (c .args .value)) (omega arith))
+loop-holds c = (search needs, search needs, ap (λ (k : ℕ). littleBytes k (c .args .value)) (omega arith))
 
 cast-out : tie.Need-cast-out Inv-loop μ-loop
 cast-out c = search needs

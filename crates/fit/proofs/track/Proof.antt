@@ -10,7 +10,7 @@ use lib.ListN.{length, replicate}
 use mir.Facts.{toZ-ofZ}
 use Rattle.limits.specs.declared.Numbers.{Numbers}
 use Rattle.limits.specs.Lists.{anyBeyond}
-use Rattle.series.specs.Fit.{valuesLimit}
+use Rattle.series.specs.Fit.{valueLimit}
 use Rattle.exact.specs.Corrected.{Given, steps}
 use Rattle.exact.specs.Accurate.{AccurateTrack}
 use Rattle.correcting.specs.Correct.{blocks, given, places, valueA, valueB, valueC, valueD}
@@ -89,8 +89,8 @@ d-is c =
 inside : (t : Given) → correctNumber t ≡ 0 → let n = blocks t in Inside (places n (valueA t)) (places n (valueB t)) (places n (valueC t)) (places n (valueD t))
 inside t e = corrected-within t (limits-passed t e) (blocks t)
 
-passes : {l row : List ℤ} → l ≡ row → anyBeyond valuesLimit row ≡ false → anyBeyond valuesLimit l ≡ false
-passes e h = ap (anyBeyond valuesLimit) e ∙ h
+passes : {l row : List ℤ} → l ≡ row → anyBeyond valueLimit row ≡ false → anyBeyond valueLimit l ≡ false
+passes e h = ap (anyBeyond valueLimit) e ∙ h
 
 -- so their record is the track's
 record-is : (c : tie.After-enum-told)

@@ -2,7 +2,7 @@
 -- Assumes nothing.
 use mir.Facts.{toZ-ofZ}
 use Rattle.limits.proofs.Laws.{Fits}
-use Rattle.labels.specs.Content.{contentRule}
+use Rattle.labels.specs.Content.{contentNumber}
 use borrow.Author.Needs.{needs}
 use Rattle.labels.proofs.refusal.Statement.{statement}
 use Rattle.labels.proofs.refusal.Tie as tie
@@ -39,7 +39,7 @@ numbers-fit : (c : tie.Start) → Fits (c .args .numbers)
 numbers-fit c = search needs
 
 returns : tie.Need-returns
-unfolding contentRule
+unfolding contentNumber
 returns c =
     let dsg = c .before .before .before .before in
     let start = dsg .before .before .before in

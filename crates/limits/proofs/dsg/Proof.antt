@@ -1,6 +1,6 @@
 -- `limits::dsg` meets its contract: it is the definition, each call by its own contract.
 -- Assumes nothing.
-use Rattle.limits.specs.Limits.{dsgRule}
+use Rattle.limits.specs.Limits.{dsgNumber}
 use mir.Facts.{toZ-ofZ}
 use borrow.Author.Needs.{needs}
 use Rattle.limits.proofs.dsg.Statement.{statement}
@@ -13,7 +13,7 @@ when-requires : tie.Need-when-requires
 when-requires c κs = search needs
 
 returns : tie.Need-returns
-unfolding dsgRule
+unfolding dsgNumber
 returns c =
     simp (c .when .ensures, c .before .outside .ensures, toZ-ofZ (c .before .before .fits .dsg))
 

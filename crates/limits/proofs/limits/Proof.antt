@@ -1,7 +1,7 @@
 -- `limits::limits` meets its contract: it is the definition, each call by its own contract. A signed number is passed on as its
 -- bits, which read back as the number.
 -- Assumes nothing.
-use Rattle.limits.specs.Limits.{limitsRule}
+use Rattle.limits.specs.Limits.{limitsNumber}
 use mir.Facts.{toZ-ofZ}
 use Rattle.limits.proofs.Laws.{Fits}
 use borrow.Author.Needs.{needs}
@@ -52,7 +52,7 @@ numbers-fit : (c : tie.Start) → Fits (c .args .numbers)
 numbers-fit c = search needs
 
 returns : tie.Need-returns
-unfolding limitsRule
+unfolding limitsNumber
 returns c =
     let w = c .before .before .before .before in
     let o8 = w .before in

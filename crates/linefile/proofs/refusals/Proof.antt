@@ -2,7 +2,7 @@
 -- Assumes nothing.
 use mathlib.Core.Path.{_≡_, sym, ap, _∙_}
 use Prim.Native.Nat.{ℕ, _<_}
-use native.Mathlib.Omega.{arith}
+use native.Mathlib.Nat.{pos-of-ne-zero}
 use Rattle.limits.specs.Refusal.{_then_}
 use Rattle.limits.proofs.Laws.{then-refused, then-passed}
 use borrow.Author.Needs.{needs}
@@ -13,11 +13,8 @@ refusal-requires : tie.Need-refusal-requires
 refusal-requires c κs = search needs
 
 returns : tie.Need-returns
-returns c = by-first _ (c .before .refusal .ensures) (some (c .if1 .taken))
+returns c = by-first _ (c .before .refusal .ensures) (pos-of-ne-zero (c .if1 .taken))
   where
-    some : {n : ℕ} → (n ≡ 0 → ⊥) → 0 < n
-    some h = omega arith
-
     by-first : {number first : ℕ} (second : ℕ) → number ≡ first → 0 < number → number ≡ first then second
     by-first {number} second e h =
         sym (ap (λ (n : ℕ). n then second) (sym e) ∙ then-refused number second h)

@@ -7,10 +7,9 @@ use Prim.Native.Nat.{ℕ, _+_, _/_, _<_}
 use native.Mathlib.Omega.{arith}
 use lib.Dec.{ltb, leb, eqb}
 use lib.ListN.{length}
-use borrow.Author.Tests.{ltb-true}
-use Rattle.limits.proofs.Laws.{both}
 use Rattle.linefile.specs.Files.{endedLength, lineAt}
 use Rattle.linefile.specs.Walk.{rank, passing, stepOf}
+use Rattle.linefile.proofs.Lines.{lines-left}
 use borrow.Author.Needs.{needs}
 use Rattle.linefile.proofs.step.Statement.{statement}
 use Rattle.linefile.proofs.step.Tie as tie
@@ -19,7 +18,7 @@ use Rattle.linefile.proofs.step.Tie as tie
 both-lines : (c : tie.Then1)
     → let a = c .before .before .before .args in
     (a .m < length (a .first .now) / endedLength) × (a .n < length (a .second .now) / endedLength)
-both-lines c = let t = both _ _ (c .if1 .taken) in (ltb-true _ _ (t .0), ltb-true _ _ (t .1))
+both-lines c = lines-left _ _ _ _ (c .if1 .taken)
 
 rank-at-requires : tie.Need-rank-at-requires
 rank-at-requires c κs = both-lines c .0

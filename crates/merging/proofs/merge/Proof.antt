@@ -2,8 +2,8 @@
 -- Assumes nothing.
 use mathlib.Core.Path.{_≡_, sym, ap, ap₂, _∙_}
 use mathlib.Core.Bool.{Bool}
-use Prim.Native.Nat.{ℕ, _<_}
-use native.Mathlib.Omega.{arith}
+use Prim.Native.Nat.{ℕ}
+use native.Mathlib.Nat.{pos-of-ne-zero}
 use lib.Dec.{ltb}
 use lib.ListN.{length}
 use Rattle.limits.specs.Refusal.{_when_, _then_}
@@ -13,10 +13,6 @@ use Rattle.merging.proofs.Replies.{resultNumber, files-refused, result-
 use borrow.Author.Needs.{needs}
 use Rattle.merging.proofs.merge.Statement.{statement}
 use Rattle.merging.proofs.merge.Tie as tie
-
--- a number that is not 0
-some : {n : ℕ} → (n ≡ 0 → ⊥) → 0 < n
-some h = omega arith
 
 -- what the two tests are on
 files-accepted : (c : tie.Else1)
@@ -41,8 +37,8 @@ refusals-requires c κs = search needs
 returns : tie.Need-returns
 returns c =
     let a = c .before .before .before .before .before .args in
-    let r = files-refused (a .first .now) (a .second .now) (a .file .now) (c .before .refusals .ensures) (some (c .if1 .taken)) in
-    (r .0, (some (c .if1 .taken), r .1))
+    let r = files-refused (a .first .now) (a .second .now) (a .file .now) (c .before .refusals .ensures) (pos-of-ne-zero (c .if1 .taken)) in
+    (r .0, (pos-of-ne-zero (c .if1 .taken), r .1))
 
 measure-requires : tie.Need-measure-requires
 measure-requires c κs = let z = then-zero _ _ (files-accepted c) in (z .0, z .1)
@@ -60,8 +56,8 @@ returns-2 : tie.Need-returns-2
 returns-2 c =
     let e = c .before .before .before .before .before in
     let a = e .before .before .before .before .before .args in
-    let r = result-refused (a .first .now) (a .second .now) (a .file .now) (files-accepted e) (result-number (c .before)) (some (c .if2 .taken)) in
-    (r .0, (some (c .if2 .taken), r .1))
+    let r = result-refused (a .first .now) (a .second .now) (a .file .now) (files-accepted e) (result-number (c .before)) (pos-of-ne-zero (c .if2 .taken)) in
+    (r .0, (pos-of-ne-zero (c .if2 .taken), r .1))
 
 write-requires : tie.Need-write-requires
 write-requires c κs =

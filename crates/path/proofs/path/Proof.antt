@@ -1,19 +1,14 @@
 -- `path::path` meets its contract: the number of the first refusal, and the length where there is none.
 -- Assumes nothing.
-use mathlib.Core.Path.{_≡_, sym, ap, subst, _∙_}
+use mathlib.Core.Path.{sym, ap, subst, _∙_}
 use Prim.Native.Nat.{ℕ, _<_}
-use native.Mathlib.Omega.{arith}
+use native.Mathlib.Nat.{pos-of-ne-zero}
 use lib.Ieee.{Float}
 use borrow.Author.Needs.{needs}
-use Rattle.limits.specs.Reply.{Reply}
 use Rattle.limits.proofs.Replies.{reply-accepted, reply-refused}
-use Rattle.path.specs.Path.{pathNumber, lengthOf, plusZero, pathRule}
+use Rattle.path.specs.Path.{lengthOf, plusZero, pathRule}
 use Rattle.path.proofs.path.Statement.{statement}
 use Rattle.path.proofs.path.Tie as tie
-
--- a number that is not 0
-some : {n : ℕ} → (n ≡ 0 → ⊥) → 0 < n
-some h = omega arith
 
 refusal-requires : tie.Need-refusal-requires
 refusal-requires c κs = search needs
@@ -24,8 +19,8 @@ returns c =
     let r = c .before .refusal in
     let a = c .before .before .args in (
       ap (λ (n : ℕ). record { number = n; values = plusZero }) (r .ensures)
-          ∙ sym (reply-refused plusZero (lengthOf (a .satellite) (a .antenna)) (subst (λ (n : ℕ). 0 < n) (r .ensures) (some (c .if1 .taken)))),
-      some (c .if1 .taken),
+          ∙ sym (reply-refused plusZero (lengthOf (a .satellite) (a .antenna)) (subst (λ (n : ℕ). 0 < n) (r .ensures) (pos-of-ne-zero (c .if1 .taken)))),
+      pos-of-ne-zero (c .if1 .taken),
     )
 
 length-requires : tie.Need-length-requires

@@ -1,8 +1,8 @@
 -- `reading::old_refusal` meets its contract: what the characters and then the values are refused for.
 -- Assumes nothing.
 use mathlib.Core.Path.{_≡_, sym, ap, ap₂, _∙_}
-use Prim.Native.Nat.{ℕ, _<_}
-use native.Mathlib.Omega.{arith}
+use Prim.Native.Nat.{ℕ}
+use native.Mathlib.Nat.{pos-of-ne-zero}
 use Rattle.limits.specs.Refusal.{_then_}
 use Rattle.limits.proofs.Laws.{then-refused, then-passed}
 use Rattle.labels.specs.declared.Labels.{Labels}
@@ -23,10 +23,7 @@ old-refusal-requires c κs = search needs
 
 -- a refusal of the characters is the answer
 refused-is : {number characters : ℕ} (values : ℕ) → number ≡ characters → (number ≡ 0 → ⊥) → number ≡ characters then values
-refused-is {number} values e h = sym (ap (λ (n : ℕ). n then values) (sym e) ∙ then-refused number values (some h))
-  where
-    some : {n : ℕ} → (n ≡ 0 → ⊥) → 0 < n
-    some h = omega arith
+refused-is {number} values e h = sym (ap (λ (n : ℕ). n then values) (sym e) ∙ then-refused number values (pos-of-ne-zero h))
 
 returns : tie.Need-returns
 unfolding oldNumber

@@ -5,7 +5,7 @@ use native.Mathlib.Omega.{arith}
 use borrow.Author.Tests.{ltb-false}
 use Rattle.limits.specs.Refusal.{_when_, _then_}
 use Rattle.limits.proofs.Laws.{or-false}
-use Rattle.schedule.specs.Schedule.{firstDate, lastDate, startRule}
+use Rattle.schedule.specs.Schedule.{firstDate, lastDate, startNumber}
 use borrow.Author.Needs.{needs}
 use Rattle.schedule.proofs.start.Statement.{statement}
 use Rattle.schedule.proofs.start.Tie as tie
@@ -23,14 +23,14 @@ is-start-requires : tie.Need-is-start-requires
 is-start-requires c κs = omega (arith, dated c)
 
 returns : tie.Need-returns
-unfolding startRule _when_ _then_
+unfolding startNumber _when_ _then_
 returns c = simp (c .if1 .taken)
 
 when-requires : tie.Need-when-requires
 when-requires c κs = search needs
 
 returns-2 : tie.Need-returns-2
-unfolding startRule _when_ _then_
+unfolding startNumber _when_ _then_
 returns-2 c = simp (c .before .before .if1 .left, c .when .ensures, c .before .is-start .ensures)
 
 pub start-spec : {M : Type 1} → statement M

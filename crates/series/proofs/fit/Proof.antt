@@ -4,7 +4,7 @@ use borrow.Author.Needs.{needs}
 use mathlib.Core.Path.{_≡_, sym, ap, _∙_}
 use mathlib.Core.Bool.{false, not}
 use mathlib.Core.List.{List}
-use Prim.Native.Nat.{ℕ, _*_, _-_, _^_, _≤_, _<_}
+use Prim.Native.Nat.{ℕ, _*_, _-_, _≤_, _<_}
 use native.Mathlib.Omega.{arith}
 use lib.Dec.{lit<, lit≤}
 use lib.IntN.{ℤ, pos}
@@ -13,9 +13,10 @@ use mir.Syntax.{w64}
 use mir.Val.{toZ, ofZ}
 use Rattle.whole.specs.Nearest.{nearest}
 use Rattle.whole.specs.Words.{Within, back-of, fits, bound, plain-is, bounds}
-use Rattle.exact.specs.Corrected.{at, steps}
+use Rattle.whole.specs.Table.{at}
+use Rattle.exact.specs.Corrected.{steps}
 use Rattle.limits.specs.Lists.{anyBeyond}
-use Rattle.series.specs.Fit.{total, moment, midpoint, slope, valuesRule, fitRule, valuesLimit}
+use Rattle.series.specs.Fit.{total, moment, midpoint, slope, seriesNumber, fitRule, valueLimit}
 use Rattle.series.proofs.Fitting.{values-inside, values-miscounted, values-beyond, values-pass, total-word, moment-word}
 use Rattle.limits.proofs.Replies.{reply-accepted}
 use Rattle.limits.proofs.Blocks.{blocks-within}
@@ -48,18 +49,18 @@ returns-2 c =
     (sym (ap (λ (k : ℕ). reply (pos 0, pos 0) k (midpoint steps (length l) (at l), slope steps (length l) (at l))) e), lit< tt)
 
 -- the list is not refused, so its values are from 4 to 52 and inside their limit
-accepted : (c : tie.Else2) → valuesRule (c .before .before .before .before .args .values .now) ≡ 0
+accepted : (c : tie.Else2) → seriesNumber (c .before .before .before .before .args .values .now) ≡ 0
 accepted c = values-pass _ (counted (c .before .before)) (sym (c .before .sums .ensures .0) ∙ c .if2 .left)
 
 inside : (c : tie.Else2)
-    → let l = c .before .before .before .before .args .values .now in (4 ≤ length l) × (length l ≤ 52) × (anyBeyond valuesLimit l ≡ false)
+    → let l = c .before .before .before .before .args .values .now in (4 ≤ length l) × (length l ≤ 52) × (anyBeyond valueLimit l ≡ false)
 inside c = values-inside _ (accepted c)
 
 -- and the sums are its
 sums-are : (c : tie.Else2)
     → let l = c .before .before .before .before .args .values .now in
     let r = c .before .sums .result in
-    ((r .total ≡ total (length l) (at l)) × (r .moment ≡ moment (length l) (at l))) × (Within (52 * valuesLimit) (r .total) × Within (1352 * valuesLimit) (r .moment))
+    ((r .total ≡ total (length l) (at l)) × (r .moment ≡ moment (length l) (at l))) × (Within (52 * valueLimit) (r .total) × Within (1352 * valueLimit) (r .moment))
 sums-are c = c .before .sums .ensures .1 (c .if2 .left)
 
 nearest-by-count-requires : tie.Need-nearest-by-count-requires

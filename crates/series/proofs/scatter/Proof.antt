@@ -4,19 +4,20 @@ use borrow.Author.Needs.{needs}
 use mathlib.Core.Bool.{false, not}
 use mathlib.Core.List.{List}
 use mathlib.Core.Path.{_≡_, sym, ap, _∙_, subst₂}
-use Prim.Native.Nat.{_*_, _^_, ℕ, _≤_, _<_}
+use Prim.Native.Nat.{_*_, ℕ, _≤_, _<_}
 use native.Mathlib.Omega.{arith}
 use lib.Dec.{lit<}
 use lib.IntN.{ℤ, pos, natAbs}
 use lib.ListN.{length}
 use Rattle.whole.specs.Order.{_⩽_, _⋖_, pos-le, pos-lt}
 use Rattle.whole.specs.Words.{Within, count-read, fits, count, plain-is, bounds}
-use Rattle.limits.specs.Limits.{dsgRule}
-use Rattle.exact.specs.Corrected.{at, steps}
+use Rattle.limits.specs.Limits.{dsgNumber}
+use Rattle.whole.specs.Table.{at}
+use Rattle.exact.specs.Corrected.{steps}
 use Rattle.limits.specs.Reply.{reply}
 use Rattle.limits.specs.Lists.{anyBeyond}
-use Rattle.series.specs.Scatter.{squares, threshold, dsg, scatterRule}
-use Rattle.series.specs.Fit.{total, moment, valuesRule, valuesLimit}
+use Rattle.series.specs.Scatter.{squares, threshold, dsg, scatterRule, squaresCap}
+use Rattle.series.specs.Fit.{total, moment, seriesNumber, valueLimit}
 use Rattle.series.proofs.Fitting.{values-inside, values-miscounted, values-beyond, values-pass, total-word, moment-word}
 use Rattle.series.proofs.Residuals.{squares-pos}
 use Rattle.series.proofs.Thresholds.{cap-is, dsg-greatest, greatest, dsg-below, sigma-refused, sigma-accepted}
@@ -32,10 +33,10 @@ blocks-fit-requires : tie.Need-blocks-fit-requires
 blocks-fit-requires c κs = search needs
 
 -- a list that is refused for its count or its values is answered with that number
-first : (l : List ℤ) (number : ℕ) → 0 < number → valuesRule l ≡ number → record { number = number; values = pos 0 } ≡ scatterRule l
+first : (l : List ℤ) (number : ℕ) → 0 < number → seriesNumber l ≡ number → record { number = number; values = pos 0 } ≡ scatterRule l
 unfolding scatterRule
 first l number h e =
-    sym (ap (λ (k : ℕ). reply (pos 0) (k then dsgRule (pos (dsg steps (length l) (squares (length l) (at l))))) (pos (dsg steps (length l) (squares (length l) (at l))))) e
+    sym (ap (λ (k : ℕ). reply (pos 0) (k then dsgNumber (pos (dsg steps (length l) (squares (length l) (at l))))) (pos (dsg steps (length l) (squares (length l) (at l))))) e
     ∙ ap (λ (k : ℕ). reply (pos 0) k (pos (dsg steps (length l) (squares (length l) (at l))))) (then-refused number _ h)
     ∙ reply-refused _ _ h)
 
@@ -56,18 +57,18 @@ returns-2 c =
     (first l 2 (lit< tt) (values-beyond l (counted (c .before .before)) (sym (c .before .sums .ensures .0) ∙ c .if2 .taken)), lit< tt)
 
 -- the list is not refused, so its values are from 4 to 52 and inside their limit
-accepted : (c : tie.Else2) → valuesRule (c .before .before .before .before .args .values .now) ≡ 0
+accepted : (c : tie.Else2) → seriesNumber (c .before .before .before .before .args .values .now) ≡ 0
 accepted c = values-pass _ (counted (c .before .before)) (sym (c .before .sums .ensures .0) ∙ c .if2 .left)
 
 inside : (c : tie.Else2)
-    → let l = c .before .before .before .before .args .values .now in (4 ≤ length l) × (length l ≤ 52) × (anyBeyond valuesLimit l ≡ false)
+    → let l = c .before .before .before .before .args .values .now in (4 ≤ length l) × (length l ≤ 52) × (anyBeyond valueLimit l ≡ false)
 inside c = values-inside _ (accepted c)
 
 -- and the sums are its
 sums-are : (c : tie.Else2)
     → let l = c .before .before .before .before .args .values .now in
     let r = c .before .sums .result in
-    ((r .total ≡ total (length l) (at l)) × (r .moment ≡ moment (length l) (at l))) × (Within (52 * valuesLimit) (r .total) × Within (1352 * valuesLimit) (r .moment))
+    ((r .total ≡ total (length l) (at l)) × (r .moment ≡ moment (length l) (at l))) × (Within (52 * valueLimit) (r .total) × Within (1352 * valueLimit) (r .moment))
 sums-are c = c .before .sums .ensures .1 (c .if2 .left)
 
 some : (c : tie.Else2) → 0 < length (c .before .before .before .before .args .values .now)
@@ -104,7 +105,7 @@ unfolding scatterRule
 returns-3 c =
     let n = N (c .before) in
     let q = Q (c .before) in
-    let least : (steps * 999950) ^ 2 * n ≤ natAbs q = omega (arith, c .before .squares .ensures, c .if3 .taken) in
+    let least : squaresCap * n ≤ natAbs q = omega (arith, c .before .squares .ensures, c .if3 .taken) in
     let reached : threshold steps n 10000 ⩽ q = subst₂ (λ (x y : ℤ). x ⩽ y) (sym (cap-is n)) (sym (squares-pos n _)) (pos-le least) in
     let top : 9999 < dsg steps n q = greatest steps n (dsg-greatest steps n (lit< tt) (some (passed (c .before))) q) (lit< tt) reached in (
       sym (ap (λ (k : ℕ). reply (pos 0) k (pos (dsg steps n q))) (then-passed _ _ (accepted (passed (c .before))) ∙ sigma-refused _ top)),

@@ -2,7 +2,7 @@
 -- Assumes nothing.
 use borrow.Author.Needs.{needs}
 use mathlib.Core.Path.{_≡_, sym, ap, _∙_}
-use Prim.Native.Nat.{_^_, _<_}
+use Prim.Native.Nat.{_<_}
 use native.Mathlib.Omega.{arith}
 use native.Mathlib.Nat.{le-refl}
 use lib.Dec.{lit<}
@@ -12,9 +12,11 @@ use Rattle.whole.specs.Ring.{*ℤ-assoc}
 use Rattle.whole.specs.Rounding.{nearest-scale}
 use Rattle.whole.specs.Sum.{sum}
 use Rattle.whole.specs.Words.{Word, known, equal, back-of, fits, bound, plain-is, bounds}
-use Rattle.exact.specs.Corrected.{at, steps}
+use Rattle.whole.specs.Table.{at}
+use Rattle.exact.specs.Corrected.{steps}
 use Rattle.exact.specs.Weights.{weights}
-use Rattle.limits.specs.Lists.{miscounted, listRule}
+use Rattle.limits.specs.Limits.{measurementLimit}
+use Rattle.limits.specs.Lists.{miscounted, listNumber}
 use Rattle.series.specs.Smooth.{smoothed, smoothRule}
 use Rattle.limits.proofs.Lists.{list-accepted, counted, within-limit}
 use Rattle.series.proofs.Weights.{weighted-bound}
@@ -39,7 +41,7 @@ by-5 z =
 
 -- the list is not refused
 accepted : (c : tie.Else1)
-    → let m = c .before .before .args .measurements .now in listRule (miscounted 15 m) (10 ^ 12) m ≡ 0
+    → let m = c .before .before .args .measurements .now in listNumber (miscounted 15 m) measurementLimit m ≡ 0
 accepted c = sym (c .before .list-refusal .ensures) ∙ c .if1 .left
 
 -- the sum that weighted hands back
@@ -47,7 +49,7 @@ abbrev sum-word : (c : tie.After-weighted) → Word (c .weighted .result)
 sum-word c =
     let m = c .before .before .before .args .measurements .now in
     equal (c .weighted .ensures)
-    (known (weighted-bound (at m) (within-limit (10 ^ 12) m (list-accepted _ _ _ _ (accepted (c .before)) .1)) 15 (le-refl 15)))
+    (known (weighted-bound (at m) (within-limit measurementLimit m (list-accepted _ _ _ _ (accepted (c .before)) .1)) 15 (le-refl 15)))
 
 weighted-requires : tie.Need-weighted-requires
 weighted-requires c κs = let a = list-accepted _ _ _ _ (accepted c) in (counted 15 (c .before .before .args .measurements .now) (a .0), a .1)

@@ -2,6 +2,7 @@
 -- Assumes nothing.
 use mathlib.Core.Path.{_≡_, refl, sym, ap, _∙_}
 use lib.ListN.{length, replicate}
+use Rattle.columns.specs.Text.{lineLength}
 use Rattle.trackline.specs.Printed.{answer}
 use native.Mathlib.Omega.{arith}
 use Rattle.trackline.proofs.Texts.{copied, retext, refused-answer, written-answer, answer-length}
@@ -44,7 +45,7 @@ returns-2 c =
     let s = k .before .before .before .before in
     let b = s .args .block .now in
     let line = k .block .last .1 .0 in
-    let is : line ≡ answer b = written-answer b (replicate 113 0) line refl (sym (k .block .ensures .0) ∙ e .if1 .left) (k .block .ensures .1 .0) in
+    let is : line ≡ answer b = written-answer b (replicate lineLength 0) line refl (sym (k .block .ensures .0) ∙ e .if1 .left) (k .block .ensures .1 .0) in
     retext
     (copied line (s .args .out .now) (w .copy .last .1 .0) (w .copy .result) (w .copy .ensures .0)
     (omega (arith, ap length is, answer-length b)) (s .pre) (w .copy .ensures .1)) is

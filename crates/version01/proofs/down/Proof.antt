@@ -8,7 +8,7 @@ use native.Mathlib.Omega.{arith}
 use lib.Dec.{eqb}
 use lib.ListN.{length}
 use Rattle.limits.specs.Refusal.{_when_, _then_}
-use Rattle.limits.proofs.Laws.{then-zero, then-refused, then-passed}
+use Rattle.limits.proofs.Laws.{then-zero, then-refused, then-passed, after-accepted, after-refused}
 use Rattle.labels.specs.declared.Labels.{Labels}
 use Rattle.columns.specs.Columns.{labelsWith, readLabels}
 use Rattle.reading.specs.declared.Reading.{Reading}
@@ -17,7 +17,7 @@ use Rattle.reading.specs.Read.{readNumber}
 use Rattle.reading.proofs.Readings.{accepted-case, accepted-values, refused-case, refused-number}
 use Rattle.reading.proofs.Refusals.{accepted}
 use Rattle.version01.specs.Convert.{downAnswer, downAfter}
-use Rattle.version01.proofs.Forms.{kept, given, room-enough}
+use Rattle.version01.proofs.Forms.{room-enough}
 use borrow.Author.Needs.{needs}
 use Rattle.version01.proofs.down.Statement.{statement}
 use Rattle.version01.proofs.down.Tie as tie
@@ -49,7 +49,7 @@ returns c =
     let some = refused-case (a .line .now) e (read .read .ensures .0) (read .read .ensures .1) in
     let number = c .reading-number .ensures ∙ ap (λ (r : Reading). readReply r .number) e ∙ refused-number (a .line .now) e (read .read .ensures .0) in
     let answer = unread (a .line .now) (length (a .old .now)) some in
-    (number ∙ answer, kept _ _ (λ z. above some (answer ∙ z)))
+    (number ∙ answer, sym (after-refused _ _ (λ z. above some (answer ∙ z))))
   where
     above : {n : ℕ} → 0 < n → n ≡ 0 → ⊥
     above h e = omega arith
@@ -107,13 +107,13 @@ returns-2 : tie.Need-returns-2
 unfolding downAfter
 returns-2 c =
     let t = c .before .before .before .before .before in
-    (answer-is (t .before), c .before .before .write .ensures ∙ given _ _ (passed t))
+    (answer-is (t .before), c .before .before .write .ensures ∙ sym (after-accepted _ _ (passed t)))
 
 returns-3 : tie.Need-returns-3
 unfolding downAfter
 returns-3 c =
     let e = answer-is (c .before) in
-    (e, kept _ _ (λ z. c .if1 .left (e ∙ z)))
+    (e, sym (after-refused _ _ (λ z. c .if1 .left (e ∙ z))))
 
 pub down-spec : {M : Type 1} → statement M
 down-spec =

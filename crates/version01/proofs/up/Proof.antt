@@ -6,13 +6,13 @@ use Prim.Native.Nat.{ℕ, _+_, _≤_}
 use native.Mathlib.Omega.{arith}
 use lib.ListN.{length, drop}
 use Rattle.limits.specs.Refusal.{_then_}
-use Rattle.limits.proofs.Laws.{then-zero}
+use Rattle.limits.proofs.Laws.{then-zero, after-accepted, after-refused}
 use Rattle.fields.specs.Text.{decimal}
 use Rattle.columns.specs.Text.{spaced}
 use Rattle.characters.proofs.Spelled.{spelled}
 use Rattle.reading.specs.Old.{oldNumber}
 use Rattle.version01.specs.Convert.{formText, supplied, upText, upAnswer, upAfter}
-use Rattle.version01.proofs.Forms.{kept, given, room-enough}
+use Rattle.version01.proofs.Forms.{room-enough}
 use Rattle.version01.proofs.Characters.{supplied-length}
 use borrow.Author.Needs.{needs}
 use Rattle.version01.proofs.up.Statement.{statement}
@@ -87,14 +87,14 @@ returns c =
       c .before .before .write .ensures
           ∙ ap (λ (b : List ℕ). formText 71 (a .old .now) b ++ drop (103 + length b) (a .line .now)) (put-behind put)
           ∙ ap (λ (n : ℕ). upText (a .hc) (a .frc1) (a .frc2) (a .frc3) (a .old .now) ++ drop (103 + n) (a .line .now)) (supplied-length (a .hc) (a .frc1) (a .frc2) (a .frc3))
-          ∙ given _ _ (passed t),
+          ∙ sym (after-accepted _ _ (passed t)),
     )
 
 returns-2 : tie.Need-returns-2
 unfolding upAfter
 returns-2 c =
     let e = answer-is (c .before) in
-    (e, kept _ _ (λ z. c .if1 .left (e ∙ z)))
+    (e, sym (after-refused _ _ (λ z. c .if1 .left (e ∙ z))))
 
 pub up-spec : {M : Type 1} → statement M
 up-spec =

@@ -1,8 +1,8 @@
 -- `viewing::common_view` meets its contract: each test tells what is answered.
 -- Assumes nothing.
 use mathlib.Core.Path.{_≡_, sym, ap, _∙_}
-use Prim.Native.Nat.{ℕ, _<_}
-use native.Mathlib.Omega.{arith}
+use Prim.Native.Nat.{_<_}
+use native.Mathlib.Nat.{pos-of-ne-zero}
 use lib.Dec.{lit<}
 use lib.IntN.{ℤ, pos}
 use lib.Signed.{ltZ}
@@ -30,10 +30,7 @@ returns-2 : tie.Need-returns-2
 returns-2 c =
     let e = c .before .before in
     let a = e .before .before .before .args in
-    (files-refused (a .first .now) (a .second .now) (e .if1 .left) (c .before .refusals .ensures) (some (c .if2 .taken)), some (c .if2 .taken))
-  where
-    some : {n : ℕ} → (n ≡ 0 → ⊥) → 0 < n
-    some h = omega arith
+    (files-refused (a .first .now) (a .second .now) (e .if1 .left) (c .before .refusals .ensures) (pos-of-ne-zero (c .if2 .taken)), pos-of-ne-zero (c .if2 .taken))
 
 files-accepted : (c : tie.Else2)
     → let a = c .before .before .before .before .before .args in

@@ -7,7 +7,7 @@ use native.Mathlib.Omega.{arith}
 use Rattle.fields.proofs.Laws.{length-decimal, length-hexadecimal}
 use Rattle.columns.specs.Text.{trackColumns}
 use Rattle.columns.proofs.Placing.{begin, column, end}
-use Rattle.columns.proofs.Widths.{length-clock}
+use Rattle.columns.proofs.Widths.{length-time}
 use borrow.Author.Needs.{needs}
 use Rattle.columns.proofs.put.put_track.Statement.{statement}
 use Rattle.columns.proofs.put.put_track.Tie as tie
@@ -24,8 +24,8 @@ cast-put-decimal c = search needs
 put-decimal-requires : tie.Need-put-decimal-requires
 put-decimal-requires c κs = search needs
 
-put-clock-requires : tie.Need-put-clock-requires
-put-clock-requires c κs = search needs
+put-time-requires : tie.Need-put-time-requires
+put-time-requires c κs = search needs
 
 magnitude-requires : tie.Need-magnitude-requires
 magnitude-requires c κs = search needs
@@ -71,7 +71,7 @@ returns c =
           (column (length-decimal 4 _)
           (column (length-decimal 3 _)
           (column (length-decimal 4 _)
-          (column (length-clock _)
+          (column (length-time _)
           (column (length-decimal 5 _)
           (column (length-hexadecimal _)
           (column (ap suc (length-decimal 2 _))
@@ -79,7 +79,7 @@ returns c =
           (satellite .put-satellite .ensures))
           (class .put-class .ensures))
           (mjd .put-decimal .ensures))
-          (start .put-clock .ensures))
+          (start .put-time .ensures))
           (simp (trkl .before .magnitude .ensures, toZ-ofZ (a .fits .trkl)) at (trkl .put-decimal2 .ensures)))
           (elv .put-decimal3 .ensures))
           (azth .put-decimal4 .ensures));
@@ -94,7 +94,7 @@ put-track-spec =
     put-class-requires
     cast-put-decimal
     put-decimal-requires
-    put-clock-requires
+    put-time-requires
     magnitude-requires
     put-decimal-requires-2
     cast-put-decimal-2

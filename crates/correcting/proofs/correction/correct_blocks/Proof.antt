@@ -4,7 +4,7 @@ use borrow.Author.Needs.{needs, sfits-of}
 use mathlib.Core.Path.{_≡_, refl, sym, ap, _∙_, subst}
 use mathlib.Core.Bool.{true, false}
 use mathlib.Core.List.{List}
-use Prim.Native.Nat.{ℕ, _+_, _*_, _-_, _^_, _≤_, _<_}
+use Prim.Native.Nat.{ℕ, _+_, _*_, _-_, _≤_, _<_}
 use native.Mathlib.Nat.{le-antisymm}
 use native.Mathlib.Omega.{arith}
 use lib.IntN.{ℤ, pos, negℤ, natAbs}
@@ -13,6 +13,7 @@ use mir.Syntax.{w64}
 use mir.Val.{toZ, ofZ}
 use mir.Facts.{toZ-ofZ}
 use Rattle.whole.specs.Words.{Word, known, equal, read, sum-of, negation-of, bound, back-of}
+use Rattle.limits.specs.Limits.{measurementLimit}
 use Rattle.limits.specs.Lists.{anyBeyond}
 use Rattle.limits.specs.Scan.{readTo, scanRule}
 use Rattle.limits.specs.declared.Scanned.{Scanned}
@@ -21,7 +22,8 @@ use Rattle.series.specs.declared.Smoothed.{Smoothed}
 use Rattle.series.specs.Answers.{smoothReply}
 use Rattle.series.specs.Smooth.{smoothed, smoothRule}
 use Rattle.series.proofs.Replies.{smooth-cases}
-use Rattle.exact.specs.Corrected.{Given, at, steps, block, toA, toB}
+use Rattle.whole.specs.Table.{at}
+use Rattle.exact.specs.Corrected.{Given, steps, block, toA, toB}
 use Rattle.correcting.specs.declared.Corrected.{Corrected}
 use Rattle.correcting.specs.Correct.{given, blocks, smoothedAt, valueA, valueB, valueC, valueD}
 use Rattle.correcting.specs.Answer.{filled, wholeBlocks, blocksRule}
@@ -97,21 +99,21 @@ rows c k e =
 -- what the scan of this block answers
 scanned : (c : tie.After-scan Inv-loop μ-loop)
     → let n = c .before .before .before in
-    c .scan .result ≡ scanRule (negℤ (pos (10 ^ 12))) (pos (10 ^ 12)) (take 15 (drop (15 * n .loop .j) (n .before .args .measurements .now)))
+    c .scan .result ≡ scanRule (negℤ (pos measurementLimit)) (pos measurementLimit) (take 15 (drop (15 * n .loop .j) (n .before .args .measurements .now)))
 scanned c =
     let n = c .before .before .before in
     let e : 15 * n .loop .j + 15 - 15 * n .loop .j ≡ 15 = omega arith in
-    subst (λ (k : ℕ). c .scan .result ≡ scanRule (negℤ (pos (10 ^ 12))) (pos (10 ^ 12)) (take k (drop (15 * n .loop .j) (n .before .args .measurements .now)))) e (c .scan .ensures)
+    subst (λ (k : ℕ). c .scan .result ≡ scanRule (negℤ (pos measurementLimit)) (pos measurementLimit) (take k (drop (15 * n .loop .j) (n .before .args .measurements .now)))) e (c .scan .ensures)
 
 any-is : (c : tie.After-scan Inv-loop μ-loop)
     → let n = c .before .before .before in
-    c .scan .result .outside ≡ anyBeyond (10 ^ 12) (take 15 (drop (15 * n .loop .j) (n .before .args .measurements .now)))
+    c .scan .result .outside ≡ anyBeyond measurementLimit (take 15 (drop (15 * n .loop .j) (n .before .args .measurements .now)))
 unfolding scanRule
 any-is c = ap (λ (s : Scanned). s .outside) (scanned c)
 
 read-is : (c : tie.After-scan Inv-loop μ-loop)
     → let n = c .before .before .before in
-    c .scan .result .read ≡ readTo (negℤ (pos (10 ^ 12))) (pos (10 ^ 12)) (take 15 (drop (15 * n .loop .j) (n .before .args .measurements .now)))
+    c .scan .result .read ≡ readTo (negℤ (pos measurementLimit)) (pos measurementLimit) (take 15 (drop (15 * n .loop .j) (n .before .args .measurements .now)))
 unfolding scanRule
 read-is c = ap (λ (s : Scanned). s .read) (scanned c)
 
@@ -122,7 +124,7 @@ room c = omega (arith, c .before .loop .inv .1 .size-measurements, c .loop-test 
 -- where the scan has passed
 inside : (c : tie.Else1 Inv-loop μ-loop)
     → let n = c .before .before .before .before .before in
-    anyBeyond (10 ^ 12) (take 15 (drop (15 * n .loop .j) (n .before .args .measurements .now))) ≡ false
+    anyBeyond measurementLimit (take 15 (drop (15 * n .loop .j) (n .before .args .measurements .now))) ≡ false
 inside c = sym (any-is (c .before .before)) ∙ c .if1 .left
 
 all-read : (c : tie.Else1 Inv-loop μ-loop) → c .before .before .scan .result .read ≡ 15

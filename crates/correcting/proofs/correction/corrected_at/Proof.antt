@@ -3,15 +3,16 @@
 use borrow.Author.Needs.{needs}
 use mathlib.Core.Path.{_≡_, ap, _∙_}
 use mathlib.Core.List.{[], _∷_}
-use Prim.Native.Nat.{_^_}
 use lib.IntN.{ℤ, pos, _*ℤ_}
 use mir.Syntax.{w64}
 use mir.Val.{toZ, ofZ}
 use mir.Facts.{toZ-ofZ}
 use Rattle.whole.specs.Words.{Word, known, read, back, bound}
-use Rattle.exact.specs.Corrected.{Given, at, steps, toA, toB}
+use Rattle.whole.specs.Table.{at}
+use Rattle.exact.specs.Corrected.{Given, steps, toA, toB}
+use Rattle.limits.specs.Limits.{delayLimit}
 use Rattle.limits.proofs.Lists.{within-limit}
-use Rattle.correcting.specs.Correct.{geometryLimit, given}
+use Rattle.correcting.specs.Correct.{given, geometryLimit}
 use Rattle.correcting.proofs.correction.corrected_at.Statement.{statement}
 use Rattle.correcting.proofs.correction.corrected_at.Tie as tie
 
@@ -30,10 +31,10 @@ words c =
       known (p .0 .3 .within),
       known (p .0 .4 .within),
       known (within-limit geometryLimit (a .geometry .now) (p .1 .0 .1) (a .j)),
-      known (within-limit (10 ^ 10) (a .relativity .now) (p .1 .1 .0 .1) (a .j)),
-      known (within-limit (10 ^ 10) (a .ionosphere .now) (p .1 .1 .1 .0 .1) (a .j)),
-      known (within-limit (10 ^ 10) (a .troposphere .now) (p .1 .1 .1 .1 .0 .1) (a .j)),
-      known (within-limit (10 ^ 10) (a .clock .now) (p .1 .1 .1 .1 .1 .1) (a .j)),
+      known (within-limit delayLimit (a .relativity .now) (p .1 .1 .0 .1) (a .j)),
+      known (within-limit delayLimit (a .ionosphere .now) (p .1 .1 .1 .0 .1) (a .j)),
+      known (within-limit delayLimit (a .troposphere .now) (p .1 .1 .1 .1 .0 .1) (a .j)),
+      known (within-limit delayLimit (a .clock .now) (p .1 .1 .1 .1 .1 .1) (a .j)),
     )
 
 mul-corrected : tie.Need-mul-corrected

@@ -2,11 +2,10 @@
 -- Assumes nothing.
 use mathlib.Core.Bool.{false}
 use mathlib.Core.Path.{_≡_, sym, ap, _∙_}
-use Prim.Native.Nat.{_^_}
-use Rattle.whole.specs.Words.{back-of}
-use Rattle.exact.specs.Corrected.{at}
-use Rattle.limits.specs.Limits.{beyond}
 use Rattle.correcting.specs.Correct.{geometryLimit}
+use Rattle.whole.specs.Words.{back-of}
+use Rattle.whole.specs.Table.{at}
+use Rattle.limits.specs.Limits.{beyond, delayLimit}
 use borrow.Author.Needs.{needs}
 use Rattle.correcting.proofs.inputs.row_beyond.Statement.{statement}
 use Rattle.correcting.proofs.inputs.row_beyond.Tie as tie
@@ -34,26 +33,26 @@ is-1 c = c .outside .ensures ∙ ap (beyond geometryLimit) (back-of (c .before .
 left-1 : (c : tie.Else1) → let a = start-1 (c .before) .args in beyond geometryLimit (at (a .geometry .now) (a .j)) ≡ false
 left-1 c = sym (is-1 (c .before)) ∙ c .if1 .left
 
-is-2 : (c : tie.After-outside2) → let a = start-2 c .args in c .outside2 .result ≡ beyond (10 ^ 10) (at (a .relativity .now) (a .j))
-is-2 c = c .outside2 .ensures ∙ ap (beyond (10 ^ 10)) (back-of (c .before .outside-arg2 .given))
+is-2 : (c : tie.After-outside2) → let a = start-2 c .args in c .outside2 .result ≡ beyond delayLimit (at (a .relativity .now) (a .j))
+is-2 c = c .outside2 .ensures ∙ ap (beyond delayLimit) (back-of (c .before .outside-arg2 .given))
 
-left-2 : (c : tie.Else2) → let a = start-2 (c .before) .args in beyond (10 ^ 10) (at (a .relativity .now) (a .j)) ≡ false
+left-2 : (c : tie.Else2) → let a = start-2 (c .before) .args in beyond delayLimit (at (a .relativity .now) (a .j)) ≡ false
 left-2 c = sym (is-2 (c .before)) ∙ c .if2 .left
 
-is-3 : (c : tie.After-outside3) → let a = start-3 c .args in c .outside3 .result ≡ beyond (10 ^ 10) (at (a .ionosphere .now) (a .j))
-is-3 c = c .outside3 .ensures ∙ ap (beyond (10 ^ 10)) (back-of (c .before .outside-arg3 .given))
+is-3 : (c : tie.After-outside3) → let a = start-3 c .args in c .outside3 .result ≡ beyond delayLimit (at (a .ionosphere .now) (a .j))
+is-3 c = c .outside3 .ensures ∙ ap (beyond delayLimit) (back-of (c .before .outside-arg3 .given))
 
-left-3 : (c : tie.Else3) → let a = start-3 (c .before) .args in beyond (10 ^ 10) (at (a .ionosphere .now) (a .j)) ≡ false
+left-3 : (c : tie.Else3) → let a = start-3 (c .before) .args in beyond delayLimit (at (a .ionosphere .now) (a .j)) ≡ false
 left-3 c = sym (is-3 (c .before)) ∙ c .if3 .left
 
-is-4 : (c : tie.After-outside4) → let a = start-4 c .args in c .outside4 .result ≡ beyond (10 ^ 10) (at (a .troposphere .now) (a .j))
-is-4 c = c .outside4 .ensures ∙ ap (beyond (10 ^ 10)) (back-of (c .before .outside-arg4 .given))
+is-4 : (c : tie.After-outside4) → let a = start-4 c .args in c .outside4 .result ≡ beyond delayLimit (at (a .troposphere .now) (a .j))
+is-4 c = c .outside4 .ensures ∙ ap (beyond delayLimit) (back-of (c .before .outside-arg4 .given))
 
-left-4 : (c : tie.Else4) → let a = start-4 (c .before) .args in beyond (10 ^ 10) (at (a .troposphere .now) (a .j)) ≡ false
+left-4 : (c : tie.Else4) → let a = start-4 (c .before) .args in beyond delayLimit (at (a .troposphere .now) (a .j)) ≡ false
 left-4 c = sym (is-4 (c .before)) ∙ c .if4 .left
 
-is-5 : (c : tie.After-outside5) → let a = start-5 c .args in c .outside5 .result ≡ beyond (10 ^ 10) (at (a .clock .now) (a .j))
-is-5 c = c .outside5 .ensures ∙ ap (beyond (10 ^ 10)) (back-of (c .before .outside-arg5 .given))
+is-5 : (c : tie.After-outside5) → let a = start-5 c .args in c .outside5 .result ≡ beyond delayLimit (at (a .clock .now) (a .j))
+is-5 c = c .outside5 .ensures ∙ ap (beyond delayLimit) (back-of (c .before .outside-arg5 .given))
 
 mul-outside : tie.Need-mul-outside
 mul-outside c = search needs

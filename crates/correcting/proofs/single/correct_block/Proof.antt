@@ -4,20 +4,20 @@ use borrow.Author.Needs.{needs}
 use mathlib.Core.Bool.{true, false, _||_}
 use mathlib.Core.List.{[], _∷_}
 use mathlib.Core.Path.{_≡_, sym, ap, ap₂, _∙_}
-use Prim.Native.Nat.{_^_, _≤_}
+use Prim.Native.Nat.{_≤_}
 use lib.IntN.{ℤ, pos, natAbs, _*ℤ_}
 use mir.Syntax.{w64}
 use mir.Val.{SFits}
 use mir.Facts.{toZ-ofZ}
 use Rattle.whole.specs.Words.{Word, known, read, bound, back}
 use Rattle.limits.specs.Refusal.{_when_}
-use Rattle.limits.specs.Limits.{beyond, delaysBeyond}
+use Rattle.limits.specs.Limits.{beyond, delaysBeyond, delayLimit}
 use Rattle.limits.proofs.Laws.{or-false, magnitude-within}
-use Rattle.series.specs.Fit.{valuesLimit}
+use Rattle.series.specs.Fit.{valueLimit}
 use Rattle.exact.specs.Corrected.{Given, steps, toA, toB}
-use Rattle.correcting.specs.declared.Block.{Block}
+use Rattle.correcting.specs.declared.BlockValues.{BlockValues}
 use Rattle.correcting.specs.Correct.{given, geometryLimit}
-use Rattle.correcting.specs.Block.{block, groupBeyond, blockRule}
+use Rattle.correcting.specs.Block.{blockValues, groupBeyond, blockValuesRule}
 use Rattle.correcting.proofs.single.correct_block.Statement.{statement}
 use Rattle.correcting.proofs.single.correct_block.Tie as tie
 
@@ -37,7 +37,7 @@ group-is c =
 
 others-are : (c : tie.After-delays-beyond)
     → let a = start-2 c .args in
-    c .before .outside .result || c .delays-beyond .result ≡ beyond valuesLimit (a .smoothed) || delaysBeyond (a .int) (a .cab) (a .refdly) (a .gd)
+    c .before .outside .result || c .delays-beyond .result ≡ beyond valueLimit (a .smoothed) || delaysBeyond (a .int) (a .cab) (a .refdly) (a .gd)
 others-are c =
     let f = start-2 c .fits in
     ap₂ _||_ (simp (toZ-ofZ (f .smoothed)) at (c .before .outside .ensures))
@@ -48,59 +48,59 @@ group-left : (c : tie.Else1) → let a = start-1 (c .before) .args in groupBeyon
 group-left c = sym (group-is (c .before)) ∙ c .if1 .left
 
 others-left : (c : tie.Else2)
-    → let a = start-2 (c .before) .args in beyond valuesLimit (a .smoothed) || delaysBeyond (a .int) (a .cab) (a .refdly) (a .gd) ≡ false
+    → let a = start-2 (c .before) .args in beyond valueLimit (a .smoothed) || delaysBeyond (a .int) (a .cab) (a .refdly) (a .gd) ≡ false
 others-left c = sym (others-are (c .before)) ∙ c .if2 .left
 
 -- the rule by the outcome of its tests
-group-refused : (y p q r s g k i t c : ℤ) → groupBeyond g k i t c ≡ true → Block.Refused 2 ≡ blockRule y p q r s g k i t c
-unfolding blockRule block _when_
+group-refused : (y p q r s g k i t c : ℤ) → groupBeyond g k i t c ≡ true → BlockValues.Refused 2 ≡ blockValuesRule y p q r s g k i t c
+unfolding blockValuesRule blockValues _when_
 group-refused y p q r s g k i t c e = rw e
 
-others-refused : (y p q r s g k i t c : ℤ) → groupBeyond g k i t c ≡ false → beyond valuesLimit y || delaysBeyond p q r s ≡ true
-    → Block.Refused 2 ≡ blockRule y p q r s g k i t c
-unfolding blockRule block _when_
+others-refused : (y p q r s g k i t c : ℤ) → groupBeyond g k i t c ≡ false → beyond valueLimit y || delaysBeyond p q r s ≡ true
+    → BlockValues.Refused 2 ≡ blockValuesRule y p q r s g k i t c
+unfolding blockValuesRule blockValues _when_
 others-refused y p q r s g k i t c e f = rw (e, f)
 
-accepted-is : (y p q r s g k i t c : ℤ) → groupBeyond g k i t c ≡ false → beyond valuesLimit y || delaysBeyond p q r s ≡ false
+accepted-is : (y p q r s g k i t c : ℤ) → groupBeyond g k i t c ≡ false → beyond valueLimit y || delaysBeyond p q r s ≡ false
     → let G = given [] p q r s (g ∷ []) (k ∷ []) (i ∷ []) (t ∷ []) (c ∷ []) in
-    Block.Values (toA G (pos steps) 0 y) (toB G (pos steps) 0 y) (pos steps *ℤ t) (pos steps *ℤ i) ≡ blockRule y p q r s g k i t c
-unfolding blockRule block _when_
+    BlockValues.Values (toA G (pos steps) 0 y) (toB G (pos steps) 0 y) (pos steps *ℤ t) (pos steps *ℤ i) ≡ blockValuesRule y p q r s g k i t c
+unfolding blockValuesRule blockValues _when_
 accepted-is y p q r s g k i t c e f = rw (e, f)
 
 -- what is known of the numbers
 group-within : (g r i t k : ℤ) → groupBeyond g r i t k ≡ false
-    → (natAbs g ≤ geometryLimit) × (natAbs r ≤ 10 ^ 10) × (natAbs i ≤ 10 ^ 10) × (natAbs t ≤ 10 ^ 10) × (natAbs k ≤ 10 ^ 10)
+    → (natAbs g ≤ geometryLimit) × (natAbs r ≤ delayLimit) × (natAbs i ≤ delayLimit) × (natAbs t ≤ delayLimit) × (natAbs k ≤ delayLimit)
 group-within g r i t k e =
     let G = beyond geometryLimit g in
-    let R = beyond (10 ^ 10) r in
-    let I = beyond (10 ^ 10) i in
-    let T = beyond (10 ^ 10) t in
-    let four = or-false (G || R || I || T) (beyond (10 ^ 10) k) e in
+    let R = beyond delayLimit r in
+    let I = beyond delayLimit i in
+    let T = beyond delayLimit t in
+    let four = or-false (G || R || I || T) (beyond delayLimit k) e in
     let three = or-false (G || R || I) T (four .0) in
     let two = or-false (G || R) I (three .0) in
     let one = or-false G R (two .0) in (
       magnitude-within geometryLimit g (one .0),
-      magnitude-within (10 ^ 10) r (one .1),
-      magnitude-within (10 ^ 10) i (two .1),
-      magnitude-within (10 ^ 10) t (three .1),
-      magnitude-within (10 ^ 10) k (four .1),
+      magnitude-within delayLimit r (one .1),
+      magnitude-within delayLimit i (two .1),
+      magnitude-within delayLimit t (three .1),
+      magnitude-within delayLimit k (four .1),
     )
 
-others-within : (y p q r s : ℤ) → beyond valuesLimit y || delaysBeyond p q r s ≡ false
-    → (natAbs y ≤ valuesLimit) × (natAbs p ≤ 10 ^ 10) × (natAbs q ≤ 10 ^ 10) × (natAbs r ≤ 10 ^ 10) × (natAbs s ≤ 10 ^ 10)
+others-within : (y p q r s : ℤ) → beyond valueLimit y || delaysBeyond p q r s ≡ false
+    → (natAbs y ≤ valueLimit) × (natAbs p ≤ delayLimit) × (natAbs q ≤ delayLimit) × (natAbs r ≤ delayLimit) × (natAbs s ≤ delayLimit)
 others-within y p q r s e =
-    let P = beyond (10 ^ 10) p in
-    let Q = beyond (10 ^ 10) q in
-    let R = beyond (10 ^ 10) r in
-    let all = or-false (beyond valuesLimit y) (P || Q || R || beyond (10 ^ 10) s) e in
-    let three = or-false (P || Q || R) (beyond (10 ^ 10) s) (all .1) in
+    let P = beyond delayLimit p in
+    let Q = beyond delayLimit q in
+    let R = beyond delayLimit r in
+    let all = or-false (beyond valueLimit y) (P || Q || R || beyond delayLimit s) e in
+    let three = or-false (P || Q || R) (beyond delayLimit s) (all .1) in
     let two = or-false (P || Q) R (three .0) in
     let one = or-false P Q (two .0) in (
-      magnitude-within valuesLimit y (all .0),
-      magnitude-within (10 ^ 10) p (one .0),
-      magnitude-within (10 ^ 10) q (one .1),
-      magnitude-within (10 ^ 10) r (two .1),
-      magnitude-within (10 ^ 10) s (three .1),
+      magnitude-within valueLimit y (all .0),
+      magnitude-within delayLimit p (one .0),
+      magnitude-within delayLimit q (one .1),
+      magnitude-within delayLimit r (two .1),
+      magnitude-within delayLimit s (three .1),
     )
 
 abbrev group-words : (c : tie.Else2)
@@ -160,7 +160,7 @@ returns-3 c =
     let b = toZ-ofZ (f .1) ∙ e .1 ∙ (λ z. toB (one (back (o .1) tt z) (back (o .2) tt z) (back (o .3) tt z) (back (o .4) tt z) (back (g .0) tt z) (back (g .1) tt z) (back (g .2) tt z) (back (g .3) tt z) (back (g .4) tt z)) (pos steps) 0 (back (o .0) tt z)) in
     let t = toZ-ofZ (f .2) ∙ e .2 ∙ ap (λ (x : ℤ). pos steps *ℤ x) (back (g .3) tt) in
     let i = toZ-ofZ (f .3) ∙ e .3 ∙ ap (λ (x : ℤ). pos steps *ℤ x) (back (g .2) tt) in
-    (λ z. Block.Values (a z) (b z) (t z) (i z))
+    (λ z. BlockValues.Values (a z) (b z) (t z) (i z))
     ∙ accepted-is _ _ _ _ _ _ _ _ _ _ (group-left (l .before .before .before)) (others-left l)
 
 pub correct-block-spec : {M : Type 1} → statement M

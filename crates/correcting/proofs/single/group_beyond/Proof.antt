@@ -2,11 +2,10 @@
 -- Assumes nothing.
 use mathlib.Core.Bool.{false}
 use mathlib.Core.Path.{_≡_, sym, _∙_}
-use Prim.Native.Nat.{_^_}
 use mir.Facts.{toZ-ofZ}
-use Rattle.limits.specs.Limits.{beyond}
-use borrow.Author.Needs.{needs}
 use Rattle.correcting.specs.Correct.{geometryLimit}
+use Rattle.limits.specs.Limits.{beyond, delayLimit}
+use borrow.Author.Needs.{needs}
 use Rattle.correcting.proofs.single.group_beyond.Statement.{statement}
 use Rattle.correcting.proofs.single.group_beyond.Tie as tie
 
@@ -17,25 +16,25 @@ is-1 c = simp (toZ-ofZ (c .before .fits .geometry)) at (c .outside .ensures)
 left-1 : (c : tie.Else1) → beyond geometryLimit (c .before .before .args .geometry) ≡ false
 left-1 c = sym (is-1 (c .before)) ∙ c .if1 .left
 
-is-2 : (c : tie.After-outside2) → c .outside2 .result ≡ beyond (10 ^ 10) (c .before .before .before .args .relativity)
+is-2 : (c : tie.After-outside2) → c .outside2 .result ≡ beyond delayLimit (c .before .before .before .args .relativity)
 is-2 c = simp (toZ-ofZ (c .before .before .before .fits .relativity)) at (c .outside2 .ensures)
 
-left-2 : (c : tie.Else2) → beyond (10 ^ 10) (c .before .before .before .before .args .relativity) ≡ false
+left-2 : (c : tie.Else2) → beyond delayLimit (c .before .before .before .before .args .relativity) ≡ false
 left-2 c = sym (is-2 (c .before)) ∙ c .if2 .left
 
-is-3 : (c : tie.After-outside3) → c .outside3 .result ≡ beyond (10 ^ 10) (c .before .before .before .before .before .args .ionosphere)
+is-3 : (c : tie.After-outside3) → c .outside3 .result ≡ beyond delayLimit (c .before .before .before .before .before .args .ionosphere)
 is-3 c = simp (toZ-ofZ (c .before .before .before .before .before .fits .ionosphere)) at (c .outside3 .ensures)
 
-left-3 : (c : tie.Else3) → beyond (10 ^ 10) (c .before .before .before .before .before .before .args .ionosphere) ≡ false
+left-3 : (c : tie.Else3) → beyond delayLimit (c .before .before .before .before .before .before .args .ionosphere) ≡ false
 left-3 c = sym (is-3 (c .before)) ∙ c .if3 .left
 
-is-4 : (c : tie.After-outside4) → c .outside4 .result ≡ beyond (10 ^ 10) (c .before .before .before .before .before .before .before .args .troposphere)
+is-4 : (c : tie.After-outside4) → c .outside4 .result ≡ beyond delayLimit (c .before .before .before .before .before .before .before .args .troposphere)
 is-4 c = simp (toZ-ofZ (c .before .before .before .before .before .before .before .fits .troposphere)) at (c .outside4 .ensures)
 
-left-4 : (c : tie.Else4) → beyond (10 ^ 10) (c .before .before .before .before .before .before .before .before .args .troposphere) ≡ false
+left-4 : (c : tie.Else4) → beyond delayLimit (c .before .before .before .before .before .before .before .before .args .troposphere) ≡ false
 left-4 c = sym (is-4 (c .before)) ∙ c .if4 .left
 
-is-5 : (c : tie.After-outside5) → c .outside5 .result ≡ beyond (10 ^ 10) (c .before .before .before .before .before .before .before .before .before .args .clock)
+is-5 : (c : tie.After-outside5) → c .outside5 .result ≡ beyond delayLimit (c .before .before .before .before .before .before .before .before .before .args .clock)
 is-5 c = simp (toZ-ofZ (c .before .before .before .before .before .before .before .before .before .fits .clock)) at (c .outside5 .ensures)
 
 outside-requires : tie.Need-outside-requires

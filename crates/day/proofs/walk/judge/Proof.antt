@@ -1,14 +1,14 @@
 -- `day::walk::judge` meets its contract: the verdict stays what it was.
 -- Assumes nothing.
 use mathlib.Core.Path.{_≡_, refl, sym, _∙_}
-use Prim.Native.Nat.{ℕ, _-_, _<_}
+use Prim.Native.Nat.{_-_, _<_}
 use native.Mathlib.Omega.{arith}
 use lib.ListN.{length}
 use borrow.Author.Tests.{ltb-true, eqb-true}
 use Rattle.limits.proofs.Laws.{both}
 use Rattle.linefile.specs.Files.{endedLength}
 use Rattle.day.specs.Walk.{Within, verdict}
-use Rattle.day.proofs.Walking.{ahead, Stepped, stepped, verdict-end}
+use Rattle.day.proofs.Walking.{later, ahead, Stepped, stepped, verdict-end}
 use Rattle.day.proofs.walk.judge.Statement.{statement}
 use Rattle.day.proofs.walk.judge.Tie as tie
 
@@ -28,13 +28,9 @@ sub-if1 c = c .before .before .loop .inv .0 .inside
 slice-aggregate-step : tie.Need-slice-aggregate-step Inv-loop μ-loop
 slice-aggregate-step c = sym (c .before .before .before .before .loop .inv .2)
 
--- bytes are left
-later : {k m n : ℕ} → k < m - n → n < m
-later h = omega arith
-
 -- what the loop's test tells
 turn : (c : tie.Then1 Inv-loop μ-loop)
-    → (c .before .before .before .loop .state .number ≡ 0)
+    → (c .before .before .before .loop .state .refusal ≡ 0)
     × (c .before .before .before .loop .state .at < length (c .before .before .before .before .before .args .blocks .now))
 turn c = let t = both _ _ (c .if1 .taken) in (eqb-true _ 0 (t .0), later (ltb-true _ _ (t .1)))
 

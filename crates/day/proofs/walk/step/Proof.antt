@@ -51,7 +51,7 @@ returns c =
     let n = j .before .before .before in
     let a = n .before .before .before .before .before .args in
     let number = j .judge-block .ensures .0 ∙ ap (numberBehind (lastKeys (a .from .count) (a .from .last))) (part-is n) in (
-      ap (λ (k : ℕ). record { at = a .from .at; count = a .from .count; number = k; last = a .from .last }) number
+      ap (λ (k : ℕ). record { at = a .from .at; count = a .from .count; refusal = k; last = a .from .last }) number
           ∙ sym (next-refused (a .blocks .now) (a .from) (λ z. c .if1 .taken (number ∙ z))),
       (λ z. absurd (c .if1 .taken z), j .judge-block .ensures .1 .1),
     )
@@ -78,7 +78,7 @@ returns-2 c =
     sym (length-take-le (n .own-length .result) (take (length (a .blocks .now) - a .from .at) (drop (a .from .at) (a .blocks .now))) (n .own-length .ensures .0))
     ∙ ap length (part-is n) in
     let labels = c .labels .ensures ∙ ap blockLabels (part-is n) in (
-      (λ i. record { at = a .from .at + long i; count = a .from .count + 1; number = 0; last = labels i })
+      (λ i. record { at = a .from .at + long i; count = a .from .count + 1; refusal = 0; last = labels i })
           ∙ sym (next-passed (a .blocks .now) (a .from) (sym number ∙ c .before .if1 .left)),
       (
         λ z. j .judge-block .ensures .1 .0 (c .before .if1 .left) ∙ ap (λ (b : List ℕ). blockLine b ++ drop lineLength (a .lent .now)) (part-is n),

@@ -8,17 +8,17 @@ use lib.ListN.{length, drop}
 use borrow.Author.Needs.{needs}
 use borrow.Author.Tests.{ltb-true, eqb-true}
 use Rattle.limits.proofs.Laws.{both}
-use Rattle.columns.specs.Text.{lineLength}
+use Rattle.columns.specs.Text.{lineLength, lineEnd}
 use Rattle.line.specs.Block.{blockLine}
 use Rattle.linefile.specs.Files.{endedLength}
 use Rattle.day.specs.Walk.{nextBlock, Wrote}
-use Rattle.day.proofs.Walking.{ahead, Stepped, stepped, wrote-none, wrote-on}
+use Rattle.day.proofs.Walking.{later, ahead, Stepped, stepped, wrote-none, wrote-on}
 use Rattle.day.proofs.walk.write.Statement.{statement}
 use Rattle.day.proofs.walk.write.Tie as tie
 
 abbrev Inv-loop : tie.InvT-loop
 Inv-loop blocks file₀ room line₀ state₀ file line state =
-    Wrote blocks state₀ state file₀ file × (length file ≡ length file₀) × (length line ≡ endedLength) × (drop lineLength line ≡ 13 ∷ 10 ∷ [])
+    Wrote blocks state₀ state file₀ file × (length file ≡ length file₀) × (length line ≡ endedLength) × (drop lineLength line ≡ lineEnd)
 
 abbrev μ-loop : tie.MeasureT-loop
 μ-loop blocks file₀ room line₀ state₀ file line state = ahead blocks state
@@ -44,14 +44,10 @@ place h e = omega arith
 room-left : {k r m : ℕ} → k < m / endedLength → r ≤ k + 1 → endedLength * r ≤ m
 room-left h e = omega arith
 
--- bytes are left
-later : {k m n : ℕ} → k < m - n → n < m
-later h = omega arith
-
 -- what the loop's test tells
 turn : (c : tie.Then1 Inv-loop μ-loop)
     → let l = c .before .before .before .before in
-    (l .loop .state .number ≡ 0)
+    (l .loop .state .refusal ≡ 0)
     × (l .loop .state .at < length (l .before .before .before .args .blocks .now))
     × (l .loop .state .count < length (l .before .before .before .args .file .now) / endedLength)
 turn c =

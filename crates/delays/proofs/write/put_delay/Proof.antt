@@ -1,6 +1,6 @@
 -- `delays::write::put_delay` meets its contract: the bytes are those of the pattern.
 -- Assumes nothing.
-use Rattle.encode.specs.Encode.{bytesOf, patternOf}
+use Rattle.encode.specs.Encode.{littleBytes, patternOf}
 use Rattle.lent.specs.Placed.{placed}
 use mir.Facts.{toZ-ofZ}
 use Prim.Native.Nat.{ℕ}
@@ -21,7 +21,7 @@ same-length c = search needs
 returns : tie.Need-returns
 returns c = let a = c .before .before .before .before .before .before in
     c .before .before .put-number .ensures
-    ∙ ap (λ (n : ℕ). placed (a .args .file .now) (a .args .at) (bytesOf 8 n)) (c .before .before .before .before .pattern .ensures ∙ ap patternOf (toZ-ofZ (a .fits .value)))
+    ∙ ap (λ (n : ℕ). placed (a .args .file .now) (a .args .at) (littleBytes 8 n)) (c .before .before .before .before .pattern .ensures ∙ ap patternOf (toZ-ofZ (a .fits .value)))
 
 pub put-delay-spec : {M : Type 1} → statement M
 put-delay-spec = tie.close (tie.spec pattern-requires put-number-requires same-length returns)

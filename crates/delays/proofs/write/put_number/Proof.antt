@@ -1,7 +1,7 @@
 -- `delays::write::put_number` meets its contract: the part is filled.
 -- Assumes nothing.
 use Rattle.encode.proofs.Bytes.{length-bytes}
-use Rattle.encode.specs.Encode.{bytesOf}
+use Rattle.encode.specs.Encode.{littleBytes}
 use Rattle.lent.proofs.Placing.{filled}
 use Prim.Native.Nat.{ℕ}
 use borrow.Author.Needs.{needs}
@@ -28,7 +28,7 @@ same-length c = search needs
 
 returns : tie.Need-returns
 returns c = let a = c .before .before .before .before .before in
-    filled (λ (w : ℕ). bytesOf w (a .args .value)) (λ w. length-bytes w (a .args .value)) (a .args .file .now) _ (a .args .at) (a .args .width) (a .pre) (c .before .before .unsigned .ensures)
+    filled (λ (w : ℕ). littleBytes w (a .args .value)) (λ w. length-bytes w (a .args .value)) (a .args .file .now) _ (a .args .at) (a .args .width) (a .pre) (c .before .before .unsigned .ensures)
 
 pub put-number-spec : {M : Type 1} → statement M
 put-number-spec =

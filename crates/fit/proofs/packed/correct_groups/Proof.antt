@@ -18,13 +18,14 @@ use Rattle.limits.specs.Limits.{beyond, delaysBeyond}
 use Rattle.limits.specs.Refusal.{_when_}
 use Rattle.limits.proofs.Laws.{within-magnitude}
 use Rattle.limits.proofs.Lists.{within-limit}
-use Rattle.series.specs.Fit.{valuesLimit}
+use Rattle.series.specs.Fit.{valueLimit}
 use Rattle.decode.specs.Number.{signedAt}
 use Rattle.decode.proofs.Signeds.{length-signeds}
-use Rattle.exact.specs.Corrected.{Given, at, steps, toA, toB}
+use Rattle.whole.specs.Table.{at}
+use Rattle.exact.specs.Corrected.{Given, steps, toA, toB}
 use Rattle.correcting.specs.Answer.{filled, othersBeyond}
-use Rattle.correcting.specs.Block.{groupBeyond, blockNumber, blockRule}
-use Rattle.correcting.specs.declared.Block.{Block}
+use Rattle.correcting.specs.Block.{groupBeyond, blockValuesNumber, blockValuesRule}
+use Rattle.correcting.specs.declared.BlockValues.{BlockValues}
 use Rattle.correcting.proofs.Arrays.{filled-none, filled-more}
 use Rattle.correcting.proofs.Columns.{From, from-row, from-none}
 use Rattle.correcting.proofs.Groups.{group-refused, group-values}
@@ -133,7 +134,7 @@ group-is : (c : tie.After-correct-group Inv-loop μ-loop)
     let t = g s in
     let j = n .loop .j in
     c .correct-group .result
-    ≡ blockRule (at (a .smoothed .now) j) (a .int) (a .cab) (a .refdly) (a .gd) (at (t .geometry) j) (at (t .relativity) j) (at (t .ionosphere) j)
+    ≡ blockValuesRule (at (a .smoothed .now) j) (a .int) (a .cab) (a .refdly) (a .gd) (at (t .geometry) j) (at (t .relativity) j) (at (t .ionosphere) j)
     (at (t .troposphere) j) (at (t .clock) j)
 group-is c =
     let n = at-group c in
@@ -147,18 +148,18 @@ group-is c =
     let fits = s .pre .1 in
     let h = in-group c in
     subst (λ (m : ℕ). c .correct-group .result
-    ≡ blockRule (toZ w64 (ofZ w64 (at (a .smoothed .now) j))) (toZ w64 (ofZ w64 (a .int))) (toZ w64 (ofZ w64 (a .cab))) (toZ w64 (ofZ w64 (a .refdly)))
+    ≡ blockValuesRule (toZ w64 (ofZ w64 (at (a .smoothed .now) j))) (toZ w64 (ofZ w64 (a .int))) (toZ w64 (ofZ w64 (a .cab))) (toZ w64 (ofZ w64 (a .refdly)))
     (toZ w64 (ofZ w64 (a .gd))) (signedAt (take m (drop (40 * j) k)) 0) (signedAt (take m (drop (40 * j) k)) 8) (signedAt (take m (drop (40 * j) k)) 16)
     (signedAt (take m (drop (40 * j) k)) 24) (signedAt (take m (drop (40 * j) k)) 32)) e (c .correct-group .ensures)
-    ∙ (λ z. blockRule (back-of {z = at (a .smoothed .now) j} (c .before .correct-group-arg2 .given) z) (toZ-ofZ (f .int) z) (toZ-ofZ (f .cab) z) (toZ-ofZ (f .refdly) z) (toZ-ofZ (f .gd) z)
+    ∙ (λ z. blockValuesRule (back-of {z = at (a .smoothed .now) j} (c .before .correct-group-arg2 .given) z) (toZ-ofZ (f .int) z) (toZ-ofZ (f .cab) z) (toZ-ofZ (f .refdly) z) (toZ-ofZ (f .gd) z)
     (read 0 fits h (lit≤ tt) z) (read 8 fits h (lit≤ tt) z) (read 16 fits h (lit≤ tt) z) (read 24 fits h (lit≤ tt) z) (read 32 fits h (lit≤ tt) z))
 
 -- the smoothed value is inside
-inside : (c : tie.After-correct-group Inv-loop μ-loop) → let n = at-group c in beyond valuesLimit (at (start n .args .smoothed .now) (n .loop .j)) ≡ false
+inside : (c : tie.After-correct-group Inv-loop μ-loop) → let n = at-group c in beyond valueLimit (at (start n .args .smoothed .now) (n .loop .j)) ≡ false
 inside c =
     let n = at-group c in
     let s = start n in
-    within-magnitude valuesLimit _ (within-limit valuesLimit (s .args .smoothed .now) (s .pre .2) (n .loop .j))
+    within-magnitude valueLimit _ (within-limit valueLimit (s .args .smoothed .now) (s .pre .2) (n .loop .j))
 
 -- what is left of the columns tells with this group
 row-is : (c : tie.After-correct-group Inv-loop μ-loop)
@@ -244,8 +245,8 @@ enum-known-values c = search needs
 enum-told : tie.Need-enum-told Inv-loop μ-loop
 enum-told c = search needs
 
-block-number-requires : tie.Need-block-number-requires Inv-loop μ-loop
-block-number-requires c κs = search needs
+block-values-number-requires : tie.Need-block-values-number-requires Inv-loop μ-loop
+block-values-number-requires c κs = search needs
 
 returns-2 : tie.Need-returns-2 Inv-loop μ-loop
 returns-2 c =
@@ -255,7 +256,7 @@ returns-2 c =
     let told = c .before .enum-told .given .1 in
     let r = group-refused _ _ _ _ _ _ _ _ _ _ (inside k) (delays-left (n .before)) (group-is k) told in
     let left : Left t 0 ≡ true = n .loop .inv .3 ∙ row-is k ∙ ap (λ (b : Bool). b || Left t (n .loop .j + 1)) (r .1) in
-    let e : c .block-number .result ≡ 2 = c .block-number .ensures ∙ ap blockNumber told ∙ r .0 in
+    let e : c .block-values-number .result ≡ 2 = c .block-values-number .ensures ∙ ap blockValuesNumber told ∙ r .0 in
     (e ∙ two (others-by t true false left (delays-left (n .before))), λ z. absurd (omega (arith, z, e)))
 
 put-requires : tie.Need-put-requires Inv-loop μ-loop
@@ -327,7 +328,7 @@ correct-groups-spec =
     correct-group-requires
     enum-known-values
     enum-told
-    block-number-requires
+    block-values-number-requires
     returns-2
     put-requires
     add-j

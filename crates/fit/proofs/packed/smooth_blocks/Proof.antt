@@ -4,7 +4,7 @@ use borrow.Author.Needs.{needs}
 use mathlib.Core.Path.{_≡_, refl, sym, ap, _∙_, subst}
 use mathlib.Core.Bool.{false}
 use mathlib.Core.List.{List}
-use Prim.Native.Nat.{ℕ, _+_, _*_, _-_, _^_, _≤_}
+use Prim.Native.Nat.{ℕ, _+_, _*_, _-_, _≤_}
 use native.Mathlib.Nat.{le-antisymm}
 use native.Mathlib.Omega.{arith}
 use lib.IntN.{ℤ, pos, negℤ}
@@ -12,6 +12,7 @@ use lib.ListN.{length, take, drop}
 use mir.Syntax.{w64}
 use mir.Val.{toZ, ofZ}
 use Rattle.whole.specs.Words.{back-of}
+use Rattle.limits.specs.Limits.{measurementLimit}
 use Rattle.limits.specs.Lists.{anyBeyond}
 use Rattle.limits.specs.Scan.{readTo, scanRule}
 use Rattle.limits.specs.declared.Scanned.{Scanned}
@@ -70,14 +71,14 @@ numbers-are c =
 abbrev at-scan : tie.After-scan Inv-loop μ-loop → tie.At-loop Inv-loop μ-loop
 at-scan c = c .before .before .before .before .before
 
-scanned : (c : tie.After-scan Inv-loop μ-loop) → c .scan .result ≡ scanRule (negℤ (pos (10 ^ 12))) (pos (10 ^ 12)) (part (at-scan c))
-scanned c = c .scan .ensures ∙ ap (scanRule (negℤ (pos (10 ^ 12))) (pos (10 ^ 12))) (numbers-are (c .before .before))
+scanned : (c : tie.After-scan Inv-loop μ-loop) → c .scan .result ≡ scanRule (negℤ (pos measurementLimit)) (pos measurementLimit) (part (at-scan c))
+scanned c = c .scan .ensures ∙ ap (scanRule (negℤ (pos measurementLimit)) (pos measurementLimit)) (numbers-are (c .before .before))
 
-any-is : (c : tie.After-scan Inv-loop μ-loop) → c .scan .result .outside ≡ anyBeyond (10 ^ 12) (part (at-scan c))
+any-is : (c : tie.After-scan Inv-loop μ-loop) → c .scan .result .outside ≡ anyBeyond measurementLimit (part (at-scan c))
 unfolding scanRule
 any-is c = ap (λ (s : Scanned). s .outside) (scanned c)
 
-read-is : (c : tie.After-scan Inv-loop μ-loop) → c .scan .result .read ≡ readTo (negℤ (pos (10 ^ 12))) (pos (10 ^ 12)) (part (at-scan c))
+read-is : (c : tie.After-scan Inv-loop μ-loop) → c .scan .result .read ≡ readTo (negℤ (pos measurementLimit)) (pos measurementLimit) (part (at-scan c))
 unfolding scanRule
 read-is c = ap (λ (s : Scanned). s .read) (scanned c)
 
@@ -88,7 +89,7 @@ read-most c = subst (λ (k : ℕ). k ≤ 15) (sym (read-is c)) (part-most (list 
 abbrev at-else : tie.Else1 Inv-loop μ-loop → tie.At-loop Inv-loop μ-loop
 at-else c = at-scan (c .before .before)
 
-inside : (c : tie.Else1 Inv-loop μ-loop) → anyBeyond (10 ^ 12) (part (at-else c)) ≡ false
+inside : (c : tie.Else1 Inv-loop μ-loop) → anyBeyond measurementLimit (part (at-else c)) ≡ false
 inside c = sym (any-is (c .before .before)) ∙ c .if1 .left
 
 room-else : (c : tie.Else1 Inv-loop μ-loop) → 15 * at-else c .loop .j + 15 ≤ length (list (at-else c))

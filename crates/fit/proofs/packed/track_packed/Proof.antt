@@ -5,23 +5,25 @@ use borrow.Author.Tests.{ne-eqb}
 use mathlib.Core.Path.{_≡_, refl, sym, ap, ap₂, _∙_, subst}
 use mathlib.Core.Bool.{Bool, true, false, not, _||_}
 use mathlib.Core.List.{List, []}
-use Prim.Native.Nat.{ℕ, _*_, _/_, _^_, _≤_, _<_}
+use Prim.Native.Nat.{ℕ, _*_, _/_, _≤_, _<_}
 use native.Mathlib.Omega.{arith}
 use lib.IntN.{ℤ, pos}
 use lib.ListN.{length, replicate}
 use mir.Syntax.{w64}
 use mir.Val.{toZ, ofZ}
 use mir.Facts.{toZ-ofZ}
+use Rattle.limits.specs.Limits.{measurementLimit}
 use Rattle.limits.specs.Blocks.{blocksFit}
 use Rattle.limits.specs.Lists.{anyBeyond}
 use Rattle.limits.specs.Refusal.{_when_}
 use Rattle.limits.proofs.Blocks.{blocks-within}
 use Rattle.limits.proofs.Laws.{when-zero}
-use Rattle.series.specs.Fit.{valuesLimit}
+use Rattle.series.specs.Fit.{valueLimit}
 use Rattle.decode.specs.Number.{signedsAt}
 use Rattle.decode.proofs.Signeds.{length-signeds}
 use Rattle.exact.specs.Accurate.{AccurateTrack}
-use Rattle.exact.specs.Corrected.{Given, at, steps, toA, toB}
+use Rattle.whole.specs.Table.{at}
+use Rattle.exact.specs.Corrected.{Given, steps, toA, toB}
 use Rattle.correcting.specs.Correct.{places, valueA, valueB, valueC, valueD, wrongSizes, outOfLimits}
 use Rattle.correcting.specs.Answer.{correctedNumber, filled, othersBeyond}
 use Rattle.correcting.proofs.Arrays.{places-length}
@@ -99,7 +101,7 @@ same s =
     λ z. grouped (n s) [] (i z) (k z) (r z) (d z) (a .corrections .now)
 
 -- what 2 says, by its parts
-limits-by : (c : tie.Else2) (p q : Bool) → anyBeyond (10 ^ 12) (list (start c)) ≡ p → othersBeyond (others (start c)) ≡ q → outOfLimits (g (start c)) ≡ p || q
+limits-by : (c : tie.Else2) (p q : Bool) → anyBeyond measurementLimit (list (start c)) ≡ p → othersBeyond (others (start c)) ≡ q → outOfLimits (g (start c)) ≡ p || q
 limits-by c p q e f =
     let a = start c .args in
     limits-are (a .measurements .now) (a .corrections .now) (a .int) (a .cab) (a .refdly) (a .gd) (fit (c .before)) (count c) ∙ ap₂ _||_ e f
@@ -108,7 +110,7 @@ limits-by c p q e f =
 abbrev smoothed-told : tie.After-enum-told → tie.After-smooth-blocks
 smoothed-told c = c .before .before
 
-inside : (c : tie.After-enum-told) → anyBeyond (10 ^ 12) (list (smooth-start (smoothed-told c))) ≡ false
+inside : (c : tie.After-enum-told) → anyBeyond measurementLimit (list (smooth-start (smoothed-told c))) ≡ false
 inside c =
     let k = smoothed-told c in
     blocks-values (list (smooth-start k)) (k .smooth-blocks .ensures .0) (c .enum-told .given .1)
@@ -263,10 +265,10 @@ ten-numbers-requires c κs =
       (
         (long t _ (a-is t), long t _ (b-is t), long t _ (c-is t), long t _ (d-is t)),
         (
-          ap (anyBeyond valuesLimit) (a-is t) ∙ i .in-a,
-          ap (anyBeyond valuesLimit) (b-is t) ∙ i .in-b,
-          ap (anyBeyond valuesLimit) (c-is t) ∙ i .in-c,
-          ap (anyBeyond valuesLimit) (d-is t) ∙ i .in-d,
+          ap (anyBeyond valueLimit) (a-is t) ∙ i .in-a,
+          ap (anyBeyond valueLimit) (b-is t) ∙ i .in-b,
+          ap (anyBeyond valueLimit) (c-is t) ∙ i .in-c,
+          ap (anyBeyond valueLimit) (d-is t) ∙ i .in-d,
         ),
       ),
     )

@@ -9,7 +9,7 @@ use mir.Syntax.{w64}
 use mir.Val.{toZ, ofZ}
 use Rattle.whole.specs.Words.{count, count-read, fits, plain-is, back-of}
 use Rattle.limits.specs.declared.Numbers.{Numbers}
-use Rattle.limits.specs.Limits.{limitsRule, dsgRule}
+use Rattle.limits.specs.Limits.{limitsNumber, dsgNumber}
 use Rattle.limits.specs.Refusal.{_then_}
 use Rattle.limits.specs.Reply.{Reply, reply}
 use Rattle.limits.proofs.Laws.{then-refused, then-passed}
@@ -18,7 +18,7 @@ use Rattle.series.specs.declared.Scattered.{Scattered}
 use Rattle.series.specs.Answers.{scatterReply, scatterNumbered}
 use Rattle.fit.specs.declared.Found.{Found}
 use Rattle.fit.specs.declared.TrackRecord.{TrackRecord}
-use Rattle.fit.specs.Track.{recordOf, numbersWith, numbersRule}
+use Rattle.fit.specs.Track.{recordOf, numbersWith, recordNumber}
 use Rattle.fit.specs.Found.{found, judgedOf}
 use Rattle.fit.proofs.Tracks.{fit-never, line-numbers}
 use Rattle.fit.proofs.results.ten_numbers.Statement.{statement}
@@ -44,12 +44,12 @@ start-d c = start-c (c .before .before .before .before)
 abbrev start : tie.After-known-told4 → tie.Start
 start c = start-d (c .before .before .before)
 
-refuse : (r : TrackRecord) (number : ℕ) → 0 < number → numbersRule r ≡ number → Found.Refused number ≡ judgedOf r
+refuse : (r : TrackRecord) (number : ℕ) → 0 < number → recordNumber r ≡ number → Found.Refused number ≡ judgedOf r
 unfolding judgedOf found
 refuse r zero h e = absurd (omega (arith, h))
 refuse r (suc number) h e = sym (ap (λ (k : ℕ). found k (r .numbers)) e)
 
-accept : (r : TrackRecord) → numbersRule r ≡ 0 → Found.Ten (r .numbers) ≡ judgedOf r
+accept : (r : TrackRecord) → recordNumber r ≡ 0 → Found.Ten (r .numbers) ≡ judgedOf r
 unfolding judgedOf found
 accept r e = sym (ap (λ (k : ℕ). found k (r .numbers)) e)
 
@@ -102,32 +102,32 @@ numbers-are c dsg =
     }
 
 -- the limits do not ask for DSG
-limit-is : (c : tie.After-limits) → c .limits .result ≡ limitsRule (t (start (c .before)) .numbers)
-unfolding limitsRule recordOf numbersWith
-limit-is c = c .limits .ensures ∙ ap limitsRule (numbers-are (c .before) (pos 0))
+limit-is : (c : tie.After-limits) → c .limits .result ≡ limitsNumber (t (start (c .before)) .numbers)
+unfolding limitsNumber recordOf numbersWith
+limit-is c = c .limits .ensures ∙ ap limitsNumber (numbers-are (c .before) (pos 0))
 
 -- the first refusal of the numbers: from 3 to 5, or else 6
-from-limits : (c : tie.After-limits) → 0 < c .limits .result → numbersRule (t (start (c .before))) ≡ c .limits .result
-unfolding numbersRule
-from-limits c h = ap (λ (k : ℕ). k then dsgRule (t (start (c .before)) .numbers .dsg)) (sym (limit-is c)) ∙ then-refused _ _ h
+from-limits : (c : tie.After-limits) → 0 < c .limits .result → recordNumber (t (start (c .before))) ≡ c .limits .result
+unfolding recordNumber
+from-limits c h = ap (λ (k : ℕ). k then dsgNumber (t (start (c .before)) .numbers .dsg)) (sym (limit-is c)) ∙ then-refused _ _ h
 
-from-scatter : (c : tie.Else1) → numbersRule (t (start (c .before .before))) ≡ dsgRule (t (start (c .before .before)) .numbers .dsg)
-unfolding numbersRule
+from-scatter : (c : tie.Else1) → recordNumber (t (start (c .before .before))) ≡ dsgNumber (t (start (c .before .before)) .numbers .dsg)
+unfolding recordNumber
 from-scatter c = then-passed _ _ (sym (limit-is (c .before)) ∙ c .if1 .left)
 
 -- what Scatter replies
 sigma : (c : tie.After-scatter-blocks)
-    → let d = t (start (c .before .before .before)) .numbers .dsg in scatterReply (c .scatter-blocks .result) ≡ reply (pos 0) (dsgRule d) d
+    → let d = t (start (c .before .before .before)) .numbers .dsg in scatterReply (c .scatter-blocks .result) ≡ reply (pos 0) (dsgNumber d) d
 unfolding recordOf numbersWith
 sigma c = c .scatter-blocks .ensures .0
 
 -- where Scatter accepts, its value is the record's DSG
 sigma-is : (c : tie.After-known-told5)
-    → let d = t (start (c .before .before .before .before .before .before)) .numbers .dsg in (dsgRule d ≡ 0) × (c .before .answer .given .0 .0 ≡ d)
+    → let d = t (start (c .before .before .before .before .before .before)) .numbers .dsg in (dsgNumber d ≡ 0) × (c .before .answer .given .0 .0 ≡ d)
 sigma-is c =
     let w = c .before .before .before in
     let d = t (start (w .before .before .before)) .numbers .dsg in
-    reply-values (pos 0) d (dsgRule d) (sym (ap scatterReply (c .before .answer .given .1)) ∙ sigma w)
+    reply-values (pos 0) d (dsgNumber d) (sym (ap scatterReply (c .before .answer .given .1)) ∙ sigma w)
 
 ten-are : (c : tie.After-known-told5) → put (c .before .before .before .before .before .before) (toZ w64 (ofZ w64 (c .before .answer .given .0 .0))) ≡ t (start (c .before .before .before .before .before .before)) .numbers
 unfolding recordOf numbersWith

@@ -20,11 +20,8 @@ mul-mjd-2 c = search needs
 add-mjd : tie.Need-add-mjd
 add-mjd c = search needs
 
-shared-slice-read-wide : tie.Need-shared-slice-read-wide
-shared-slice-read-wide c = search needs
-
-wide-requires : tie.Need-wide-requires
-wide-requires c κs = search needs
+byte-at-requires : tie.Need-byte-at-requires
+byte-at-requires c κs = search needs
 
 add-mjd-2 : tie.Need-add-mjd-2
 add-mjd-2 c = search needs
@@ -50,11 +47,8 @@ two-digits-requires-5 c κs = search needs
 add-start-2 : tie.Need-add-start-2
 add-start-2 c = search needs
 
-shared-slice-read-wide-2 : tie.Need-shared-slice-read-wide-2
-shared-slice-read-wide-2 c = search needs
-
-wide-requires-2 : tie.Need-wide-requires-2
-wide-requires-2 c κs = search needs
+byte-at-requires-2 : tie.Need-byte-at-requires-2
+byte-at-requires-2 c κs = search needs
 
 two-digits-requires-6 : tie.Need-two-digits-requires-6
 two-digits-requires-6 c κs = search needs
@@ -90,8 +84,7 @@ rank-spec =
     two-digits-requires-2
     mul-mjd-2
     add-mjd
-    shared-slice-read-wide
-    wide-requires
+    byte-at-requires
     add-mjd-2
     two-digits-requires-3
     mul-start
@@ -100,8 +93,7 @@ rank-spec =
     add-start
     two-digits-requires-5
     add-start-2
-    shared-slice-read-wide-2
-    wide-requires-2
+    byte-at-requires-2
     two-digits-requires-6
     mul-result
     add-result

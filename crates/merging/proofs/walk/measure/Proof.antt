@@ -9,10 +9,8 @@ use borrow.Author.Needs.{needs}
 use Rattle.linefile.specs.Files.{endedLength, lines}
 use Rattle.linefile.specs.Partners.{partners}
 use Rattle.merging.specs.Merge.{anyDiffer, merged}
-use Rattle.linefile.proofs.Lines.{length-lines, line-file}
+use Rattle.linefile.proofs.Lines.{length-lines, line-file, lines-left}
 use Rattle.merging.proofs.Walking.{Walked, walked, found-more, count-more, end-length, end-differ, length-merged}
-use Rattle.limits.proofs.Laws.{both}
-use borrow.Author.Tests.{ltb-true}
 use native.Mathlib.Nat.{zero-add}
 use Rattle.merging.proofs.walk.measure.Statement.{statement}
 use Rattle.merging.proofs.walk.measure.Tie as tie
@@ -32,7 +30,7 @@ abbrev μ-loop : tie.MeasureT-loop
 turn : (c : tie.In-loop Inv-loop μ-loop)
     → (c .before .loop .m < length (c .before .before .before .before .args .first .now) / endedLength)
     × (c .before .loop .n < length (c .before .before .before .before .args .second .now) / endedLength)
-turn c = let t = both _ _ (c .loop-test .taken) in (ltb-true _ _ (t .0), ltb-true _ _ (t .1))
+turn c = lines-left _ _ _ _ (c .loop-test .taken)
 
 loop-holds : tie.Need-loop-holds Inv-loop μ-loop
 loop-holds c = (omega arith, omega arith, omega arith, refl, sym (zero-add _))

@@ -7,11 +7,9 @@ use mathlib.Core.List.{_++_}
 use lib.ListN.{length, drop, length-append, length-drop}
 use Rattle.lent.specs.Placed.{placed}
 use borrow.Author.Needs.{needs}
-use borrow.Author.Tests.{ltb-true}
-use Rattle.limits.proofs.Laws.{both}
 use Rattle.linefile.specs.Files.{endedLength, lines, joined}
 use Rattle.merging.specs.Merge.{merged, mergedFile}
-use Rattle.linefile.proofs.Lines.{length-lines, lines-long, line-file}
+use Rattle.linefile.proofs.Lines.{length-lines, lines-long, line-file, lines-left}
 use Rattle.lent.proofs.Written.{Written, nothing-written, room, more-written, rests-written}
 use Rattle.merging.proofs.Walking.{Walked, walked, line-room, line-written, end-text}
 use Rattle.merging.proofs.walk.write.Statement.{statement}
@@ -30,7 +28,7 @@ abbrev μ-loop : tie.MeasureT-loop
 turn : (c : tie.In-loop Inv-loop μ-loop)
     → (c .before .loop .m < length (c .before .before .before .before .before .args .first .now) / endedLength)
     × (c .before .loop .n < length (c .before .before .before .before .before .args .second .now) / endedLength)
-turn c = let t = both _ _ (c .loop-test .taken) in (ltb-true _ _ (t .0), ltb-true _ _ (t .1))
+turn c = lines-left _ _ _ _ (c .loop-test .taken)
 
 -- the step that is made
 next : (c : tie.After-step Inv-loop μ-loop)

@@ -10,10 +10,11 @@ use lib.ListN.{length, drop, getD}
 use lib.Seq.{getD-take, getD-drop}
 use Rattle.fields.specs.Read.{readDigit, readHexadecimal}
 use Rattle.columns.specs.Columns.{field}
+use Rattle.fields.proofs.Hexadecimals.{hex-below}
 use Rattle.characters.specs.Kinds.{allows}
+use Rattle.characters.proofs.Allowed.{hex-range}
 use Rattle.reading.specs.Fields.{hexDigits}
 use Rattle.reading.proofs.Columns.{holds-at, holds-length}
-use Rattle.reading.proofs.Hexadecimals.{hex-below}
 use Rattle.reading.proofs.values.class.Statement.{statement}
 use Rattle.reading.proofs.values.class.Tie as tie
 
@@ -32,7 +33,7 @@ hex-value-requires : tie.Need-hex-value-requires
 hex-value-requires c κs = both (c .before .before) .0
 
 mul-result : tie.Need-mul-result
-mul-result c = omega (arith, c .hex-value .ensures, hex-below (getD (c .before .before .before .args .line .now) 4 0) (both (c .before .before .before) .0))
+mul-result c = omega (arith, c .hex-value .ensures, hex-below (getD (c .before .before .before .args .line .now) 4 0) (hex-range _ (both (c .before .before .before) .0)))
 
 shared-slice-read-hex-value-2 : tie.Need-shared-slice-read-hex-value-2
 shared-slice-read-hex-value-2 c = long (c .before .before .before .before) .1
@@ -45,7 +46,7 @@ add-result c =
     let f = c .before .before in
     let s = f .before .before in
     let l = s .before .args .line .now in
-    omega (arith, f .hex-value .ensures, c .hex-value2 .ensures, hex-below (getD l 4 0) (both (s .before) .0), hex-below (getD l 5 0) (both (s .before) .1))
+    omega (arith, f .hex-value .ensures, c .hex-value2 .ensures, hex-below (getD l 4 0) (hex-range _ (both (s .before) .0)), hex-below (getD l 5 0) (hex-range _ (both (s .before) .1)))
 
 returns : tie.Need-returns
 unfolding readHexadecimal field

@@ -5,13 +5,14 @@ use Prim.Native.Nat.{_-_, _^_, _≤_, _<_}
 use native.Mathlib.Omega.{arith}
 use lib.ListN.{length, drop, getD, drop-of-length-le}
 use borrow.Author.Needs.{needs}
-use Rattle.fields.specs.Read.{digitsAfter, readDecimal}
-use Rattle.reading.proofs.Decimals.{digit-at, room, value-turn, after-turn}
+use Rattle.fields.specs.Read.{digitsFrom, readDecimal}
+use Rattle.fields.proofs.Decimals.{room, value-turn, after-turn}
+use Rattle.reading.proofs.Columns.{digit-at}
 use Rattle.reading.proofs.values.digits.Statement.{statement}
 use Rattle.reading.proofs.values.digits.Tie as tie
 
 abbrev Inv-loop : tie.InvT-loop
-Inv-loop text value₀ i₀ i-end value i = (i ≤ length text) × (digitsAfter value (drop i text) ≡ readDecimal text) × (value < 10 ^ i)
+Inv-loop text value₀ i₀ i-end value i = (i ≤ length text) × (digitsFrom value (drop i text) ≡ readDecimal text) × (value < 10 ^ i)
 
 abbrev μ-loop : tie.MeasureT-loop
 μ-loop text value₀ i₀ i-end value i = length text - i
@@ -62,11 +63,11 @@ loop-again c =
     )
 
 returns : tie.Need-returns Inv-loop μ-loop
-unfolding digitsAfter
+unfolding digitsFrom
 returns c =
     let l = c .before .loop in
     let text = c .before .before .args .text .now in
-    sym (ap (digitsAfter (l .value)) (drop-of-length-le text {i = l .i} (search needs))) ∙ l .inv .1
+    sym (ap (digitsFrom (l .value)) (drop-of-length-le text {i = l .i} (search needs))) ∙ l .inv .1
 
 pub digits-spec : {M : Type 1} → statement M
 digits-spec =

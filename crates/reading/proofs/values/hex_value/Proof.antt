@@ -1,7 +1,8 @@
 -- `reading::values::hex_value` meets its contract: a letter stands for ten and above.
 -- Assumes nothing.
 use mathlib.Core.Path.{sym}
-use Rattle.reading.proofs.Hexadecimals.{hex-least, letter-value, figure-value}
+use Rattle.fields.proofs.Hexadecimals.{hex-least, letter-value, figure-value}
+use Rattle.characters.proofs.Allowed.{hex-range}
 use borrow.Author.Needs.{needs}
 use Rattle.reading.proofs.values.hex_value.Statement.{statement}
 use Rattle.reading.proofs.values.hex_value.Tie as tie
@@ -10,7 +11,7 @@ add-result : tie.Need-add-result
 add-result c = search needs
 
 sub-result : tie.Need-sub-result
-sub-result c = hex-least (c .before .args .b) (c .before .pre)
+sub-result c = hex-least (c .before .args .b) (hex-range (c .before .args .b) (c .before .pre))
 
 returns : tie.Need-returns
 returns c = sym (letter-value (c .before .args .b) (c .if1 .taken))

@@ -1,13 +1,12 @@
 -- `reading::values::signed` meets its contract: the sign tells whether the number is taken from 0.
 -- Assumes nothing.
-use mathlib.Core.Path.{sym, ap, _∙_}
-use Prim.Native.Nat.{ℕ, _≤_, _<_}
+use mathlib.Core.Path.{refl, sym, ap, _∙_}
 use native.Mathlib.Omega.{arith}
 use lib.IntN.{+ℤ-idl}
 use Rattle.whole.specs.Words.{Word, count, equal, fits, plain-is, bounds}
 use Rattle.fields.specs.Read.{readSigned}
-use Rattle.reading.proofs.Columns.{within-line, field-bound, signed-field}
-use Rattle.reading.proofs.Signs.{minus-read, plus-read}
+use Rattle.fields.proofs.Signs.{minus-read, plus-read}
+use Rattle.reading.proofs.Columns.{within-line, field-most, signed-field}
 use borrow.Author.Needs.{needs}
 use Rattle.reading.proofs.values.signed.Statement.{statement}
 use Rattle.reading.proofs.values.signed.Tie as tie
@@ -26,12 +25,7 @@ shared-slice-read-if1 c = let s = c .before .before .before in omega (arith, s .
 
 -- the magnitude is what the digits say
 abbrev size : (c : tie.After-natural) → Word (c .natural .result)
-size c =
-    let d = c .before .before .pre .digits in
-    equal (c .natural .ensures) (count {b = 9999999999} (below _ (field-bound d)))
-  where
-    below : (m : ℕ) → m < 10000000000 → m ≤ 9999999999
-    below m h = omega arith
+size c = equal (c .natural .ensures) (count (field-most 9999999999 (c .before .before .pre .digits) refl))
 
 sub-result : tie.Need-sub-result
 sub-result c = let w = size (c .before .before) in fits (search bounds depth 9) tt

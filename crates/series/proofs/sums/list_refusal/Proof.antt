@@ -6,7 +6,7 @@ use mathlib.Core.Path.{ap, ap₂, _∙_}
 use lib.IntN.{ℤ}
 use mir.Facts.{toZ-ofZ}
 use Rattle.limits.specs.Refusal.{_when_, _then_}
-use Rattle.limits.specs.Lists.{anyOutside, rangeRule}
+use Rattle.limits.specs.Lists.{anyOutside, rangeNumber}
 use Rattle.series.proofs.sums.list_refusal.Statement.{statement}
 use Rattle.series.proofs.sums.list_refusal.Tie as tie
 
@@ -23,7 +23,7 @@ then-requires : tie.Need-then-requires
 then-requires c κs = search needs
 
 returns : tie.Need-returns
-unfolding rangeRule
+unfolding rangeNumber
 returns c =
     let tested = c .before .before in
     let s = tested .before .before in

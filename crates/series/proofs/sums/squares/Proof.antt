@@ -12,8 +12,8 @@ use Rattle.whole.specs.Sum.{sum}
 use Rattle.whole.specs.Square.{squared}
 use Rattle.whole.specs.Nearest.{nearest}
 use Rattle.whole.specs.Words.{Word, known, count as count-of, equal, back-of, bound, plain-is, bounds}
-use Rattle.exact.specs.Corrected.{at}
-use Rattle.series.specs.Fit.{valuesLimit}
+use Rattle.whole.specs.Table.{at}
+use Rattle.series.specs.Fit.{valueLimit}
 use Rattle.series.specs.Scatter.{residual, squares}
 use Rattle.limits.proofs.Lists.{within-limit}
 use Rattle.series.proofs.Fitting.{place-bound, total-bound, moment-bound, square-bound, span-bound}
@@ -37,7 +37,7 @@ most c = c .pre .0 .1
 
 -- what is known of a value, of the two sums, of n (n² - 1) and n² - 1, and of the place
 abbrev value-word : (c : tie.Start Inv-loop μ-loop) (j : ℕ) → Word (at (c .args .values .now) j)
-value-word c j = known (within-limit valuesLimit (c .args .values .now) (c .pre .0 .2) j)
+value-word c j = known (within-limit valueLimit (c .args .values .now) (c .pre .0 .2) j)
 
 abbrev s-word : (c : tie.Start Inv-loop μ-loop) → Word (c .args .s)
 s-word c = equal (c .pre .1 .0) (known (total-bound (c .args .values .now) (c .pre .0 .2) (count c) (most c)))

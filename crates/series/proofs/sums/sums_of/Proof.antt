@@ -4,7 +4,7 @@ use borrow.Author.Needs.{needs}
 use mathlib.Core.Path.{_≡_, refl, sym, ap, _∙_, subst}
 use mathlib.Core.Bool.{true, false, true≢false}
 use mathlib.Core.List.{List}
-use Prim.Native.Nat.{ℕ, _+_, _*_, _^_, _≤_, _<_, _-_}
+use Prim.Native.Nat.{ℕ, _+_, _*_, _≤_, _<_, _-_}
 use native.Mathlib.Nat.{le-antisymm, le-trans, le-of-lt}
 use native.Mathlib.Numerals.{add-one}
 use native.Mathlib.Omega.{arith}
@@ -15,11 +15,11 @@ use mir.Val.{toZ, ofZ}
 use Rattle.whole.specs.Sum.{sum}
 use Rattle.whole.specs.Sums.{sum-suc}
 use Rattle.whole.specs.Words.{Word, known, count, count-read, equal, back-of, fits, bound, plain-is, bounds}
-use Rattle.exact.specs.Corrected.{at}
+use Rattle.whole.specs.Table.{at}
 use Rattle.limits.specs.Limits.{beyond}
 use Rattle.limits.specs.Lists.{anyBeyond}
 use Rattle.limits.proofs.Laws.{magnitude-within}
-use Rattle.series.specs.Fit.{total, moment, valuesLimit}
+use Rattle.series.specs.Fit.{total, moment, valueLimit}
 use Rattle.series.proofs.Fitting.{moment-bound}
 use Rattle.series.proofs.Running.{totals, moment-running, Inside, total-so-far, totals-so-far, inside-more, outside-found, all-inside}
 use Rattle.series.proofs.sums.sums_of.Statement.{statement}
@@ -44,20 +44,20 @@ totals-word c = equal (c .loop .inv .3) (known (totals-so-far (c .before .args .
 
 -- the test says whether the value is outside
 tested : (c : tie.After-outside Inv-loop μ-loop)
-    → let n = c .before .before .before in c .outside .result ≡ beyond valuesLimit (at (n .before .args .values .now) (n .loop .j))
+    → let n = c .before .before .before in c .outside .result ≡ beyond valueLimit (at (n .before .args .values .now) (n .loop .j))
 tested c =
     let n = c .before .before .before in
     let z = at (n .before .args .values .now) (n .loop .j) in
     let e : toZ w64 (ofZ w64 z) ≡ z = back-of (c .before .value .given) in
-    c .outside .ensures ∙ ap (beyond valuesLimit) e
+    c .outside .ensures ∙ ap (beyond valueLimit) e
 
 passed : (c : tie.Else1 Inv-loop μ-loop)
-    → let n = c .before .before .before .before in beyond valuesLimit (at (n .before .args .values .now) (n .loop .j)) ≡ false
+    → let n = c .before .before .before .before in beyond valueLimit (at (n .before .args .values .now) (n .loop .j)) ≡ false
 passed c = sym (tested (c .before)) ∙ c .if1 .left
 
 abbrev value-word : (c : tie.Else1 Inv-loop μ-loop)
     → let n = c .before .before .before .before in Word (at (n .before .args .values .now) (n .loop .j))
-value-word c = known (magnitude-within valuesLimit _ (passed c))
+value-word c = known (magnitude-within valueLimit _ (passed c))
 
 loop-holds : tie.Need-loop-holds Inv-loop μ-loop
 unfolding sum
@@ -114,7 +114,7 @@ add-total c =
 all : (c : tie.After-loop Inv-loop μ-loop) → c .before .loop .j ≡ length (c .before .before .args .values .now)
 all c = le-antisymm (c .before .loop .inv .0) (c .loop-test .left) ∙ c .before .before .pre .0
 
-inside : (c : tie.After-loop Inv-loop μ-loop) → anyBeyond valuesLimit (c .before .before .args .values .now) ≡ false
+inside : (c : tie.After-loop Inv-loop μ-loop) → anyBeyond valueLimit (c .before .before .args .values .now) ≡ false
 inside c =
     let l = c .before .before .args .values .now in
     all-inside l (subst (Inside l) (all c) (c .before .loop .inv .1))

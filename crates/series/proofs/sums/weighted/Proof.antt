@@ -3,7 +3,7 @@
 use borrow.Author.Needs.{needs}
 use mathlib.Core.List.{List}
 use mathlib.Core.Path.{_≡_, refl, ap, _∙_}
-use Prim.Native.Nat.{ℕ, _^_, _≤_, _-_}
+use Prim.Native.Nat.{ℕ, _≤_, _-_}
 use native.Mathlib.Nat.{le-antisymm}
 use native.Mathlib.Numerals.{add-one}
 use lib.IntN.{ℤ, _*ℤ_}
@@ -13,8 +13,9 @@ use mir.Val.{toZ}
 use Rattle.whole.specs.Sum.{sum}
 use Rattle.whole.specs.Words.{Word, known, equal, fits, plain-is, bounds}
 use Rattle.whole.specs.Sums.{sum-suc}
-use Rattle.exact.specs.Corrected.{at}
+use Rattle.whole.specs.Table.{at}
 use Rattle.exact.specs.Weights.{weights}
+use Rattle.limits.specs.Limits.{measurementLimit}
 use Rattle.limits.proofs.Lists.{within-limit}
 use Rattle.series.proofs.Weights.{weight-bound, weighted-bound}
 use Rattle.series.proofs.sums.weighted.Statement.{statement}
@@ -36,13 +37,13 @@ abbrev weight-word : (i : ℕ) → Word (at weights i)
 weight-word i = known (weight-bound i)
 
 abbrev measurement-word : (c : tie.Start Inv-loop μ-loop) (i : ℕ) → Word (at (c .args .measurements .now) i)
-measurement-word c i = known (within-limit (10 ^ 12) (c .args .measurements .now) (c .pre .1) i)
+measurement-word c i = known (within-limit measurementLimit (c .args .measurements .now) (c .pre .1) i)
 
 abbrev sum-word : (c : tie.At-loop Inv-loop μ-loop) → Word (toZ w64 (c .loop .sum))
 sum-word c =
     let m = c .before .args .measurements .now in
     equal (c .loop .inv .2)
-    (known (weighted-bound (at m) (within-limit (10 ^ 12) m (c .before .pre .1)) (c .loop .i) (c .loop .inv .0)))
+    (known (weighted-bound (at m) (within-limit measurementLimit m (c .before .pre .1)) (c .loop .i) (c .loop .inv .0)))
 
 loop-holds : tie.Need-loop-holds Inv-loop μ-loop
 unfolding sum

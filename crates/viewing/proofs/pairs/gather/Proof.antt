@@ -6,13 +6,11 @@ use Prim.Native.Nat.{ℕ, _+_, _-_, _/_, _≤_, _<_}
 use native.Mathlib.Omega.{arith}
 use lib.ListN.{length, getD}
 use borrow.Author.Needs.{needs}
-use borrow.Author.Tests.{ltb-true}
-use Rattle.limits.proofs.Laws.{both}
 use Rattle.linefile.specs.Files.{endedLength, lines}
 use Rattle.viewing.specs.View.{pairsOf, viewed, longest}
-use Rattle.viewing.specs.Gather.{Bounded}
+use Rattle.viewing.specs.Gather.{Bounded, mostLines}
 use Rattle.linefile.proofs.Ascending.{Accepted}
-use Rattle.linefile.proofs.Lines.{length-lines, line-file, line-part, line-accepted}
+use Rattle.linefile.proofs.Lines.{length-lines, line-file, line-part, line-accepted, lines-left}
 use Rattle.linefile.proofs.Steps.{Stepped, stepped}
 use Rattle.viewing.proofs.Gathering.{Gathered, viewedFrom, nothing-gathered, nothing-bounded, more-bounded, pair-gathered, pair-bounded, all-gathered, end-viewed}
 use Rattle.viewing.proofs.pairs.gather.Statement.{statement}
@@ -32,7 +30,7 @@ abbrev μ-loop : tie.MeasureT-loop
 turn : (c : tie.In-loop Inv-loop μ-loop)
     → (c .before .loop .m < length (c .before .before .before .before .args .first .now) / endedLength)
     × (c .before .loop .n < length (c .before .before .before .before .args .second .now) / endedLength)
-turn c = let t = both _ _ (c .loop-test .taken) in (ltb-true _ _ (t .0), ltb-true _ _ (t .1))
+turn c = lines-left _ _ _ _ (c .loop-test .taken)
 
 loop-holds : tie.Need-loop-holds Inv-loop μ-loop
 unfolding viewed pairsOf
@@ -101,14 +99,14 @@ count-pair-requires c κs =
     let l = i .before .loop in
     let a = i .before .before .before .before in
     let t = turn i in (
-      more-bounded (l .m + l .n) 20000 (few t (a .pre .1 .1 .0) (a .pre .1 .1 .1)) (l .inv .2),
+      more-bounded (l .m + l .n) mostLines (few t (a .pre .1 .1 .0) (a .pre .1 .1 .1)) (l .inv .2),
       (
         subst Accepted (sym (line-part (a .args .first .now) (l .m) (t .0))) (first-line i),
         subst Accepted (sym (line-part (a .args .second .now) (l .n) (t .1))) (second-line i),
       ),
     )
   where
-    few : {m n p q : ℕ} → (m < p / endedLength) × (n < q / endedLength) → p ≤ longest → q ≤ longest → m + n ≤ 20000
+    few : {m n p q : ℕ} → (m < p / endedLength) × (n < q / endedLength) → p ≤ longest → q ≤ longest → m + n ≤ mostLines
     few t h k = omega (arith, t .0, t .1)
 
 loop-less : tie.Need-loop-less Inv-loop μ-loop

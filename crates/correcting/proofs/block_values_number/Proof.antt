@@ -1,7 +1,7 @@
 -- The number of each case.
 use borrow.Author.Needs.{needs}
-use Rattle.correcting.proofs.block_number.Statement.{statement}
-use Rattle.correcting.proofs.block_number.Tie as tie
+use Rattle.correcting.proofs.block_values_number.Statement.{statement}
+use Rattle.correcting.proofs.block_values_number.Tie as tie
 
 enum-told : tie.Need-enum-told
 enum-told c = search needs
@@ -15,5 +15,5 @@ returns c = search needs
 returns-2 : tie.Need-returns-2
 returns-2 c = search needs
 
-pub block-number-spec : {M : Type 1} → statement M
-block-number-spec = tie.close (tie.spec enum-told enum-known-block returns returns-2)
+pub block-values-number-spec : {M : Type 1} → statement M
+block-values-number-spec = tie.close (tie.spec enum-told enum-known-block returns returns-2)

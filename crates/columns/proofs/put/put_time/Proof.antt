@@ -1,4 +1,4 @@
--- `columns::put::put_clock` meets its contract: hours, minutes and seconds, one behind the other.
+-- `columns::put::put_time` meets its contract: hours, minutes and seconds, one behind the other.
 -- Assumes nothing.
 use mathlib.Core.Path.{sym, ap, ap₂, _∙_, subst}
 use mathlib.Core.List.{List, [], _∷_, _++_, append-assoc}
@@ -7,12 +7,12 @@ use lib.ListN.{length-append}
 use native.Mathlib.Omega.{arith}
 use Rattle.fields.specs.Text.{decimal}
 use Rattle.fields.proofs.Laws.{length-decimal}
-use Rattle.columns.specs.Placed.{ended, Put}
-use Rattle.columns.specs.Text.{clock}
+use Rattle.columns.specs.Placed.{withSpace, Put}
+use Rattle.columns.specs.Text.{timeOfDay}
 use Rattle.columns.proofs.Placing.{onto}
 use borrow.Author.Needs.{needs}
-use Rattle.columns.proofs.put.put_clock.Statement.{statement}
-use Rattle.columns.proofs.put.put_clock.Tie as tie
+use Rattle.columns.proofs.put.put_time.Statement.{statement}
+use Rattle.columns.proofs.put.put_time.Tie as tie
 
 cast-put-digits : tie.Need-cast-put-digits
 cast-put-digits c = search needs
@@ -36,7 +36,7 @@ same-length : tie.Need-same-length
 same-length c = search needs
 
 returns : tie.Need-returns
-unfolding clock
+unfolding timeOfDay
 returns c =
     let third = c .before .before in
     let next = third .before .before .before .before in
@@ -46,15 +46,15 @@ returns c =
     let minute = decimal 2 (a .args .second / 60 % 60) in
     let second = decimal 2 (a .args .second % 60) in
     subst (λ (t : List ℕ). Put (a .args .line .now) (third .put-decimal .last .0) 13 t)
-    (append-assoc hour minute (ended second)
+    (append-assoc hour minute (withSpace second)
     ∙ ap (λ (t : List ℕ). hour ++ t) (sym (append-assoc minute second (32 ∷ [])))
     ∙ sym (append-assoc hour (minute ++ second) (32 ∷ [])))
     (onto (a .pre) (omega arith) (ap (λ (n : ℕ). 13 + n) (length-append hour minute ∙ ap₂ _+_ (length-decimal 2 _) (length-decimal 2 _)))
     (onto (a .pre) (omega arith) (ap (λ (n : ℕ). 13 + n) (length-decimal 2 _)) (first .put-digits .ensures) (next .put-digits2 .ensures))
     (third .put-decimal .ensures))
 
-pub put-clock-spec : {M : Type 1} → statement M
-put-clock-spec =
+pub put-time-spec : {M : Type 1} → statement M
+put-time-spec =
     tie.close
     (tie.spec
     cast-put-digits

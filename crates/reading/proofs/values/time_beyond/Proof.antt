@@ -1,10 +1,10 @@
--- `reading::values::clock_beyond` meets its contract: the tests are those of the definition.
+-- `reading::values::time_beyond` meets its contract: the tests are those of the definition.
 -- Assumes nothing.
 use lib.Dec.{lit≤}
-use Rattle.reading.specs.Read.{clockBeyond}
+use Rattle.reading.specs.Read.{timeBeyond}
 use Rattle.reading.proofs.Columns.{Columns, columns-of, at-most}
-use Rattle.reading.proofs.values.clock_beyond.Statement.{statement}
-use Rattle.reading.proofs.values.clock_beyond.Tie as tie
+use Rattle.reading.proofs.values.time_beyond.Statement.{statement}
+use Rattle.reading.proofs.values.time_beyond.Tie as tie
 
 in-columns : (c : tie.Start) → Columns (c .args .line .now)
 in-columns c = columns-of (c .args .line .now) (c .pre)
@@ -19,9 +19,9 @@ decimal32-requires-3 : tie.Need-decimal32-requires-3
 decimal32-requires-3 c κs = at-most 5 (lit≤ tt) (in-columns (c .before .before .before) .second)
 
 returns : tie.Need-returns
-unfolding clockBeyond
+unfolding timeBeyond
 returns c = simp (c .before .before .decimal32 .ensures, c .before .decimal322 .ensures, c .decimal323 .ensures)
 
-pub clock-beyond-spec : {M : Type 1} → statement M
-clock-beyond-spec =
+pub time-beyond-spec : {M : Type 1} → statement M
+time-beyond-spec =
     tie.close (tie.spec decimal32-requires decimal32-requires-2 decimal32-requires-3 returns)

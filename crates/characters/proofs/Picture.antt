@@ -1,0 +1,51 @@
+-- The columns of the single spaces and the letters of the constellations, which stand in tables of their own, are those that `kinds` pictures.
+-- Assumes nothing.
+use mathlib.Core.Path.{_≡_, refl, sym, subst}
+use mathlib.Core.Bool.{Bool, true, cond, _||_}
+use mathlib.Core.List.{List, [], _∷_}
+use Prim.Native.Nat.{ℕ, suc}
+use Prim.Native.Char.{code}
+use lib.Dec.{eqb}
+use borrow.Author.Tests.{eqb-true}
+use Rattle.limits.proofs.Laws.{either}
+use Rattle.fields.specs.Text.{bytesOf}
+use Rattle.labels.specs.Labels.{constellationFits}
+use Rattle.columns.specs.Columns.{spaceColumns}
+use Rattle.characters.specs.Kinds.{letterFits, kinds}
+
+-- The columns of one kind among some, the first of which is given.
+abbrev pub columnsWith : (kind column : ℕ) → List ℕ → List ℕ
+columnsWith kind column [] = []
+columnsWith kind column (k ∷ rest) = cond (eqb k kind) (column ∷ columnsWith kind (suc column) rest) (columnsWith kind (suc column) rest)
+
+pub spaces-pictured : columnsWith (code " ") 1 kinds ≡ spaceColumns
+unfolding kinds bytesOf spaceColumns
+spaces-pictured = refl
+
+-- Every letter that a column may hold has ranges of IOE and FR: IOE 1 is in all of them, FR is 1 for R and 0 for the others. That no other letter
+-- has ranges is law `letter-fits` of reading/proofs/Writing.antt.
+pub letter-has-ranges : (letter : ℕ) → letterFits letter ≡ true → constellationFits letter 1 (cond (eqb letter (code "R")) 1 0) ≡ true
+unfolding letterFits constellationFits
+letter-has-ranges letter e =
+    either (g || r || e' || c) j e
+    (λ s. either (g || r || e') c s (λ t. either (g || r) e' t (λ u. either g r u (at (code "G") refl) (at (code "R") refl)) (at (code "E") refl)) (at (code "C") refl))
+    (at (code "J") refl)
+  where
+    g : Bool
+    g = eqb letter (code "G")
+
+    r : Bool
+    r = eqb letter (code "R")
+
+    e' : Bool
+    e' = eqb letter (code "E")
+
+    c : Bool
+    c = eqb letter (code "C")
+
+    j : Bool
+    j = eqb letter (code "J")
+
+    at : (x : ℕ) → constellationFits x 1 (cond (eqb x (code "R")) 1 0) ≡ true → eqb letter x ≡ true
+        → constellationFits letter 1 (cond (eqb letter (code "R")) 1 0) ≡ true
+    at x h f = subst (λ (k : ℕ). constellationFits k 1 (cond (eqb k (code "R")) 1 0) ≡ true) (sym (eqb-true letter x f)) h
