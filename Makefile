@@ -53,7 +53,7 @@ DOCUMENTS := docs/REFUSALS.md docs/HIRE-BLOCK.md docs/COMMON-VIEW.md docs/common
 EXAMPLES := examples/receiver.c examples/delays.c examples/day.c examples/sample.txt examples/sample.blk examples/short.txt examples/short.blk examples/worked.txt examples/worked.blk examples/changed.txt examples/changed.blk examples/first.cggtts examples/second.cggtts examples/week.cggtts examples/roof-a.cggtts examples/roof-b.cggtts examples/delays.txt examples/delays.store examples/dated.txt examples/oneday.txt examples/oneday.blk examples/oneday.cggtts examples/gps.cggtts examples/gps.v01 examples/published.v01
 TWO_TRACKS := $(wildcard examples/shared/*)
 # What follows a track to its last digit; beside the examples, of which it takes the worked track where none is named.
-FOLLOWER := tools/lastdigit tools/lastdigit_prose.py tools/lastdigit_picture.py
+FOLLOWER := tools/lastdigit tools/prose.py tools/lastdigit_prose.py tools/lastdigit_picture.py
 INSTALLS := $(addprefix bin/,$(notdir $(PROGRAMS))) include/trackline.h lib/libtrackline.a lib/$(SONAME) \
 	lib/libtrackline.so lib/pkgconfig/trackline.pc \
 	$(foreach page,$(PAGES),share/man/man$(subst .,,$(suffix $(page)))/$(notdir $(page))) \
@@ -157,6 +157,7 @@ described:
 	python3 tests/clauses/test_clauses.py
 	python3 tests/edits/test_edits.py
 	python3 tests/daycost/test_daycost.py
+	python3 tests/evidence/test_evidence.py
 	tools/edits
 	python3 tests/published/expected.py --check
 	python3 tests/boundary/mutants.py --applies
@@ -195,6 +196,7 @@ described:
 	tools/lastdigit examples/changed.blk --program target/bin/trackline
 	tools/lastdigit --svg target/last-digit.svg && cmp target/last-digit.svg docs/last-digit.svg
 	tools/definitions --check docs/TRUST.md
+	tools/evidence --check
 	tools/architecture --check docs/ARCHITECTURE.md
 	tools/architecture --svg target/architecture.svg && cmp target/architecture.svg docs/architecture.svg
 	tools/daycost --check docs/SPEED.md

@@ -1,23 +1,26 @@
 /*
- * trackline: one CGGTTS data line of 113 columns from a satellite track of 1 to 13 minutes, and what stands in such a line.
- * Also one file of lines from two, the common view of two, and a file of lines from many tracks. Also delays kept by date,
- * the length of the path between a satellite and an antenna, and lines of version 01 from ours and back.
+ * trackline: CGGTTS data lines from satellite tracks, and what can be done with such lines.
  *
- * Each function but trackline_comment answers 0 when it accepts and the number of its refusal otherwise. A slice is a
- * pointer and a length; NULL with length 0 is an empty slice. A length counts elements: bytes of a block, a line, a file
- * or a store, but numbers of lent values, of a lent report or of lent delays, which sizeof does not count. A function
- * that accepts writes the first 113 bytes of the lent line, or 103 of version 01, with no byte of zero after them. Of
- * others it writes the first 23 of the lent values, the first *written bytes of the lent file or store, or the first 4
- * numbers of the lent report or delays. One that refuses writes nothing. What is written to must not overlap anything
- * else of the call. Nothing is kept between calls, so that threads may call at once on lines of their own.
+ *     trackline_block    the line of a hire block           trackline_line    the line of labels and ten numbers
+ *     trackline_start    whether a track starts then        trackline_path    the path from satellite to antenna
+ *     trackline_read     what stands in a line              trackline_comment where its comment begins
+ *     trackline_merge    one line file from two             trackline_view    the common view of two
+ *     trackline_day      a line file of many blocks         trackline_down    a line of version 01, trackline_up back
+ *     trackline_delays   the delays in force on a date      trackline_append  a store of delays with one entry more
  *
- * With a length above 0 a pointer has to point to so many elements: NULL or a wild pointer is not noticed, and is read or
- * written. Bytes may stand anywhere; int64_t, size_t and double have to be aligned as C aligns them, to 8 bytes.
- * trackline_path is given numbers alone, and writes *length where it accepts.
+ * Each but trackline_comment answers 0, or the number of its first refusal, and then writes nothing. Nothing is kept
+ * between calls: threads may call at once, on lines of their own.
  *
- * All dates are UTC: an MJD and a second of it. The first measurement of a track is that of its start, and measurement i
- * that of the UTC second start + i, be it past midnight; the MJD stays that of the start. GPS, Galileo and BeiDou time have
- * no leap seconds, so that a receiver brings their dates to UTC first.
+ * A slice is a pointer and a length; NULL with length 0 is an empty slice. A length counts elements: bytes, but numbers of
+ * values, of a report or of delays, which sizeof does not count. With a length above 0 the pointer has to point to so many
+ * elements: NULL or a wild pointer is not noticed. What is written to must not overlap anything else of the call. int64_t,
+ * size_t and double have to be aligned as C aligns them, to 8 bytes.
+ *
+ * Written are the first 113 bytes of a lent line, 103 of version 01, with no byte of zero after them; or 23 values, 4 numbers,
+ * or *written bytes. What is lent behind these stays as it was.
+ *
+ * All dates are UTC: an MJD and a second of it. Measurement i is that of the UTC second start + i, be it past midnight. GPS,
+ * Galileo and BeiDou time have no leap seconds, so a receiver brings their dates to UTC first.
  */
 #ifndef TRACKLINE_H
 #define TRACKLINE_H
@@ -44,12 +47,10 @@ extern "C" {
 #define TRACKLINE_LONGEST_OLD 128
 
 /*
- * The hire block: little-endian; hireblock(5) tells it whole. AT is the first byte, counted from 0, and WIDTH how many
- * there are. Numbers of eight bytes are ps, signed, two's complement; the others are unsigned.
- *
- * A track has n blocks of 15 seconds, n from 4 to 52: 15 n one-second measurements and n groups of five corrections. The
- * block's two sizes are 15 n and n, and it is as long as they make it. The measurements follow second by second from the
- * start on, without a gap. The names without OF are for a full track.
+ * The hire block, little-endian; hireblock(5) tells it whole. AT is the first byte, counted from 0, WIDTH how many there
+ * are. Numbers of eight bytes are ps, signed, two's complement; the others are unsigned. A track has n blocks of 15 seconds,
+ * n from 4 to 52: 15 n measurements, second by second without a gap, and n groups of five corrections. The names without OF
+ * are for a full track.
  */
 #define TRACKLINE_LEAST_GROUPS 4
 #define TRACKLINE_GROUPS 52
@@ -102,24 +103,20 @@ extern "C" {
 #define TRACKLINE_IN_GROUP_CLOCK 32
 
 /*
- * A measurement is a pseudorange divided by the speed of light, in ps. Each block of 15 makes one smoothed value, and it
- * and the delays and corrections of its group make
+ * A measurement is a pseudorange divided by the speed of light, in ps. Each block of 15 makes one smoothed value. It and the
+ * delays and corrections of its group make
  *
  *     A = smoothed - (INT + CAB - REF) - geometry + relativity - ionosphere - troposphere - GD
  *     B = A + clock
  *
- * A is the laboratory's clock less the satellite's and gives REFSV, SRSV; B is the laboratory's clock less the system's time
- * and gives REFSYS, SRSYS, DSG. Troposphere gives MDTR, SMDT; ionosphere MDIO, SMDI. Geometry is the path plus the Sagnac
- * correction, clock the satellite's clock less the system's time, without relativity, which A has already; all are ps.
- *
- * Relativity is that of the eccentric orbit; the papers set no formula, and its sign is that of A: 1000 ps more in all groups
- * are 1 ns more of REFSV and REFSYS. GD is TGD for GPS and QZSS, BGD for Galileo, -TGD1 for BeiDou, 0 for GLONASS: 1000 ps more
- * are 1 ns less of both. 1000 ps more of clock are 1 ns more of REFSYS alone.
+ * A gives REFSV, SRSV; B gives REFSYS, SRSYS, DSG; troposphere MDTR, SMDT; ionosphere MDIO, SMDI. Geometry is the path plus
+ * Sagnac. Clock is the satellite's less the system's time, without relativity, whose sign is that of A. GD is TGD for GPS and
+ * QZSS, BGD for Galileo, -TGD1 for BeiDou, 0 for GLONASS.
  */
 
 /*
- * Limits. In ps, to both sides of 0, for 2. Of labels, for 7. Of the ten numbers in the units of a line, for 3 to 6: those of
- * REFSV, REFSYS and of slopes to both sides of 0, MDTR, MDIO and DSG from 0 on.
+ * Limits: in ps, to both sides of 0, for 2; of labels, for 7; of the ten numbers in the units of a line, for 3 to 6. Those of
+ * REFSV, REFSYS and slopes are to both sides of 0, of MDTR, MDIO and DSG from 0 on.
  */
 #define TRACKLINE_MOST_MEASUREMENT 1000000000000
 #define TRACKLINE_MOST_GEOMETRY 200000000000
@@ -147,18 +144,13 @@ extern "C" {
 #define TRACKLINE_MOST_COORDINATE 50000000000 /* mm, to both sides of 0, for 24 */
 
 /*
- * Refusals: X(number, name, text) for each, so that a program's messages come from here. share/doc/trackline/REFUSALS.md
- * below the folder of the installation says what to do about each.
+ * Refusals: X(number, name, text) for each. For messages let X be "case name: return text;" in a switch with a default.
+ * share/doc/trackline/REFUSALS.md below the folder of the installation says what to do about each.
  *
- * 10 is retired and not used again, so that a refusal's place in this list is not its number. It was for a corrected value
- * beyond its limit. No version could answer it.
- *
- * For messages a switch needs nothing more: X as "case name: return text;", with a default. A table is written by number, X as
- * "[number] = text,". Such a table has NULL at 0 and at the retired 10, and an end: test for both, in a loop too.
- *
- * With 1.10.0 a source that names TRACKLINE_CORRECTED no longer compiles: take the case out. A compiler may propose another
- * name for it, which is another refusal's. TRACKLINE_VERSION_MINOR tells the versions apart. Where only the library is new,
- * nothing need be compiled again.
+ * 10 is retired and not used again: a table by number, X as "[number] = text,", has NULL at 0 and at the retired 10. It was
+ * for a corrected value beyond its limit, and no version could answer it. Since 1.10.0 a source that names
+ * TRACKLINE_CORRECTED does not compile: take the case out. A compiler may propose another refusal's name for it. Where only
+ * the library is new, nothing need be compiled again.
  */
 #define TRACKLINE_REFUSALS(X)                                                                                          \
     X(1, TRACKLINE_COUNT, "the block's two sizes are not 15 n and n, n from 4 to 52")                                  \
@@ -197,10 +189,8 @@ enum trackline_refusal {
  * The line of a hire block. Tried in this order: 11 for a block under 4 bytes, 1, 11 for any other wrong length, 2, 3, 4,
  * 5, 6, then the labels' 7 and 8, then 9.
  *
- * A block is in whole ps; since version 1.4.0 the values that are made of it are kept in tenths of a ps. For some tracks
- * REFSV, SRSV, REFSYS, SRSYS or DSG is another by one unit than from earlier versions, and no other column but CK; next to
- * a limit 3, 4 or 6 can come or go.
- * "pkg-config --modversion trackline" says which version is installed.
+ * Since version 1.4.0 values are kept in tenths of a ps. For some tracks REFSV, SRSV, REFSYS, SRSYS or DSG is another by one
+ * unit than before, and no other column but CK; next to a limit 3, 4 or 6 can come or go.
  */
 uint32_t trackline_block(const uint8_t *block, size_t block_len, uint8_t *line, size_t line_len);
 
@@ -229,19 +219,17 @@ uint32_t trackline_start(uint32_t mjd, uint32_t second);
 
 /*
  * The straight path between a satellite, xs, ys and zs, and an antenna, xa, ya and za, all whole millimetres in one frame
- * that turns with the Earth. The satellite's are those of the moment at which the signal left it. The length of the path
- * goes to *length: the greatest whole number of millimetres whose square is not above the exact sum of the squared
- * differences. The double holds it exactly; it is at most 173205080756.
+ * that turns with the Earth. *length gets the greatest whole number of millimetres whose square is not above the exact sum
+ * of the squared differences. The double holds it exactly; it is at most 173205080756. length must not be NULL.
  *
  * Metres in a double become whole millimetres by round(1000 * x). 1000 * x alone is often no whole number, and so refused
  * with 23. For 4202777.366 it is 4202777366.0000005.
  *
- * 23 is tried of all six before 24. 23 is a coordinate that is not a whole number: a fraction, an infinity or not a
- * number. 24 is one beyond TRACKLINE_MOST_COORDINATE to either side; so 1e300, which is a whole number, is 24. Minus zero
- * counts as zero, and a length of 0 is plus zero. length must not be NULL.
+ * 23 is tried of all six before 24: a fraction, an infinity or not a number. 24 is beyond TRACKLINE_MOST_COORDINATE to either
+ * side; so 1e300, which is a whole number, is 24. Minus zero counts as zero, and a length of 0 is plus zero.
  *
- * Geometry, in a block, is the path plus the Sagnac correction, in ps. That correction is not in the length, nor is the
- * satellite's way while the signal travels. A millimetre is 10^9 / 299792458 ps.
+ * Geometry, in a block, is the path plus the Sagnac correction, in ps. Neither that nor the satellite's way while the signal
+ * travels is in the length: give the satellite as it was when the signal left it. A millimetre is 10^9 / 299792458 ps.
  */
 uint32_t trackline_path(double xs, double ys, double zs, double xa, double ya, double za, double *length);
 
@@ -289,14 +277,12 @@ uint32_t trackline_read(const uint8_t *line, size_t line_len, int64_t *values, s
 size_t trackline_comment(const uint8_t *line, size_t line_len);
 
 /*
- * A line of version 01, the GGTTS form that some laboratories still read, has 103 columns. 1 is a blank, 2 to 101 are those of
- * our line with their fills. 102 and 103 are CK, the sum of columns 1 to 101 modulo 256 in two capital hexadecimal digits. A
- * comment of up to 25 bytes of 20 to 7E hexadecimal may stand behind them. It has no letter, FR, HC and FRC. Neither of the two
- * functions takes or writes a line end. share/doc/trackline/VERSION-01.md is a page on it.
+ * Down: a GPS line becomes one of version 01, without FR, HC, FRC and its comment. trackline_read gives HC and FRC, where
+ * they are to be had again. share/doc/trackline/VERSION-01.md tells the form: 103 columns and a comment of up to 25 bytes.
+ * Neither way takes or writes a line end.
  *
- * Down: a GPS line becomes such a line, without FR, HC, FRC and its comment. trackline_read gives HC and FRC, where they are to
- * be had again. Tried in this order: what trackline_read tries of a line, 12, 14, 13, 7, 8; then 25 for a letter other than G;
- * then 9 if fewer than TRACKLINE_OLD_BYTES bytes are lent.
+ * Tried in this order: 12, 14, 13, 7, 8 as by trackline_read; 25 for a letter other than G; 9 if fewer than
+ * TRACKLINE_OLD_BYTES bytes are lent.
  */
 uint32_t trackline_down(const uint8_t *line, size_t line_len, uint8_t *old, size_t old_len);
 
@@ -304,13 +290,9 @@ uint32_t trackline_down(const uint8_t *line, size_t line_len, uint8_t *old, size
  * Up: a line of version 01 becomes one of 113 columns, with the letter G, FR 0 and the hc and frc1 to frc3 given; its comment is
  * left out. Down and up again, with the HC and FRC that were dropped, restores the 113 columns.
  *
- * Tried in this order:
- * 12 if old_len is not 103 to 128; 14 for another CK;
- * 13 for a column 1 that is not blank, a character not allowed in its column, a minus before a zero or another comment byte;
- * 7 for a label out of its range, IOE being that of G, or a track length that is not 15 n, n from 4 to 52;
- * 7 also for an hc above 99 or a character of FRC other than A to Z and 0 to 9;
- * 8 as for trackline_read; 9 if fewer than TRACKLINE_LINE_BYTES bytes are lent.
- * Numbers filled with blanks, as published files have them, are 13: cggtts convert takes these.
+ * Tried in this order: 12 if old_len is not 103 to 128; 14 for another CK; 13 for a column 1 that is not blank, or a character
+ * not allowed in its column; 7 for a label, the given hc or a given character of FRC out of its range; 8 as for trackline_read; 9 if fewer than TRACKLINE_LINE_BYTES bytes are lent. Numbers filled with blanks are 13: cggtts
+ * convert takes these.
  */
 uint32_t trackline_up(const uint8_t *old, size_t old_len, uint8_t hc, uint8_t frc1, uint8_t frc2, uint8_t frc3, uint8_t *line,
                       size_t line_len);
@@ -323,15 +305,15 @@ uint32_t trackline_up(const uint8_t *old, size_t old_len, uint8_t hc, uint8_t fr
 
 /*
  * One line file from two: the lines of both, a line that is in both once. It is written to the lent file, and how many
- * bytes it has, which may be none, to *written. Both lengths together are room enough.
+ * bytes it has, which may be none, to *written. Both lengths together are room enough. first and second may be the same;
+ * written must not be NULL.
  *
  * Tried in this order: the first file, then the second, then 15, then 17. In a file the earliest line decides, by 12, 14,
- * 13, 7, 8, 13, 16: 12 is a last line of under 115 bytes; the second 13 a line end other than carriage return and line
- * feed; 16 keys that are not above those of the line before it. 15: two lines, one of each file, have the same keys and
- * differ. 17: the lent file is shorter than the result. A refusal leaves *written too as it was.
+ * 13, 7, 8, 13, 16. 12 is a last line of under 115 bytes, the second 13 another line end; 16 is for keys that are not above
+ * those of the line before. 15: two lines have the same keys and differ. 17: the lent file is shorter than the result.
  *
  * The number does not tell which file it is of: hand each over alone, with NULL and 0 for the other and for the lent file;
- * 0 or 17 then says that it is a line file. first and second may be the same; written must not be NULL.
+ * 0 or 17 then says that it is a line file.
  */
 uint32_t trackline_merge(const uint8_t *first, size_t first_len, const uint8_t *second, size_t second_len,
                          uint8_t *file, size_t file_len, size_t *written);
@@ -354,26 +336,21 @@ enum trackline_report {
 };
 
 /*
- * The common view of two line files: its report is written to the first 4 of the lent numbers.
+ * The common view of two line files: its report is written to the first 4 of the lent numbers. first and second may be the
+ * same. Lines of the same keys with another TRKL are no pair; the other columns are not compared.
  *
  * Tried in this order: 19 if either file has more than TRACKLINE_FILE_MOST_LINES * TRACKLINE_FILE_LINE_BYTES bytes,
- * whatever stands in it; the first file, then the second, each as trackline_merge tries it; 18 if there is no pair, as
- * with an empty file; 9 if fewer than 4 numbers are lent. Lines of the same keys may differ: with another TRKL they are
- * no pair, and the other columns are not compared. first and second may be the same.
- *
- * 18 is of both files, and of a 19 their lengths tell which. Of a 12, 14, 13, 7, 8 or 16 each file handed alone to
- * trackline_merge tells, as there. The line is line k, counted from 1, for the least k for which the first k * 115 bytes of
- * the file, or all of it where there are fewer, are refused alone.
+ * whatever stands in it; the first file, then the second, each as trackline_merge tries it; 18 if there is no pair; 9 if
+ * fewer than 4 numbers are lent. Each file handed alone to trackline_merge tells which one is to blame. Its line,
+ * counted from 1, is the least k for which the first k * 115 bytes of the file, or all of it, are refused.
  */
 uint32_t trackline_view(const uint8_t *first, size_t first_len, const uint8_t *second, size_t second_len,
                         int64_t *report, size_t report_len);
 
 /*
- * A store keeps the delays of a receiver by date: share/doc/trackline/DELAYS.md tells it whole. It is little-endian:
- * version and count, then the MJD that each entry starts on, then a group of delays for each entry, in ps, signed, two's
- * complement. A group of version 1 has INT, CAB and REF; one of version 2 also GD, which reads as 0 from version 1. The
- * starts are strictly rising, any number of 32 bits; a delay has the limit TRACKLINE_MOST_CORRECTION. A store of no entry
- * is one too: its version and a count of 0.
+ * A store keeps the delays of a receiver by date: share/doc/trackline/DELAYS.md has its bytes. A group of version 1 has INT,
+ * CAB and REF; one of version 2 also GD, which reads as 0 from version 1. The starts are strictly rising, any number of 32
+ * bits; a delay has the limit TRACKLINE_MOST_CORRECTION. A store of no entry is one too: its version and a count of 0.
  */
 #define TRACKLINE_STORE_MOST_ENTRIES 1000
 #define TRACKLINE_STORE_AT_VERSION 0
@@ -398,8 +375,8 @@ enum trackline_delays_place {
 };
 
 /*
- * The delays in force on a date, which are those of the latest start not after it, are written to the first 4 of the lent
- * numbers. Tried in this order: 20 if the store has a version other than 1 and 2, a count above 1000, another length than
+ * The delays in force on a date, those of the latest start not after it, are written to the first 4 of the lent numbers.
+ * Tried in this order: 20 if the store has a version other than 1 and 2, a count above 1000, another length than
  * these make, starts that are not strictly rising, or a delay beyond its limit in any entry; 21 if no start is early
  * enough, as in a store of no entry; 9 if fewer than 4 numbers are lent.
  */

@@ -38,21 +38,13 @@ for test in merge view words parted convert files offset delays day path version
     }
 done
 
-# the README's merge and day, as they are written, among the installed examples
-sed -n 's/^    \$ \(cggtts merge\|cggtts day\|cmp\) /\1 /p' README.md >"$scratch/commands"
-[ "$(wc -l <"$scratch/commands")" -eq 4 ] || fail "the README's merge and day"
-(
-    cd "$prefix/share/trackline/examples"
-    PATH=$prefix/bin:$PATH bash -eu "$scratch/commands"
-    rm merged.cggtts made.cggtts
-) & wait $! || fail "the README's merge and day"
 cmp examples/week.cggtts "$prefix/share/trackline/examples/week.cggtts"
 
 # the installed paper's run on the installed examples, and its picture
 (
     cd "$prefix/share/trackline/examples"
     sed -n 's/^    \$ \(cggtts view .*\)/\1/p' "$prefix/share/doc/trackline/COMMON-VIEW.md" >"$scratch/commands"
-    [ "$(wc -l <"$scratch/commands")" -eq 1 ]
+    [ "$(wc -l <"$scratch/commands")" -eq 2 ]
     PATH=$prefix/bin:$PATH bash -eu "$scratch/commands" >"$scratch/report"
     sed -n '/^    \$ cggtts view/,/^$/ s/^    \([^$].*\)/\1/p' "$prefix/share/doc/trackline/COMMON-VIEW.md" | cmp - "$scratch/report"
     cmp common-view.svg "$prefix/share/doc/trackline/common-view.svg"
@@ -145,9 +137,9 @@ END
     head -c 103 week.v01 | cmp - there.v01
 ) & wait $! || fail "the example of trackline(3)"
 
-# each command of the README's "From C", as it is written, in a home of its own
-sed -n '/^## From C/,/^## For files/p' README.md | sed -n '/make install/,$ s/^    //p' >"$scratch/commands"
-[ "$(wc -l <"$scratch/commands")" -eq 9 ] || fail "the README's commands"
+# each command of the README from setting up to C, as it is written, in a home of its own
+sed -nE 's/^    (\$ )?((make install|export|cp|cd|cggtts|cmp|cc|\.\/receiver)( .*)?)$/\2/p' README.md >"$scratch/commands"
+[ "$(wc -l <"$scratch/commands")" -eq 14 ] || fail "the README's commands"
 mkdir "$scratch/home"
 HOME=$scratch/home bash -eu "$scratch/commands" >"$scratch/log" 2>&1 || {
     cat "$scratch/log" >&2
@@ -242,6 +234,8 @@ for source in man/*.[1-8]; do
         >"$scratch/page" 2>"$scratch/warnings" || fail "$page can't be read: $(cat "$scratch/warnings")"
     [ ! -s "$scratch/warnings" ] || fail "$page: $(cat "$scratch/warnings")"
     grep -q "$(basename "$source" | sed 's/\..*//')" "$scratch/page" || fail "$page is empty"
+    # what a program does stands at the head of its page, with an example
+    case $page in man1/*) head -n 22 "$scratch/page" | grep -q '^ *\$ ' || fail "$page has no example at its head" ;; esac
 done
 for program in "$prefix"/bin/*; do
     [ -f "$prefix/share/man/man1/$(basename "$program").1" ] || fail "$(basename "$program") has no manual page"

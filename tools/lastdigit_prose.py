@@ -1,83 +1,37 @@
-"""The figures in the prose of docs/LAST-DIGIT.md, for `tools/lastdigit --check`.
+"""What docs/LAST-DIGIT.md says with figures, for `tools/lastdigit --check`; tools/prose.py holds the document against it.
 
-Every phrase below is made anew from the rules' constants and the worked track. The document has to have each of them,
-and every digit of its prose has to stand in one, in a formula that gives the block's numbers, or in a name. So a
-figure that is wrong is named, and so is one that nobody works out.
+Every figure is made anew from the rules' constants and the three tracks. A world has the module of tools/lastdigit, the worked
+track, the short one, and the bytes of the one that changed.
 """
 import collections
-import decimal
 import math
 import re
 import struct
 from fractions import Fraction
 
+from prose import decimals
+
+World = collections.namedtuple('World', 'tool track short changed')
+
 # the rounding of a smoothed value, in steps, and the last rounding, in units
 HALF = Fraction(1, 2)
-# what document 01 asks of midpoints and of DSG, and of the slopes of a full track
+# what document 01 asked of midpoints and of DSG, and of the slopes of a full track
 DOCUMENT_01, SLOPES_01 = Fraction(51, 100), Fraction(52, 100)
 # the block and the residual that the document follows
 FOLLOWED = 20
+# the values B of a track whose DSG comes near its bound, in tenths of a ps
+FAR_SCATTER = (-552, 612, 416, 226, -412, -616, 550)
 # what counts the tracks whose lines moved, in the sources alone, and the heading of the document's table of them
 COUNTED, COUNTED_HEADING = 'tests/reference/src/tests/steps.rs', '| blocks | tracks | lines |'
 # digits that are no figures
-NAMES = ("document 000's two equations", "document 01's terms", 'document 000, equations 1 and 2',
-         'Document 000, in its conclusion,', 'FILE.blk --steps 1', 'by the rules before version 1.4.0', 'Before version 1.4.0')
-
-
-# ---- the document
-
-def read(document):
-    """The lines of the code blocks by their names, and the prose: what stands in no code block."""
-    code, prose, fence = collections.defaultdict(list), [], None
-    for row in document.splitlines():
-        if row.startswith('```'):
-            fence = row if fence is None else None
-        elif fence is not None:
-            code[fence[3:]].append(row)
-        else:
-            # a list's own numbers are no figures
-            prose.append(re.sub(r'^\d+\. ', '', row))
-    return code, prose
-
-
-def phrases(track, short, changed, tool):
-    """Everything in the prose that has a figure or a number's name in it: of the worked track, the short one, and the bytes of
-    the one that changed; tool is the module of tools/lastdigit."""
-    return [*bounds(tool), *over_blocks(tool), *worked(track, tool), *short_track(short, track, tool),
-            *changed_track(changed, tool), *NAMES]
-
-
-def check(prose, track, wanted):
-    """How many figures the prose has, and what is wrong with them."""
-    faults, formulas = check_formulas(prose, track)
-    text = ' '.join(' '.join(row for row in prose if row not in formulas).split())
-    figures, more = figures_in(text, wanted)
-    return figures + sum(len(re.findall(r'\d+', row)) for row in formulas), faults + more
-
-
-def figures_in(text, wanted, before=()):
-    """How many figures a text has, and what is wrong with them: each phrase has to stand there, not behind one of these
-    characters, and each figure in a phrase or between backquotes."""
-    covered, faults = [found.span() for found in re.finditer(r'`[^`]*`', text)], []
-    for phrase in wanted:
-        spans = [found.span() for found in re.finditer(re.escape(phrase) + r'(?![\d/])', text)
-                 if text[found.start() - 1:found.start()] not in before]
-        covered += spans
-        if not spans:
-            faults.append('not in the prose: %s' % phrase)
-    figures = list(re.finditer(r'\d+(?:\.\d+)?', text))
-    for figure in figures:
-        if not any(start <= figure.start() and figure.end() <= end for start, end in covered):
-            around = text[max(0, figure.start() - 30):figure.end() + 30]
-            faults.append('not worked out: %s in "..%s.."' % (figure.group(), around))
-    return len(figures), faults
+NAMES = ('document 000, equations 1 and 2', 'Document 000, in its conclusion,', 'read them beside document 000.', 'Before version 1.4.0',
+         'those of document 02, Job 8:')
 
 
 # ---- the formulas of the track
 
-def check_formulas(prose, track):
-    """Faults of the formulas, and the rows that have them."""
-    rows = [row for row in prose if re.match(r' {4}[a-z]+ +=', row)]
+def check_formulas(rows, track):
+    """How many figures the formulas of the measurements and the corrections have, and what is wrong with them."""
     found = dict(pair for row in rows for pair in re.findall(r'([a-z]+) += (.+?)(?:\s{3,}|$)', row))
     wanted = {'measurement': track.measurements, **track.columns}
     noise = found.pop('noise', '0')
@@ -92,7 +46,7 @@ def check_formulas(prose, track):
             values = None
         if values != numbers or not numbers:
             faults.append('the formula of the %s does not give the numbers of the block' % name)
-    return faults, rows
+    return len(re.findall(r'\d+', ' '.join(rows))), faults
 
 
 def compiled(formula):
@@ -106,77 +60,142 @@ def compiled(formula):
 
 # ---- the bounds, which hold for every track
 
+BOUNDS = (
+    'makes one value of {span} measurements, in tenths of a picosecond: at most {step} ps off',
+    'makes midpoints in 0.1 ns and slopes in 0.1 ps/s: at most {half} of the unit off',
+    'and from their squares DSG in 0.1 ns',
+    'of a track of n blocks of {span} seconds, n from {least} to {full}, it is proved',
+    '| REFSV, REFSYS, MDTR, MDIO | {midpoint} (0.1 ns) | the last rounding, {half}, and a mean of errors of {step} ps, {share} |',
+    '| SRSV, SRSYS, SMDT, SMDI | {half} + n/({steps}(n² - 1)) (0.1 ps/s) |',
+    '| DSG | {dsg} (0.1 ns) | half a unit to the tie, and {apart} ps between two root mean squares |',
+    'they are off by the last rounding alone, at most {half}.',
+    'x from {first} to {last} |',
+    '| midpoint and slope | P / 100d and 10Q / d of the least line',
+    '`steps`, the parts of a picosecond that are kept, is {steps}.',
+    "The weighted sum over {weights} is the parabola's middle value",
+    'The weights are symmetric, {middle} - {falling}x², with sum {weights} and second moment {moment}.',
+    'A and B are still within {step} ps of the exact ones',
+    'Errors of at most {step} ps have a mean of at most {step} ps, {share} of the unit, however many there are.',
+    '| With the {half} of the last rounding: {midpoint}. |',
+    'It holds for any number of values from 2 up; Track takes {least} to {full}.',
+    'Midpoints keep their {midpoint} and DSG its {dsg} whatever n is.',
+)
+
+
+def bounds(world):
+    tool = world.tool
+    weights, share = tool.WEIGHTS, HALF / (100 * tool.STEPS)
+    assert tool.promise('midpoint', tool.FULL) == HALF + share
+    return {'span': tool.SPAN, 'least': tool.LEAST, 'full': tool.FULL, 'steps': tool.STEPS, 'half': decimals(HALF),
+            'step': decimals(HALF / tool.STEPS), 'share': decimals(share), 'apart': decimals(2 * HALF / tool.STEPS),
+            'midpoint': near(tool, 'midpoint'), 'dsg': near(tool, 'DSG'),
+            'first': -(len(weights) // 2), 'last': len(weights) // 2, 'weights': sum(weights),
+            'middle': weights[7], 'falling': weights[7] - weights[8],
+            'moment': sum(x * x * w for x, w in zip(range(-7, 8), weights))}
+
+
 def near(tool, kind):
     """What is promised of a midpoint or of DSG, whatever the number of blocks."""
     return decimals(tool.promise(kind, tool.FULL))
 
 
-def decimals(fraction):
-    """A fraction that has a finite decimal form, in full."""
-    return format((decimal.Decimal(fraction.numerator) / fraction.denominator).normalize(), 'f')
+SLOPE = (
+    '2j - (n - 1). In its unit the slope is 4T / ({steps}n(n² - 1)); for {full} values T / {divisor}.',
+    'magnitudes add up to at most n² / {magnitudes}.',
+    'So errors of half a tenth move T by at most n² / {moved} tenths, and the slope by n/({steps}(n² - 1)).',
+    'With the {half} of the last rounding: {half} + n/({steps}(n² - 1)), for a full track {half} + {full} / {over}.',
+    'From {since} blocks on it is within {thousandths}.',
+    '{dsg} for slopes would be false',
+)
 
 
-def bounds(tool):
-    weights, half, steps = tool.WEIGHTS, decimals(HALF), tool.STEPS
-    moment = sum(x * x * w for x, w in zip(range(-7, 8), weights))
-    yield 'x from %d to %d,' % (-(len(weights) // 2), len(weights) // 2)
-    yield 'P / 100d and 10Q / d of the line'
-    yield 'n blocks, n from %d to %d:' % (tool.LEAST, tool.FULL)
-    yield 'midpoints within %s of their unit (0.1 ns), slopes within %s + n/(%d(n² - 1)) of theirs (0.1 ps/s)' % (
-        near(tool, 'midpoint'), half, steps)
-    yield 'DSG within %s of its unit (0.1 ns)' % near(tool, 'DSG')
-    yield 'a whole denominator above 0'
-    yield "rounds the parabola's middle value to a tenth of a picosecond: at most %s ps" % decimals(HALF / steps)
-    yield 'the weighted sum over %d is' % sum(weights)
-    yield 'sum %d, second moment %d, each weight %d - %dx²)' % (
-        sum(weights), moment, weights[7], weights[7] - weights[8])
-    yield 'still within %s ps of the exact ones' % decimals(HALF / steps)
-    yield 'rounds the midpoint to 0.1 ns and the slope to 0.1 ps/s: at most %s of the unit' % half
-    yield 'and DSG to 0.1 ns'
-    yield 'by the last rounding alone, at most %s of the unit' % half
-    yield from midpoint_bound(tool, half)
-    yield from slope_bound(tool, half)
-    yield from scatter_bound(tool)
-    yield from before(tool, half)
-
-
-def midpoint_bound(tool, half):
-    share, step = HALF / (100 * tool.STEPS), decimals(HALF / tool.STEPS)
-    assert tool.promise('midpoint', tool.FULL) == HALF + share
-    yield '### Midpoint: %s of 0.1 ns' % decimals(HALF + share)
-    yield 'Errors of at most %s ps have a mean of at most %s ps, which is %s of the unit' % (step, step, decimals(share))
-    yield 'With the %s of the last rounding: %s (`midpoint-bound`), which is what is promised' % (half, decimals(HALF + share))
-
-
-def slope_bound(tool, half):
+def slope(world):
+    tool = world.tool
     n, steps = tool.FULL, tool.STEPS
     sizes = sum(abs(2 * j - (n - 1)) for j in range(n))
     promised = tool.promise('slope', n)
     assert promised == HALF + Fraction(n, steps * (n * n - 1))
-    yield '### Slope: %s + n/(%d(n² - 1)) of 0.1 ps/s' % (half, steps)
-    yield 'The slope is 4T / (%dn(n² - 1)) in its unit, where T weighs value j with 2j - (n - 1)' % steps
-    yield 'for %d values T / %s.' % (n, Fraction(steps * n * (n * n - 1), 4))
-    yield 'add up to at most n² / %s (`sum-magnitude-place`)' % Fraction(n * n, sizes)
-    yield 'so errors of half a tenth move T by at most n² / %s tenths, and' % (n * n / (sizes * HALF))
-    yield 'the slope by n/(%d(n² - 1)) of its unit' % steps
-    yield 'With the %s of the last rounding: %s + n/(%d(n² - 1)) (`slope-bound`)' % (half, half, steps)
-    yield 'For a full track it is %s + %d / %d, under %s' % (half, n, steps * (n * n - 1), tool.rounded_up(promised, 5))
-    first = next(k for k in range(2, n) if tool.rounded_up(tool.promise('slope', k), 3) == tool.rounded_up(promised, 3))
-    yield 'From %d blocks on it is within %s' % (first, tool.rounded_up(promised, 3))
-    yield from worst_slope(tool)
-    yield 'for any number of values from 2 up; Track takes %d to %d' % (tool.LEAST, tool.FULL)
+    thousandths = tool.rounded_up(promised, 3)
+    return {'half': decimals(HALF), 'full': n, 'steps': steps, 'divisor': Fraction(steps * n * (n * n - 1), 4), 'dsg': near(tool, 'DSG'),
+            'magnitudes': Fraction(n * n, sizes), 'moved': n * n / (sizes * HALF), 'over': steps * (n * n - 1), 'thousandths': thousandths,
+            'since': next(k for k in range(2, n) if tool.rounded_up(tool.promise('slope', k), 3) == thousandths)}
 
 
-def before(tool, half):
-    """The bounds that were promised when values were whole ps."""
-    least = next(k for k in range(2, 1000) if tool.promise('slope', k, 1) <= SLOPES_01)
-    assert all(tool.promise(kind, n) <= tool.promise(kind, n, 1) for kind in ('midpoint', 'slope', 'DSG')
-               for n in range(tool.LEAST, tool.FULL + 1))
-    assert max(tool.promise(kind, 52, 1) for kind in ('midpoint', 'DSG')) <= DOCUMENT_01
-    yield '%s for midpoints and DSG, and %s + n/(n² - 1) for slopes' % (decimals(DOCUMENT_01), half)
-    yield 'from %d blocks on %s' % (least, decimals(SLOPES_01))
-    yield '(Of midpoints %s held' % decimals(tool.promise('midpoint', tool.FULL, 1))
-    yield '`steps`, the parts of a picosecond that are kept, is %d' % tool.STEPS
+SCATTER = (
+    'Σ(ρ - e)² ≤ n / {quarter}.',
+    'Σ(r - ρ)² ≤ n / {quarter}.',
+    'in the mean square, r is within {apart} ps of e.',
+    'For every c: c Σu² ≤ (c + 1) Σw² + c (c + 1) Σ(u - w)².',
+    'DSG is d where n({unit}d - {tie})² ≤ Σr² < n({unit}d + {tie})²; it is 0 below n × {tie}².',
+    'c is the tie, {unit}d + {tie}. It gives Σe² ≤ n(c + 1)².',
+    'From below, d from 1 up: u is r, w is e, and c is {unit}d - {below}, one less than the tie.',
+    'So the root of M is within {reach} ps of 100d ps, {dsg} of the unit.',
+    'A DSG of 0 has only the upper promise: M is at most {reach}².',
+)
+
+
+def scatter(world):
+    # the thresholds stand at half a unit, and two roundings of half a tenth move a root mean square by a tenth at most
+    tool = world.tool
+    tie, apart = tool.root(Fraction(tool.threshold(1, 1))), 2 * HALF / tool.STEPS
+    reach = Fraction(tie) / tool.STEPS + apart
+    assert tool.promise('DSG', tool.FULL) == reach / 100 and tool.threshold(2, 1) == (2 * 100 * tool.STEPS - tie) ** 2
+    return {'quarter': 1 / HALF ** 2, 'apart': decimals(apart), 'unit': 100 * tool.STEPS, 'tie': int(tie), 'below': int(tie) + 1,
+            'reach': decimals(reach), 'dsg': near(tool, 'DSG')}
+
+
+# ---- how near tracks come to the bounds
+
+REACHED = (
+    '| midpoint | {midpoint} | {midpoint_off} | any n blocks alike: all {low} ps, but {high} in the middle; REFSYS is {refsys} |',
+    '| slope, full track | {slope} | {slope_off} | the track of {full} blocks below: SRSYS is {srsys}, exactly {srsys_exact} |',
+    '| DSG | {dsg} | {dsg_off} | {blocks} blocks, B = {values} tenths; DSG is {written}, exactly {dsg_exact} |',
+    'every smoothed value is rounded by {most}/{weights} of a tenth, the most there is',
+    'As {most}/{weights} is less than a half',
+)
+
+
+def reached(world):
+    tool, weights = world.tool, sum(world.tool.WEIGHTS)
+    most = max(min(tool.STEPS * w % weights, -tool.STEPS * w % weights) for w in range(weights))
+    # the tie of a midpoint of 1: the exact value lies farthest below it
+    low, high = alike(tool, Fraction(tool.STEPS * 50) - Fraction(most, weights))
+    tracks = [block_of(([low] * 7 + [high] + [low] * 7) * n, tool) for n in range(tool.LEAST, tool.FULL + 1)]
+    assert {(track.fit('B').midpoint, tool.ExactFit(track.exact['B']).midpoint) for track in tracks} == {
+        (tracks[0].fit('B').midpoint, tool.ExactFit(tracks[0].exact['B']).midpoint)}
+    refsys, exact = tracks[0].fit('B').midpoint, tool.ExactFit(tracks[0].exact['B']).midpoint
+    srsys, slope_exact = farthest(tool.FULL, tool)
+    far = far_scatter(tool, most)
+    dsg, dsg_exact = far.fit('B').dsg, Fraction(tool.ExactFit(far.exact['B']).root) / 100
+    offs = [abs(refsys - exact), abs(srsys - slope_exact), abs(dsg - dsg_exact)]
+    promised = [tool.promise(kind, n) for kind, n in (('midpoint', 4), ('slope', tool.FULL), ('DSG', far.n))]
+    assert all(HALF < off <= bound for off, bound in zip(offs, promised))
+    assert srsys - slope_exact > tool.promise('DSG', tool.FULL)
+    return {'midpoint': near(tool, 'midpoint'), 'slope': tool.rounded_up(promised[1], 5), 'dsg': near(tool, 'DSG'), 'full': tool.FULL,
+            'midpoint_off': tool.places(offs[0], 6), 'slope_off': tool.places(offs[1], 6), 'dsg_off': tool.places(offs[2], 6),
+            'low': low, 'high': high, 'refsys': refsys, 'srsys': srsys, 'srsys_exact': tool.places(slope_exact, 6),
+            'blocks': far.n, 'values': ', '.join(map(str, FAR_SCATTER)), 'written': dsg, 'dsg_exact': tool.places(dsg_exact, 6),
+            'most': most, 'weights': weights}
+
+
+def alike(tool, tenths):
+    """Fourteen measurements and the middle one of a block whose exact smoothed value is so many tenths."""
+    weighted = tenths * sum(tool.WEIGHTS) / tool.STEPS
+    assert weighted.denominator == 1
+    more = int(weighted) * pow(tool.WEIGHTS[7], -1, sum(tool.WEIGHTS)) % sum(tool.WEIGHTS)
+    low = (int(weighted) - tool.WEIGHTS[7] * more) // sum(tool.WEIGHTS)
+    return low, low + more
+
+
+def far_scatter(tool, most):
+    """The track whose B are FAR_SCATTER, each rounded away from the line as far as can be."""
+    off, measurements = Fraction(most, sum(tool.WEIGHTS)), []
+    for value in FAR_SCATTER:
+        low, high = alike(tool, value - (off if value > 0 else -off))
+        measurements += [low] * 7 + [high] + [low] * 7
+    track = block_of(measurements, tool)
+    assert tuple(track.rounded['B']) == FAR_SCATTER
+    return track
 
 
 def block_of(measurements, tool):
@@ -212,235 +231,248 @@ def farthest(n, tool):
     return slope_distance(tilted(n, raised, higher), tool)
 
 
-def worst_slope(tool):
-    slope, exact = farthest(tool.FULL, tool)
-    distance = abs(slope - exact)
-    assert distance > tool.promise('DSG', tool.FULL)
-    yield '%s would be false for some full tracks' % near(tool, 'DSG')
-    yield 'its SRSV and SRSYS are %d and the exact slope is %s, which is %s of the unit away' % (
-        slope, tool.places(exact, 6), tool.places(distance, 6))
-
-
-def over_blocks(tool):
+def over_blocks(world):
     """The table of the slope's promise, a row for some numbers of blocks."""
+    tool = world.tool
     yield '| mean date, second | n/(%d(n² - 1)) | promised |' % tool.STEPS
-    yield 'by %d/1105 of a tenth' % (1105 - 10 * 167 * 177 % 1105)
     for n in (4, 5, 6, 8, 10, 13, 20, 26, 39, 52):
-        slope, exact = farthest(n, tool)
-        reached, promised = abs(slope - exact), tool.promise('slope', n)
-        assert HALF < reached <= promised, n
+        written, exact = farthest(n, tool)
+        off, promised = abs(written - exact), tool.promise('slope', n)
+        assert HALF < off <= promised, n
         yield '| %d | %04d | %s | %s | %s | %s |' % (
             n, tool.SPAN * n, decimals(mean_date(n)), tool.rounded_up(promised - HALF, 5).ljust(7, '0'),
-            tool.rounded_up(promised, 5).ljust(7, '0'), tool.places(reached, 5))
+            tool.rounded_up(promised, 5).ljust(7, '0'), tool.places(off, 5))
     falling = [tool.promise('slope', n) for n in range(tool.LEAST, tool.FULL + 1)]
     assert falling == sorted(falling, reverse=True)
-    yield 'Midpoints keep their %s and DSG its %s' % (near(tool, 'midpoint'), near(tool, 'DSG'))
 
 
 def mean_date(n):
     return Fraction(sum(7 + 15 * j for j in range(n)), n)
 
 
-def scatter_bound(tool):
-    # the thresholds stand at half a unit, and two roundings of half a tenth move a root mean square by a tenth at most
-    steps = tool.STEPS
-    least, apart = tool.root(Fraction(tool.threshold(1, 1))) / steps, 2 * HALF / steps
-    reach = Fraction(least) + apart
-    assert tool.promise('DSG', tool.FULL) == reach / 100
-    yield 'the sum of (ρ - e)² is at most n / %s.' % (1 / HALF ** 2)
-    yield 'r and ρ differ by at most half a tenth each: the sum of (r - ρ)² is at most n / %s.' % (1 / HALF ** 2)
-    yield 'within %s ps of the exact ones' % decimals(apart)
-    yield 'root mean squares at most %s ps apart' % decimals(apart)
-    yield 'c Σu² ≤ (c + 1) Σw² + c (c + 1) Σ(u - w)²'
-    yield 'DSG is d, from 1 up, where'
-    yield 'at least 100d - %d ps and below 100d + %d ps; it is 0 below %d ps' % (least, least, least)
-    yield 'at most 100d + %s ps and, for d from 1 up, at least 100d - %s ps: %s ps, %s of the unit' % (
-        *3 * [decimals(reach)], near(tool, 'DSG'))
-    yield 'A DSG of 0 has no threshold and only the upper promise: M is at most %s²' % decimals(reach)
+BEFORE = (
+    'the bounds were {earlier} for midpoints and DSG, and {half} + n/(n² - 1) for slopes: from {since} blocks on {slopes}.',
+    'A midpoint from whole picoseconds is within {midpoint}, less than was promised',
+)
+
+
+def before(world):
+    """The bounds that were promised when values were whole ps."""
+    tool = world.tool
+    assert all(tool.promise(kind, n) <= tool.promise(kind, n, 1) for kind in ('midpoint', 'slope', 'DSG')
+               for n in range(tool.LEAST, tool.FULL + 1))
+    assert max(tool.promise(kind, 52, 1) for kind in ('midpoint', 'DSG')) <= DOCUMENT_01
+    return {'earlier': decimals(DOCUMENT_01), 'half': decimals(HALF), 'slopes': decimals(SLOPES_01),
+            'since': next(k for k in range(2, 1000) if tool.promise('slope', k, 1) <= SLOPES_01),
+            'midpoint': decimals(tool.promise('midpoint', tool.FULL, 1))}
 
 
 # ---- the worked track
 
-def worked(track, tool):
+WORKED = (
+    'At second t, from 0 to {seconds}, in ps',
+    'For block j, from 0 to {blocks}, whose middle is second t = 7 + 15j',
+    'with INT = {INT}, CAB = {CAB}, REF = {REF} and GD = {GD}.',
+    'Promises of more than 0.5 are {needed} there.',
+    '### Smoothing: block {followed}, seconds {first} to {last}',
+    'solve {zeroth}p + {second}r = Σm, {second}q = Σxm and {second}p + {fourth}r = Σx²m',
+    'Its fraction is {rest}/1105, and {steps} times as much leaves {tenths}/1105 of a tenth',
+)
+
+
+def worked(world):
+    track, tool = world.track, world.tool
     fit, exact = track.fit('B'), tool.ExactFit(track.exact['B'])
-    given = tuple(track.given[name] for name in ('INT', 'CAB', 'REF', 'GD'))
     distances = {'midpoint': abs(fit.midpoint - exact.midpoint), 'DSG': abs(fit.dsg - Fraction(exact.root) / 100)}
     needed = all(HALF < distance <= tool.promise(kind, fit.n) for kind, distance in distances.items())
-    yield 'At second t, from 0 to %d, in ps' % (tool.SPAN * track.n - 1)
-    yield 'For block j, from 0 to %d, whose middle is second t = 7 + 15j' % (track.n - 1)
-    yield 'with INT = %d, CAB = %d, REF = %d and GD = %d.' % given
-    yield 'promises of more than 0.5 are %s there, and 0.5 would not hold' % ('needed' if needed else 'NOT needed')
-    yield from smoothing(track, tool)
-    yield from fitting(fit, exact, tool)
-    yield from scattering(fit, exact, tool)
-
-
-def smoothing(track, tool):
-    zeroth, second, fourth = (sum(x ** k for x in range(-7, 8)) for k in (0, 2, 4))
-    rest, tenths = track.weighted(FOLLOWED) % 1105, track.steps * track.weighted(FOLLOWED) % 1105
-    first = 15 * FOLLOWED
-    yield '### Smoothing: block %d, seconds %d to %d' % (FOLLOWED, first, first + 14)
-    yield 'solve %dp + %dr = Σm, %dq = Σxm and %dp + %dr = Σx²m' % (zeroth, second, second, second, fourth)
+    rest = track.weighted(FOLLOWED) % 1105
     assert track.exact_smoothed[FOLLOWED] % 1 == Fraction(rest, 1105)
-    yield 'Its fraction is %d/1105, as `weights-exact` says, and %d times as much leaves %d/1105 of a tenth' % (
-        rest, track.steps, tenths)
+    zeroth, second, fourth = (sum(x ** k for x in range(-7, 8)) for k in (0, 2, 4))
+    return {'seconds': tool.SPAN * track.n - 1, 'blocks': track.n - 1, 'needed': 'needed' if needed else 'NOT needed',
+            **{name: track.given[name] for name in ('INT', 'CAB', 'REF', 'GD')},
+            'followed': FOLLOWED, 'first': 15 * FOLLOWED, 'last': 15 * FOLLOWED + 14,
+            'zeroth': zeroth, 'second': second, 'fourth': fourth,
+            'rest': rest, 'steps': track.steps, 'tenths': track.steps * track.weighted(FOLLOWED) % 1105}
 
 
 def side(value, tie):
     return 'above' if value > tie else 'below' if value < tie else 'on'
 
 
-def fitting(fit, exact, tool):
-    n = fit.n
-    tie = math.floor(exact.midpoint) + HALF
+FITTED = (
+    'The {n} values B, j = 0 first, {row} a row, in 0.1 ps',
+    'T the sum of (2j - {last}) times the value',
+    'The nearest whole number to n / d is the floor of (2n + d) / 2d',
+    'S / {over} lies {ours} the tie at {tie}, by {missing} tenth in S, so REFSYS is {refsys}. The exact midpoint lies {theirs} the tie: '
+    'the errors of the {n} smoothed values have moved the mean by {moved} ps',
+    'So the distance is {more} than {half}; it is {within} {reach}, as promised.',
+    'A tie itself would have gone up, to {up}.',
+)
+
+
+def fitted(world):
+    tool, fit, exact = world.tool, world.track.fit('B'), world.tool.ExactFit(world.track.exact['B'])
+    n, tie = fit.n, math.floor(exact.midpoint) + HALF
     share, reach = Fraction(fit.s, fit.midpoints), tool.promise('midpoint', n)
     distance = abs(fit.midpoint - exact.midpoint)
-    yield 'The %d values B, j = 0 first, %d a row, in 0.1 ps' % (n, n // 4)
-    yield 'T the sum of (2j - %d) times the value' % (n - 1)
-    yield 'The nearest whole number to n / d is the floor of (2n + d) / 2d'
-    yield 'S / %d lies %s the tie at %s, by %s tenth in S, so REFSYS is %d. The exact midpoint lies %s the tie.' % (
-        fit.midpoints, side(share, tie), decimals(tie), abs(fit.s - fit.midpoints * tie), fit.midpoint,
-        side(exact.midpoint, tie))
-    yield 'The errors of the %d smoothed values, at most %s ps each, have moved the mean by %s ps' % (
-        n, decimals(HALF / tool.STEPS), tool.places(abs(Fraction(fit.s, tool.STEPS * n) - exact.p), 6))
-    yield 'The distance is therefore %s than %s; it is %s %s, as `midpoint-bound` says and as is promised' % (
-        'more' if distance > HALF else 'NOT more', decimals(HALF), side(distance, reach), decimals(reach))
-    yield 'A tie itself would have gone up, to %d.' % math.ceil(tie)
+    return {'n': n, 'row': n // 4, 'last': n - 1, 'over': fit.midpoints, 'ours': side(share, tie), 'theirs': side(exact.midpoint, tie),
+            'tie': decimals(tie), 'missing': abs(fit.s - fit.midpoints * tie), 'refsys': fit.midpoint, 'up': math.ceil(tie),
+            'moved': tool.places(abs(Fraction(fit.s, tool.STEPS * n) - exact.p), 6),
+            'more': 'more' if distance > HALF else 'NOT more', 'half': decimals(HALF), 'within': side(distance, reach), 'reach': decimals(reach)}
 
 
-def scattering(fit, exact, tool):
-    n, written = fit.n, 100 * fit.dsg
-    ours, theirs = fit.root(), exact.root
+SCATTERED = (
+    '({squares} B - {share} S - (2j - {last}) T) / {squares}. Here {squares} = n(n² - 1) / 3 for n = {n}, and {share} = {squares} / {n}.',
+    'One residual, that of block {followed}',
+    'the residual from rounded values is nearer to {residual}, the exact one nearer to {nearer}.',
+    'All residuals, in 0.1 ps',
+    "The program's root mean square lies {ours} the tie at {tie} ps and the exact one {theirs} it.",
+    'They are less than {differ} ps apart, where {apart} ps are allowed.',
+    'Midpoints and DSG in 0.1 ns, slopes in 0.1 ps/s',
+    'S / {midpoints}, T / {slopes} or the root of Q / {n}',
+)
+
+
+def scattered(world):
+    tool, fit, exact = world.tool, world.track.fit('B'), world.tool.ExactFit(world.track.exact['B'])
+    n, ours, theirs = fit.n, fit.root(), exact.root
     tie = tool.root(Fraction(tool.threshold(fit.dsg, n), n)) / fit.steps
     # the squares of the places 2j - (n - 1) add up to this, and so T over it is the slope for one step of a place
     squares = sum((2 * j - (n - 1)) ** 2 for j in range(n))
-    whole = '%d' if Fraction(n * (n * n - 1), 3) == squares else 'NOT %d'
-    yield 'B - S / %d - (2j - %d) T / %d, where %s = n(n² - 1) / 3 for n = %d' % (n, n - 1, squares, whole % squares, n)
-    yield '(%d B - %s S - (2j - %d) T) / %d, as %s = %d / %d' % (
-        squares, Fraction(squares, n), n - 1, squares, Fraction(squares, n), squares, n)
-    yield 'One residual, that of block %d' % FOLLOWED
-    yield 'All residuals, in 0.1 ps'
+    assert Fraction(n * (n * n - 1), 3) == squares
     exact_one = fit.steps * exact.residuals[FOLLOWED]
     nearer = tool.nearest(exact_one.numerator, exact_one.denominator)
     assert nearer != fit.residuals[FOLLOWED]
-    yield 'the residual from rounded values is nearer to %d, the exact one nearer to %d.' % (fit.residuals[FOLLOWED], nearer)
-    yield "The program's root mean square lies %s the tie at %d ps and the exact one %s it" % (
-        side(ours, tie), tie, side(theirs, tie))
-    yield 'they are less than %s ps apart; they are at most %s ps apart for every track' % (
-        tool.rounded_up(Fraction(abs(ours - theirs)), 2), decimals(2 * HALF / fit.steps))
-    yield 'the exact one is at most %s ps from the written %d ps' % (
-        decimals(Fraction(written - tie) + 2 * HALF / fit.steps), written)
-    yield 'Midpoints and DSG in 0.1 ns, slopes in 0.1 ps/s'
-    yield 'S / %d, T / %s or the root of Q / %d' % (fit.midpoints, Fraction(fit.slopes, 4), n)
+    return {'squares': squares, 'share': Fraction(squares, n), 'last': n - 1, 'n': n, 'followed': FOLLOWED,
+            'residual': fit.residuals[FOLLOWED], 'nearer': nearer, 'tie': int(tie), 'ours': side(ours, tie), 'theirs': side(theirs, tie),
+            'differ': tool.rounded_up(Fraction(abs(ours - theirs)), 2), 'apart': decimals(2 * HALF / fit.steps),
+            'midpoints': fit.midpoints, 'slopes': Fraction(fit.slopes, 4)}
 
 
 # ---- the short track, and what it changes
 
-def short_track(short, track, tool):
-    n = short.n
-    fit, exact = short.fit('B'), tool.ExactFit(short.exact['B'])
-    before, tie = Fraction(4 * fit.t, fit.slopes), math.floor(exact.slope) + HALF
+SHORT = (
+    'has {n} blocks: the satellite sets after {seconds} s.',
+    'T / {divisor} lies {ours} the tie at {tie} and the exact slope {theirs} it.',
+    'So SRSYS is {distance} of its unit from the exact one.',
+    'That is {over} the {full_slope} of a full track and {within} {half} + {n} / {denominator}, under {promised}, which is promised of it',
+    'second 7.5n - 0.5 of the track: second {first_date} for {least} blocks, second {full_date} for {full}.',
+    "At the worked track's {rate} ps/s the two are {ns} ns apart",
+    's / 15 · √(12 / (n(n² - 1))) ps/s.',
+    'For {scatter} ps that is {full_doubt} ps/s with {full} blocks and {least_doubt} ps/s with {least}; '
+    'roundings move it by {full_rounding} and {least_rounding} ps/s.',
+    "two of the n values' freedoms",
+    '√(n / (n - 2)) times DSG: {full_times} times for {full} blocks, {least_times} times for {least}.',
+)
+
+
+def short(world):
+    tool, fit, exact = world.tool, world.short.fit('B'), world.tool.ExactFit(world.short.exact['B'])
+    n, tie = fit.n, math.floor(exact.slope) + HALF
     distance, promised, full = abs(fit.slope - exact.slope), tool.promise('slope', n), tool.promise('slope', tool.FULL)
-    yield 'It has %d blocks: the satellite sets after %d s.' % (n, tool.SPAN * n)
-    yield 'T / %s lies %s the tie at %s and the exact slope %s it' % (
-        Fraction(fit.slopes, 4), side(before, tie), decimals(tie), side(exact.slope, tie))
-    yield 'so SRSYS is %s of its unit from the exact one' % tool.places(distance, 6)
-    yield 'That is %s the %s of a full track and %s %s + %d / %d, under %s' % (
-        side(distance, Fraction(tool.rounded_up(full, 5))), tool.rounded_up(full, 5), side(distance, promised),
-        decimals(HALF), n, tool.STEPS * (n * n - 1), tool.rounded_up(promised, 5))
-    yield from changes(track, tool)
+    return {'n': n, 'seconds': tool.SPAN * n, 'divisor': Fraction(fit.slopes, 4), 'tie': decimals(tie), 'half': decimals(HALF),
+            'ours': side(Fraction(4 * fit.t, fit.slopes), tie), 'theirs': side(exact.slope, tie), 'distance': tool.places(distance, 6),
+            'full_slope': tool.rounded_up(full, 5), 'over': side(distance, Fraction(tool.rounded_up(full, 5))),
+            'within': side(distance, promised), 'denominator': tool.STEPS * (n * n - 1), 'promised': tool.rounded_up(promised, 5),
+            **short_uses(tool, world.track.fit('B'))}
 
 
-def changes(track, tool):
-    """What a metrologist has to know of short tracks."""
-    least, full, dsg = tool.LEAST, tool.FULL, track.fit('B')
-    apart = mean_date(full) - mean_date(least)
-    slope, scatter = abs(Fraction(dsg.slope, 10)), int(dsg.root())
-    yield 'second 7.5n - 0.5 of the track: second %s for %d blocks, second %s for %d' % (
-        decimals(mean_date(least)), least, decimals(mean_date(full)), full)
-    yield "At the worked track's %s ps/s the two are %s s and so %s ns apart" % (
-        decimals(slope), apart, tool.places(slope * apart / 1000, 1))
+def short_uses(tool, fit):
+    """What a metrologist has to know of short tracks; the rate and the scatter are those of the worked one."""
+    least, full = tool.LEAST, tool.FULL
+    rate, scatter_of = abs(Fraction(fit.slope, 10)), int(fit.root())
     # the least line's slope of n values that scatter by s: s over the root of the sum of the squared seconds
-    doubt = {n: scatter / tool.root(sum((7 + 15 * j - mean_date(n)) ** 2 for j in range(n))) for n in (least, full)}
-    yield 's / 15 · √(12 / (n(n² - 1))) ps/s'
-    yield 'With the %d ps of the worked track that is %s ps/s for %d blocks and %s ps/s for %d' % (
-        scatter, tool.places(doubt[full], 2), full, tool.places(doubt[least], 1), least)
-    yield 'while the roundings move it by %s and %s ps/s at most' % tuple(
-        tool.places(tool.promise('slope', n) / 10, 3) for n in (full, least))
-    yield 'divides by n, while the line has taken two of the n values\' freedoms'
-    yield '√(n / (n - 2)) times DSG: %s times for %d blocks, %s times for %d' % (
-        tool.places(tool.root(Fraction(full, full - 2)), 2), full, tool.places(tool.root(Fraction(least, least - 2)), 2),
-        least)
+    doubt = {n: scatter_of / tool.root(sum((7 + 15 * j - mean_date(n)) ** 2 for j in range(n))) for n in (least, full)}
+    return {'least': least, 'full': full, 'first_date': decimals(mean_date(least)), 'full_date': decimals(mean_date(full)),
+            'rate': decimals(rate), 'ns': tool.places(rate * (mean_date(full) - mean_date(least)) / 1000, 1), 'scatter': scatter_of,
+            'full_doubt': tool.places(doubt[full], 2), 'least_doubt': tool.places(doubt[least], 1),
+            'full_rounding': tool.places(tool.promise('slope', full) / 10, 3), 'least_rounding': tool.places(tool.promise('slope', least) / 10, 3),
+            'full_times': tool.places(tool.root(Fraction(full, full - 2)), 2), 'least_times': tool.places(tool.root(Fraction(least, least - 2)), 2)}
 
 
 # ---- the track that changed
 
-def changed_track(data, tool):
-    """What has become of it, and how far the last digit of any track can move."""
-    old, new = (tool.Track(data, steps) for steps in (1, tool.STEPS))
+CHANGED = (
+    'In whole ps its REFSYS was {was} and its DSG {dsg_was}; in tenths they are {now} and {dsg_now}.',
+    'the exact midpoint lies {midpoint_side} the tie at {tie}, and the exact root mean square {root_side} {root_tie} ps.',
+    'Rounded to whole ps the values lie {was_side} {tie} and {was_root_side} {root_tie}:',
+    'The old figures were {old_midpoint} and {old_dsg} of a unit off, within their {earlier}; the new ones are {new_midpoint} and {new_dsg} off.',
+    "the worked track's REFSYS was {worked_was}, {worked_off} off, and is {worked_now}.",
+)
+
+
+def changed(world):
+    tool, root_tie = world.tool, 250
+    old, new = (tool.Track(world.changed, steps) for steps in (1, tool.STEPS))
     was, now, exact = old.fit('B'), new.fit('B'), tool.ExactFit(new.exact['B'])
     tie = math.floor(exact.midpoint) + HALF
-    moved = {name for name, value in tool.numbers(old).items() if value != tool.numbers(new)[name]}
-    assert moved == {'REFSYS', 'DSG'}
-    yield 'In whole ps its REFSYS was %d and its DSG %d; in tenths they are %d and %d' % (
-        was.midpoint, was.dsg, now.midpoint, now.dsg)
-    yield 'The exact midpoint lies %s the tie at %s, and the exact root mean square %s %d ps' % (
-        side(exact.midpoint, tie), decimals(tie), side(exact.root, 250), 250)
-    yield 'rounded to whole ps the values lie %s %s and %s %d' % (
-        side(Fraction(was.s, was.midpoints), tie), decimals(tie), side(was.root(), 250), 250)
-    far = [abs(was.midpoint - exact.midpoint), abs(was.dsg - Fraction(exact.root) / 100)]
-    yield 'The old figures were %s and %s of a unit off, within their %s; the new ones are %s and %s off' % (
-        *(tool.places(value, 6) for value in far), decimals(DOCUMENT_01),
-        *(tool.places(value, 6) for value in (abs(now.midpoint - exact.midpoint), abs(now.dsg - Fraction(exact.root) / 100))))
-    yield from in_small(tool)
-    yield from the_other_way(tool)
-    yield from how_far(tool)
+    assert {name for name, value in tool.numbers(old).items() if value != tool.numbers(new)[name]} == {'REFSYS', 'DSG'}
+    worked_was, worked_now, worked_exact = both_ways(tool)
+    off = {name: tool.places(abs(value), 6) for name, value in (
+        ('old_midpoint', was.midpoint - exact.midpoint), ('old_dsg', was.dsg - Fraction(exact.root) / 100),
+        ('new_midpoint', now.midpoint - exact.midpoint), ('new_dsg', now.dsg - Fraction(exact.root) / 100),
+        ('worked_off', worked_was - worked_exact))}
+    return {'was': was.midpoint, 'dsg_was': was.dsg, 'now': now.midpoint, 'dsg_now': now.dsg, 'tie': decimals(tie), 'root_tie': root_tie,
+            'midpoint_side': side(exact.midpoint, tie), 'root_side': side(exact.root, root_tie),
+            'was_side': side(Fraction(was.s, was.midpoints), tie), 'was_root_side': side(was.root(), root_tie),
+            'earlier': decimals(DOCUMENT_01), 'worked_was': worked_was, 'worked_now': worked_now, **off}
 
 
-def the_other_way(tool):
-    """A track that is nearer to the exact figure in whole ps."""
+def both_ways(tool):
+    """REFSYS of a track that is nearer to the exact figure in whole ps: before, now, and exactly."""
     data = (tool.ROOT / 'examples/worked.blk').read_bytes()
     was, now = (tool.Track(data, steps).fit('B').midpoint for steps in (1, tool.STEPS))
     exact = tool.ExactFit(tool.Track(data).exact['B']).midpoint
     assert abs(was - exact) < abs(now - exact)
-    yield "the worked track's REFSYS was %d, %s off, and is %d" % (was, tool.places(abs(was - exact), 6), now)
+    return was, now, exact
 
 
-def how_far(tool):
-    """How far the last digit of any track can move, and how often it does."""
-    yield 'Below 2 the only whole numbers are 0 and 1'
-    yield 'with 3, 4 or 6, and by one unit'
+IN_SMALL = (
+    'all {low} ps, but {high} in the middle of each block.',
+    '{low} × 1105 + {more} × {weight} = {weighted}, which over 1105 is {exact} ps.',
+    'In whole ps that is {whole}, so S / 100n is {tie}, a tie, and REFSYS was 1.',
+    'In tenths it is {tenths}, so S / 1000n is {now} and REFSYS is 0.',
+)
+
+
+def in_small(world):
+    """A track whose blocks are all alike, so that the number of blocks drops out."""
+    tool, low, high = world.tool, 49, 53
+    weighted = low * sum(tool.WEIGHTS) + (high - low) * tool.WEIGHTS[7]
+    whole, tenths = tool.nearest(weighted, 1105), tool.nearest(tool.STEPS * weighted, 1105)
+    for n in range(tool.LEAST, tool.FULL + 1):
+        values = [low + (high - low) * (i == 7) for i in range(15)] * n
+        assert block_of(values, tool).fit('B').midpoint == 0 and block_of(values, tool).rounded['B'] == [tenths] * n
+        assert tool.Fit([whole] * n, 1).midpoint == 1
+    return {'low': low, 'high': high, 'more': high - low, 'weight': tool.WEIGHTS[7], 'weighted': weighted,
+            'exact': tool.places(Fraction(weighted, 1105), 6), 'whole': whole, 'tie': decimals(Fraction(whole, 100)),
+            'tenths': tenths, 'now': decimals(Fraction(tenths, 1000))}
+
+
+HOW_FAR = (
+    'across its limit: 3, 4 or 6, by one unit',
+    'at most {midpoint} apart for a midpoint and {dsg} for a DSG. For a slope of {least} blocks it is {slope}: all below 2.',
+    'whose noise is at most 1 to 10 ns either way',
+)
+
+
+def how_far(world):
+    """How far the last digit of any track can move."""
+    tool = world.tool
     most = {kind: DOCUMENT_01 + tool.promise(kind, tool.FULL) for kind in ('midpoint', 'DSG')}
     most['slope'] = max(tool.promise('slope', n) + tool.promise('slope', n, 1) for n in range(tool.LEAST, tool.FULL + 1))
     assert max(most.values()) < 2
-    yield 'at most %s apart for a midpoint, %s for a DSG and, with %d blocks, %s for a slope' % (
-        decimals(most['midpoint']), decimals(most['DSG']), tool.LEAST, tool.rounded_up(most['slope'], 5))
-    yield 'whose noise is at most 1 to 10 ns either way'
-    yield from table_of_shares(tool) if counted_here(tool) else ()
+    return {'midpoint': decimals(most['midpoint']), 'dsg': decimals(most['DSG']), 'least': tool.LEAST,
+            'slope': tool.rounded_up(most['slope'], 5)}
 
 
-def table_of_shares(tool):
+# ---- how often a line moved
+
+def table_of_shares(world):
+    tool = world.tool
     rows = (str(tool.FULL), '%d to %d, as many of each' % (tool.LEAST, tool.FULL), str(tool.LEAST))
-    for blocks, counts in zip(rows, shares(tool), strict=True):
+    for blocks, counts in zip(rows, shares(tool), strict=True) if counted_here(tool) else ():
         yield '| %s | %s |' % (blocks, ' | '.join(tool.spaced(count) for count in counts))
-
-
-def in_small(tool):
-    """A track whose blocks are all alike, so that the number of blocks drops out."""
-    low, middle = 49, 53
-    weighted = low * sum(tool.WEIGHTS) + (middle - low) * tool.WEIGHTS[7]
-    exact = Fraction(weighted, 1105)
-    whole, tenths = tool.nearest(weighted, 1105), tool.nearest(tool.STEPS * weighted, 1105)
-    for n in range(tool.LEAST, tool.FULL + 1):
-        values = [low + (middle - low) * (i == 7) for i in range(15)] * n
-        assert block_of(values, tool).fit('B').midpoint == 0 and block_of(values, tool).rounded['B'] == [tenths] * n
-        assert tool.Fit([whole] * n, 1).midpoint == 1
-    yield 'whose measurements are all %d ps, but %d in the middle of each block, and all else 0' % (low, middle)
-    yield '%d × 1105 + %d × %d = %d, which over 1105 is %s ps' % (
-        low, middle - low, tool.WEIGHTS[7], weighted, tool.places(exact, 6))
-    yield 'In whole ps that is %d, so S / 100n is %s, a tie, and REFSYS was 1' % (whole, decimals(Fraction(whole, 100)))
-    yield 'In tenths it is %d, so S / 1000n is %s and REFSYS is 0' % (tenths, decimals(Fraction(tenths, 1000)))
-    yield 'The exact midpoint is %s.' % tool.places(exact / 100, 6)
 
 
 def shares(tool):
@@ -460,3 +492,8 @@ def without_shares(prose):
     first = next((k + 2 for k, row in enumerate(prose) if row.startswith(COUNTED_HEADING)), len(prose))
     last = next((k for k in range(first, len(prose)) if not prose[k].startswith('|')), len(prose))
     return prose[:first] + prose[last:], last - first
+
+
+PARTS = ((BOUNDS, bounds), (SLOPE, slope), (SCATTER, scatter), (REACHED, reached), (BEFORE, before), (WORKED, worked), (FITTED, fitted),
+         (SCATTERED, scattered), (SHORT, short), (CHANGED, changed), (IN_SMALL, in_small), (HOW_FAR, how_far))
+ROWS = (over_blocks, table_of_shares)

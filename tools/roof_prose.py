@@ -1,95 +1,121 @@
-"""The figures in the prose of docs/COMMON-VIEW.md, for `tools/roof check`.
+"""What docs/COMMON-VIEW.md says with figures, for `tools/roof check`; tools/prose.py holds the document against it.
 
-Every phrase below is made anew from the blocks of tools/roof. The document has to have each of them, and every digit of its
-prose has to stand in one, in a name between backquotes, or in the unit 0.1 ns. Its code blocks are what the program prints
-and what is typed; tests/cggtts/test_view.py runs them.
+Every figure is made anew from the blocks of tools/roof. A world has the module of tools/roof, and of both receivers the blocks,
+the lines and the report on them. Runs are in code blocks; tests/cggtts/test_view.py runs them.
 """
+import collections
 import decimal
 from fractions import Fraction
 
-from lastdigit_prose import figures_in
+from prose import decimals
+
+World = collections.namedtuple('World', 'tool blocks lines report')
 
 # the last rounding of a REFSYS, and what is promised of it, in 0.1 ns
 ROUNDING, PROMISE = Fraction(1, 2), Fraction(5005, 10000)
-UNITS = ('0.1 ns',)
-# what makes a phrase behind it a part of another figure
-PARTS = tuple('0123456789.')
 # how long a signal takes in cable, in ns a metre
 CABLE = Fraction(505, 100)
+# digits that are no figures: a unit, and refusals
+NAMES = ('0.1 ns', 'below refusal 18')
 
 
-def check(document, wanted):
-    """How many figures the prose has, and what is wrong with them."""
-    prose = ' '.join(' '.join(row for row in document.splitlines() if not row.startswith('    ')).split())
-    return figures_in(prose, (*wanted, *UNITS), PARTS)
-
-
-def decimals(fraction, places=None):
-    """A fraction in full, or to so many places."""
-    value = decimal.Decimal(fraction.numerator) / fraction.denominator
-    return format(value.normalize(), 'f') if places is None else '{:.{}f}'.format(value, places)
+def world(tool):
+    """What the figures are made from; tool is the module of tools/roof."""
+    blocks = {receiver: tool.blocks_of(receiver) for receiver in 'ab'}
+    lines = {receiver: tool.lines_of(found) for receiver, found in blocks.items()}
+    return World(tool, blocks, lines, tool.Report(lines['a'], lines['b']))
 
 
 def tenths(units):
     return '%.1f' % (Fraction(units, 10))
 
 
-def phrases(tool, files):
-    """Everything in the prose that has a figure in it; tool is the module of tools/roof, files the blocks of A and of B."""
-    lines = {receiver: tool.lines_of(blocks) for receiver, blocks in files.items()}
-    report = tool.Report(lines['a'], lines['b'])
-    return [*settings(tool), *sky(tool, lines), *shown(tool, report, lines), *corrected(tool, report, lines),
-            *exactness(tool, report, files), *limits()]
+SETTINGS = (
+    'From {hour}:00 on MJD {mjd} they recorded every third start for {hours} hours',
+    'a piece that delays by {extra} ps, which is about {metres} m of cable',
+    '| INT, entered | {int_a} | {int_b} |',
+    '| CAB, entered | {cab_a} | {cab_b} |',
+    '| antenna cable, as it is | {cable_a} | {cable_b} |',
+    '| REF, entered | {ref_a} | {ref_b} |',
+)
 
 
-def settings(tool):
-    a, b = tool.DELAYS['a'], tool.DELAYS['b']
-    yield 'From %d:00 on MJD %d they recorded every third start for %d hours' % (
-        tool.FROM // 60, tool.FIRST_DAY, tool.MINUTES // 60)
-    yield 'a piece that delays by %d ps, which is about %s m of cable' % (
-        tool.EXTRA, decimals(Fraction(tool.EXTRA, 1000) / CABLE, 1))
-    yield '| INT, entered | %d | %d |' % (a['INT'], b['INT'])
-    yield '| CAB, entered | %d | %d |' % (a['CAB'], b['CAB'])
-    yield '| antenna cable, as it is | %d | %d |' % (tool.CABLES['a'], tool.CABLES['b'])
-    yield '| REF, entered | %d | %d |' % (a['REF'], b['REF'])
+def settings(world):
+    tool = world.tool
+    entered = {'%s_%s' % (name.lower(), receiver): tool.DELAYS[receiver][name] for name in ('INT', 'CAB', 'REF') for receiver in 'ab'}
+    return {'hour': tool.FROM // 60, 'mjd': tool.FIRST_DAY, 'hours': tool.MINUTES // 60, 'extra': tool.EXTRA,
+            'metres': decimals(Fraction(tool.EXTRA, 1000) / CABLE, 1), **entered,
+            'cable_a': tool.CABLES['a'], 'cable_b': tool.CABLES['b']}
 
 
-def sky(tool, lines):
-    seen = [blocks for _, blocks in tool.seen()]
-    rates = {Fraction(track.refsys(10 ** 6) - track.refsys(0), 10 ** 6) for track, _ in tool.seen()}
-    values = sorted(tool.refsys_of(lines['a']).values())
-    lost = [15 * b for a, b in seen if 0 < b < a]
-    yield 'gains %s ps/s' % decimals(rates.pop())
-    yield 'off by up to %s ns' % decimals(Fraction(tool.ALWAYS_OFF + tool.TRACK_OFF, 1000))
-    yield 'runs from %s to %s ns in the lines of A' % (tenths(values[0]), tenths(values[-1]))
-    yield 'up to %s ns from second to second, and up to %s ns' % (
-        decimals(Fraction(tool.SECOND_NOISE, 1000)), decimals(Fraction(tool.TRACK_NOISE, 1000)))
-    yield 'There are %d tracks. %d of them only A saw, %d only B.' % (
-        len(seen), sum(b == 0 for _, b in seen), sum(a == 0 for a, _ in seen))
-    yield 'One B lost after %d s, so that its TRKL is %04d where that of A is %04d' % (lost[0], lost[0], 15 * tool.FULL)
-    yield 'One satellite set after %d s' % next(15 * a for a, b in seen if a == b < tool.FULL)
-    assert len(lost) == 1 and not rates
+SKY = (
+    'gains {rate} ps/s',
+    'off by up to {broadcast} ns',
+    'runs from {first} to {last} ns in the lines of A',
+    'up to {second} ns from second to second, and up to {track} ns',
+    'There are {tracks} tracks. {only_a} of them only A saw, {only_b} only B.',
+    'One B lost after {lost} s, so that its TRKL is {lost_trkl} where that of A is {full_trkl}',
+    'One satellite set after {set} s',
+)
 
 
-def shown(tool, report, lines):
-    values = sorted(tool.refsys_of(lines['a']).values())
-    extra = Fraction(tool.EXTRA, 1000)
-    yield 'larger than that of A by %d/%d x 0.1 ns, about %s ns' % (-report.sum, report.number, decimals(-report.mean, 3))
-    yield 'The piece of cable is %s ns. The mean is off by %s ns' % (decimals(extra), decimals(abs(report.mean + extra), 3))
-    yield 'the %d differences have a standard deviation of %s ns, so that their mean has a standard uncertainty of %s ns' % (
-        report.number, '%.2f' % report.deviation, '%.2f' % (report.deviation / decimal.Decimal(report.number).sqrt()))
-    yield "The clock's 0.4 ps/s"
-    yield 'REFSYS of A alone covers %s ns, the differences cover %s ns' % (
-        tenths(values[-1] - values[0]), tenths(report.largest - report.smallest))
+def sky(world):
+    tool, seen = world.tool, [blocks for _, blocks in world.tool.seen()]
+    rate, = {Fraction(track.refsys(10 ** 6) - track.refsys(0), 10 ** 6) for track, _ in tool.seen()}
+    lost, = [15 * b for a, b in seen if 0 < b < a]
+    values = sorted(tool.refsys_of(world.lines['a']).values())
+    return {'rate': decimals(rate), 'broadcast': decimals(Fraction(tool.ALWAYS_OFF + tool.TRACK_OFF, 1000)),
+            'first': tenths(values[0]), 'last': tenths(values[-1]), 'second': decimals(Fraction(tool.SECOND_NOISE, 1000)),
+            'track': decimals(Fraction(tool.TRACK_NOISE, 1000)), 'tracks': len(seen), 'only_a': sum(b == 0 for _, b in seen),
+            'only_b': sum(a == 0 for a, _ in seen), 'lost': lost, 'lost_trkl': '%04d' % lost, 'full_trkl': '%04d' % (15 * tool.FULL),
+            'set': next(15 * a for a, b in seen if a == b < tool.FULL)}
 
 
-def corrected(tool, report, lines):
-    right = tool.Report(lines['a'], tool.lines_of(tool.blocks_of('b', CAB=tool.CABLES['b'])))
-    moved = {right.pairs[key] - value for key, value in report.pairs.items()}
-    yield '%d instead of %d,' % (tool.CABLES['b'], tool.DELAYS['b']['CAB'])
-    yield '%d pairs, sum %d, smallest %d, largest %d' % (right.number, right.sum, right.smallest, right.largest)
-    yield 'higher by %d' % moved.pop()
-    assert not moved
+SHOWN = (
+    'larger than that of A by {sum}/{pairs} x 0.1 ns, about {mean} ns',
+    'The piece of cable is {extra} ns. The mean is off by {off} ns',
+    'The {pairs} differences have a standard deviation of {deviation} ns, so that their mean has a standard uncertainty of {uncertainty} ns',
+    'REFSYS of A alone covers {covered} ns, the differences cover {differences} ns',
+    '{cable} instead of {entered},',
+    '{pairs} pairs, sum {right_sum}, smallest {right_smallest}, largest {right_largest}',
+    'Every difference is higher by {moved}.',
+)
+
+
+def shown(world):
+    tool, report = world.tool, world.report
+    values, extra = sorted(tool.refsys_of(world.lines['a']).values()), Fraction(tool.EXTRA, 1000)
+    right = tool.Report(world.lines['a'], tool.lines_of(tool.blocks_of('b', CAB=tool.CABLES['b'])))
+    moved, = {right.pairs[key] - value for key, value in report.pairs.items()}
+    assert right.number == report.number
+    return {'sum': -report.sum, 'pairs': report.number, 'mean': decimals(-report.mean, 3), 'extra': decimals(extra),
+            'off': decimals(abs(report.mean + extra), 3), 'deviation': '%.2f' % report.deviation,
+            'uncertainty': '%.2f' % (report.deviation / decimal.Decimal(report.number).sqrt()),
+            'covered': tenths(values[-1] - values[0]), 'differences': tenths(report.largest - report.smallest),
+            'cable': tool.CABLES['b'], 'entered': tool.DELAYS['b']['CAB'], 'moved': moved,
+            'right_sum': right.sum, 'right_smallest': right.smallest, 'right_largest': right.largest}
+
+
+EXACTNESS = (
+    'to 0.001 ns, the nearest: off by at most 0.0005 ns',
+    'or the program ends with 2',
+    'to 0.000001 of a day, {day} s',
+    'to 0.1 of a pixel',
+    'by at most {rounding} of 0.1 ns',
+    'what is written is within {promise} of 0.1 ns',
+    'a difference is within {difference} ns',
+    'have the mean {mean} ns, which is {apart} ns from that of the lines',
+    'A file may have up to {most} lines. A longer one is refused with 19',
+)
+
+
+def exactness(world):
+    one, other = (exact_refsys(world.tool, world.blocks[receiver]) for receiver in 'ab')
+    report = world.report
+    mean = sum(one[key] - other[key] for key in report.pairs) / (10 * report.number)
+    assert abs(mean - report.mean) <= 2 * PROMISE / 10
+    return {'day': decimals(Fraction(86400, 10 ** 6)), 'rounding': decimals(ROUNDING), 'promise': decimals(PROMISE),
+            'difference': decimals(2 * PROMISE / 10), 'mean': decimals(mean, 5), 'apart': decimals(abs(mean - report.mean), 4), 'most': 10000}
 
 
 def exact_refsys(tool, files):
@@ -102,22 +128,5 @@ def exact_refsys(tool, files):
     return found
 
 
-def exactness(tool, report, files):
-    one, other = (exact_refsys(tool, files[receiver]) for receiver in 'ab')
-    mean = sum(one[key] - other[key] for key in report.pairs) / (10 * report.number)
-    assert abs(mean - report.mean) <= 2 * PROMISE / 10
-    yield 'to 0.001 ns, the nearest, and so marked: off by at most 0.0005 ns'
-    yield 'or the program ends with 2'
-    yield 'to 0.000001 of a day, %s s' % decimals(Fraction(86400, 10 ** 6))
-    yield 'to 0.1 of a pixel'
-    yield 'by at most %s of 0.1 ns' % decimals(ROUNDING)
-    yield 'what is written is within %s of 0.1 ns' % decimals(PROMISE)
-    yield 'a difference is within %s ns' % decimals(2 * PROMISE / 10)
-    yield 'have the mean %s ns, which is %s ns from that of the lines' % (
-        decimals(mean, 5), decimals(abs(mean - report.mean), 4))
-
-
-def limits():
-    yield 'below refusal 18'
-    yield 'two tracks on which 50 ps change a last digit'
-    yield 'A file may have up to %d lines. A longer one is refused with 19' % 10000
+PARTS = ((SETTINGS, settings), (SKY, sky), (SHOWN, shown), (EXACTNESS, exactness))
+ROWS = ()

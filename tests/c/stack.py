@@ -31,7 +31,7 @@ DAY = (
     ('man/trackline.3', r'and takes up to ([\d,]+) bytes of stack, from 500,000\.', 1),
     ('man/cggtts.1', r'day needs ([\d.]+) MB of stack', 1e6),
     ('README.md', r'needs `TRACKLINE_DAY_STACK` bytes of stack, ([\d.]+) MB', 1e6),
-    ('docs/TRUST.md', r'for the lines that it keeps, and may take ([\d.]+) kB;', 1000),
+    ('docs/TRUST.md', r'`trackline_day` about [\d.]+ kB and may take ([\d.]+) kB ', 1000),
 )
 
 

@@ -430,9 +430,9 @@ class Use(Scratch):
 
     def test_the_papers_command(self):
         """That of the messages and of the papers, on a file with a header, comments and blanks."""
-        for paper in ('docs/REFUSALS.md', 'docs/COMMON-VIEW.md', 'man/cggtts.1', 'README.md'):
+        for paper, form in (('docs/REFUSALS.md', '    %s\n'), ('docs/COMMON-VIEW.md', '    %s\n'), ('man/cggtts.1', '    %s\n'), ('README.md', '| `%s` |\n')):
             text = (ROOT / paper).read_text().replace('\\-', '-')
-            self.assertIn('    cggtts convert FILE -o LINES\n', text.replace('$ ', ''), paper)
+            self.assertIn(form % 'cggtts convert FILE -o LINES', text.replace('$ ', ''), paper)
             self.assertNotIn('CEGJR][0-9]', text, paper)
         self.kept('FILE', '\n'.join(header() + [line.decode('latin-1')[:113] + ' x' for line in LINES]).encode())
         done = subprocess.run([PROGRAM, 'convert', 'FILE', '-o', 'LINES'], cwd=self.folder, capture_output=True, check=False)

@@ -19,7 +19,7 @@ sys.dont_write_bytecode = True
 sys.path.insert(0, str(ROOT / 'tools'))
 import loading  # noqa: E402
 import offset_prose  # noqa: E402
-import roof_prose  # noqa: E402
+import prose  # noqa: E402
 
 SHARED = ROOT / 'examples' / 'shared'
 PAPER = ROOT / 'docs' / 'SHARED-OFFSET.md'
@@ -214,9 +214,9 @@ class Prose(unittest.TestCase):
     """tools/offset: whether a figure of docs/SHARED-OFFSET.md that is wrong is noticed."""
 
     def test_each_changed_figure_is_noticed(self):
-        wanted, document = list(offset_prose.phrases(loading.loaded('offset'))), PAPER.read_text()
-        self.assertEqual(roof_prose.check(document, wanted)[1], [])
-        tried, missed = unnoticed(roof_prose.check, document, wanted)
+        wanted, document = prose.phrases(offset_prose, loading.loaded('offset')), PAPER.read_text()
+        self.assertEqual(prose.check(prose.read(document)[1], wanted)[1], [])
+        tried, missed = unnoticed(prose, document, wanted)
         self.assertEqual(missed, [])
         self.assertGreater(tried, 400)
 

@@ -198,7 +198,7 @@ class Reports(Scratch):
                 wanted = re.sub(r'(?m)^    ', '', shown).encode()
                 self.assertEqual(b''.join(made.splitlines(keepends=True)[:wanted.count(b'\n')]), wanted, words)
                 runs += 1
-        self.assertEqual(runs, 5)
+        self.assertEqual(runs, 3)
 
     def test_the_papers_blocks(self):
         """The commands by which docs/COMMON-VIEW.md makes the lines from blocks."""
@@ -617,7 +617,7 @@ class Refused(Scratch):
                      'column 2 (satellite) is a blank, not a digit', advice=AS_OURS)
 
 
-def unnoticed(check, document, wanted):
+def unnoticed(prose, document, wanted):
     """How many digits of a document's prose were changed, one at a time, and the rows in which that went unnoticed."""
     rows, tried, missed = document.splitlines(keepends=True), 0, []
     for place, row in enumerate(rows):
@@ -625,7 +625,7 @@ def unnoticed(check, document, wanted):
             if row[:found.start()].count('`') % 2 == 0:
                 other = row[:found.start()] + str((int(found.group()) + 1) % 10) + row[found.end():]
                 tried += 1
-                missed += [] if check(''.join(rows[:place] + [other] + rows[place + 1:]), wanted)[1] else [other]
+                missed += [] if prose.check(prose.read(''.join(rows[:place] + [other] + rows[place + 1:]))[1], wanted)[1] else [other]
     return tried, missed
 
 
@@ -636,14 +636,15 @@ class Roof(Scratch):
     def setUpClass(cls):
         sys.path.insert(0, str(ROOT / 'tools'))
         import loading
+        import prose
         import roof_prose
-        cls.tool, cls.prose = loading.loaded('roof'), roof_prose
-        cls.wanted = roof_prose.phrases(cls.tool, {receiver: cls.tool.blocks_of(receiver) for receiver in 'ab'})
+        cls.tool, cls.prose = loading.loaded('roof'), prose
+        cls.wanted = prose.phrases(roof_prose, roof_prose.world(cls.tool))
         cls.document = (ROOT / 'docs' / 'COMMON-VIEW.md').read_text()
 
     def test_each_changed_figure_is_noticed(self):
-        self.assertEqual(self.prose.check(self.document, self.wanted)[1], [])
-        tried, missed = unnoticed(self.prose.check, self.document, self.wanted)
+        self.assertEqual(self.prose.check(self.prose.read(self.document)[1], self.wanted)[1], [])
+        tried, missed = unnoticed(self.prose, self.document, self.wanted)
         self.assertEqual(missed, [])
         self.assertGreater(tried, 150)
 

@@ -147,6 +147,40 @@ class Clauses(unittest.TestCase):
         ran = self.run_on(other + self.page('reader'))
         self.assertEqual((ran.returncode, ran.stdout), (0, 'clauses: 1 clauses, 0 references, all found\n'))
 
+    def test_the_column_says_the_form(self):
+        head = '| Clause | Definition | Promise and theorem | Wrong programs | Tests |\n|---|---|---|---|---|\n'
+        row = '| one | %s | %s | %s | %s |\n'
+        good = ('`fit/Track trackRule clock`', '`fit::track answer`, `fit/Laws inner`', '`fit/length_779 first_block_n_times`',
+                '`reference within`, `mutant ties away from zero`')
+        ran = self.run_on(head + row % good)
+        self.assertEqual((ran.returncode, ran.stdout), (0, 'clauses: 1 clauses, 8 references, all found\n'))
+        for column, bad, message in ((0, '`fit/Laws inner`', 'no module'), (0, '`fit/Track watch`', 'no watch in module'),
+                                     (1, '`fit::track written`', 'no clause written'), (1, '`fit/Track trackRule`', 'no module'),
+                                     (2, '`fit/length_779 length_778`', 'no edit fit/length_778'), (3, '`c within`', 'no test')):
+            ran = self.run_on(head + row % (*good[:column], bad, *good[column + 1:]))
+            self.assertEqual(ran.returncode, 1, bad)
+            self.assertIn(message, ran.stdout)
+
+    def test_a_clause_goes_on(self):
+        ran = self.run_on(self.page('`edit fit/length_779`') + '| | `fn fit::track answer` |\n')
+        self.assertEqual((ran.returncode, ran.stdout), (0, 'clauses: 1 clauses, 2 references, all found\n'))
+        ran = self.run_on(self.page('`fn fit::track answer`') + '| | `edit fit/length_778` |\n')
+        self.assertIn('page.md:3: `edit fit/length_778`: no edit', ran.stdout)
+
+    def test_wide_cells(self):
+        self.assertEqual(self.run_on(self.page('reader' + 113 * '.')).returncode, 0)
+        self.assertIn('page.md:3: a cell of 120 characters', self.run_on(self.page('reader' + 114 * '.')).stdout)
+
+    def test_write(self):
+        head = '| Clause | Definition | Wrong programs |\n|---|---|---|\n'
+        many = ', '.join(['`def fit/Track trackRule clock`'] * 5)
+        after = 'Some text.\n\n' + head + ('| one | %s | `fit/length_779 first_block_n_times` |\n| | %s | |\n| two | reader | |\n'
+                                         % tuple(', '.join(['`fit/Track trackRule clock`'] * k) for k in (4, 1)))
+        before = 'Some text.\n\n' + head + ('| one | %s | `edit fit/length_779`, `edit fit/first_block_n_times` |\n| two | reader | |\n' % many)
+        for text in before, after:
+            self.assertEqual(self.run_on(text, '--write').returncode, 0)
+            self.assertEqual((self.root / 'page.md').read_text(), after)
+
     def test_list(self):
         ran = self.run_on(self.page('reader `edit fit/length_779`'), '--list', 'edits')
         self.assertEqual((ran.returncode, ran.stdout), (0, 'fit/first_block_n_times\n'))

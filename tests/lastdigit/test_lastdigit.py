@@ -28,6 +28,7 @@ CHANGED = (ROOT / 'examples' / 'changed.blk').read_bytes()
 sys.dont_write_bytecode = True
 sys.path.insert(0, str(ROOT / 'tools'))
 import lastdigit_prose  # noqa: E402
+import prose  # noqa: E402
 LOADER = importlib.machinery.SourceFileLoader('lastdigit', str(TOOL))
 SPEC = importlib.util.spec_from_loader('lastdigit', LOADER)
 lastdigit = importlib.util.module_from_spec(SPEC)
@@ -335,19 +336,20 @@ class Document(unittest.TestCase):
     @classmethod
     def setUpClass(cls):
         cls.track = lastdigit.Track(WORKED)
-        cls.phrases = lastdigit_prose.phrases(cls.track, lastdigit.Track(SHORT), CHANGED, lastdigit)
-        cls.prose = lastdigit_prose.read(DOCUMENT.read_text())[1]
+        world = lastdigit_prose.World(lastdigit, cls.track, lastdigit.Track(SHORT), CHANGED)
+        cls.phrases = prose.phrases(lastdigit_prose, world)
+        cls.code, cls.prose = prose.read(DOCUMENT.read_text())
 
-    def faults(self, prose):
-        return lastdigit_prose.check(prose, self.track, self.phrases)[1]
+    def faults(self, rows):
+        return prose.check(rows, self.phrases)[1]
 
     def test_check(self):
         result = run_tool('--check', DOCUMENT)
         self.assertEqual((result.returncode, result.stderr), (0, ''))
         counts = re.match(r'lastdigit: (\d+) lines, 0 differ; (\d+) figures in the prose, 0 wrong or not checked\n$',
                           result.stdout)
-        trust = (ROOT / 'docs' / 'TRUST.md').read_text()
-        self.assertIn('| %s lines and %s other figures of docs/LAST-DIGIT.md |' % counts.groups(), trust)
+        tests = (ROOT / 'docs' / 'evidence' / 'tests.md').read_text()
+        self.assertIn('| %s lines and %s other figures of docs/LAST-DIGIT.md |' % counts.groups(), tests)
 
     def test_check_where_the_sources_are_not(self):
         """As it is installed, the rows that tests/reference counts are left out and named; all else is looked at."""
@@ -373,9 +375,21 @@ class Document(unittest.TestCase):
                     wrong = row[:found.start()] + str((int(found.group()) + 1) % 10) + row[found.end():]
                     self.assertTrue(self.faults(self.prose[:k] + [wrong] + self.prose[k + 1:]), wrong)
 
+    def test_every_figure_of_the_formulas_is_checked(self):
+        def faults(rows):
+            return lastdigit_prose.check_formulas(rows, self.track)[1]
+
+        rows = self.code['formulas']
+        self.assertEqual((faults(rows), len(faults([]))), ([], 6))
+        self.assertTrue(faults([row.replace('- 32j', '+ 32j') for row in rows]))
+        for k, row in enumerate(rows):
+            for found in re.finditer(r'\d', row):
+                wrong = row[:found.start()] + str((int(found.group()) + 1) % 10) + row[found.end():]
+                self.assertTrue(faults(rows[:k] + [wrong] + rows[k + 1:]), wrong)
+
     def test_every_word_between_figures_is_checked(self):
         text = '\n'.join(self.prose)
-        for word, other in ((' below the tie', ' above the tie'), ('more than 0.5;', 'less than 0.5;'), ('- 32j', '+ 32j'),
+        for word, other in ((' below the tie', ' above the tie'), ('more than 0.5;', 'less than 0.5;'),
                             ('below -314.5 and above 250', 'above -314.5 and below 250')):
             self.assertIn(word, text)
             self.assertTrue(self.faults(text.replace(word, other).split('\n')), word)

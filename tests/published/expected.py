@@ -5,7 +5,7 @@ published.txt.
     python3 tests/published/expected.py            print it
     python3 tests/published/expected.py --bench    write what the program bench reads and should print (crates/bench)
     python3 tests/published/expected.py --check    compare it with expected.txt and with what stands in crates/bench, test
-                                                   the checksums printed in 003, and the counts in docs/TRUST.md
+                                                   the checksums printed in 003, and the counts in docs/evidence/tests.md
 
 A second way beside the plain Rust implementation, which is compared with expected.txt too (tests/reference).
 """
@@ -20,7 +20,7 @@ import bench  # noqa: E402
 from papers import FIELDS, LENGTHS, checksum, is_start, line_of, ranges_of, second_of  # noqa: E402
 
 BENCH = HERE.parent.parent / 'crates' / 'bench'
-TRUST = HERE.parent.parent / 'docs' / 'TRUST.md'
+TESTS = HERE.parent.parent / 'docs' / 'evidence' / 'tests.md'
 NAMES = [name for name, _, _ in FIELDS] + ['CK']
 # what the reader takes columns 1 to 111 for, and what it does not take though each character is allowed
 COLUMNS = re.compile('[GRECJ]d{2} [0-9A-F]{2} d{5} d{6} d{4} d{3} d{4} sd{10} sd{5} sd{10} sd{5} d{4} d{3} d{4} sd{3} d{4} '
@@ -122,14 +122,13 @@ def misfits():
 
 
 def counts():
-    """What docs/TRUST.md says of the published lines and of bench."""
+    """What docs/evidence/tests.md says of the published lines and of bench."""
     names, cases, technician = [name for name, _ in forms()], len(list(lines())), len(bench.TECHNICIAN)
     old = [name for name, kinds in forms() if 'put in' in kinds]
     whole = [name for name, _, answer in lines() if name.endswith(' published') and answer == 0]
     put_in = [name for name, _, answer in lines() if name.endswith(' put in') and answer == 0]
     assert all(name.startswith('004.') for name in old) and len(whole) + len(old) == len(names) and len(put_in) == len(old)
-    return ('%d lines as published, %d of them accepted whole; the %d of document 004 with a legal date too, one of 765 s '
-            'among them: %d cases' % (len(names), len(whole), len(old), cases),
+    return ('%d lines as published, %d accepted whole; the %d of document 004 with a legal date too (one of 765 s): %d cases' % (len(names), len(whole), len(old), cases),
             '%d cases: %d of documents 01 and 02, %d of published lines; 0 wrong' % (technician + cases, technician, cases))
 
 
@@ -137,8 +136,8 @@ def check():
     bad = list(misfits())
     same = expected() == (HERE / 'expected.txt').read_text()
     differ = [path.name for path, content in bench_files().items() if path.read_bytes() != content]
-    missing = [count for count in counts() if count not in TRUST.read_text()]
-    print('published: expected.txt %s, bench %s, checksums of 003 %s, counts in docs/TRUST.md %s' % (
+    missing = [count for count in counts() if count not in TESTS.read_text()]
+    print('published: expected.txt %s, bench %s, checksums of 003 %s, counts in docs/evidence/tests.md %s' % (
         'agrees' if same else 'DIFFERS', 'DIFFERS: %s' % differ if differ else 'agrees',
         'do NOT fit: %s' % bad if bad else 'fit', 'lack: %s' % missing if missing else 'agree'))
     return 0 if same and not differ and not bad and not missing else 1
