@@ -23,9 +23,9 @@ def starts(mjd):
     return ['%02d%02d00' % divmod(minute, 60) for minute in start_minutes(mjd)]
 
 
-def second_of(clock):
+def second_of(text):
     """hhmmss as a second of the day."""
-    return 3600 * int(clock[:2]) + 60 * int(clock[2:4]) + int(clock[4:])
+    return 3600 * int(text[:2]) + 60 * int(text[2:4]) + int(text[4:])
 
 
 # ---- document 01, "The line's columns", with the names of document 000, 3.5

@@ -1,8 +1,9 @@
 -- The places that a C caller lends for numbers, and what stands in them afterwards (include/trackline.h).
 -- Assumes nothing.
 use Prim.Native.Nat.{ℕ}
+use mathlib.Core.Bool.{cond}
 use mathlib.Core.List.{List, [], _∷_, _++_}
-use lib.Dec.{ltb}
+use lib.Dec.{ltb, eqb}
 use lib.IntN.{ℤ, pos}
 use lib.ListN.{length, drop}
 use Rattle.limits.specs.Refusal.{_when_, _then_, after}
@@ -20,7 +21,7 @@ rowAfter answer values lent = after answer (values ++ drop (length values) lent)
 
 -- A lent place for what a refusal names, afterwards: the value where the answer is a refusal, and else what it held.
 unfoldable pub refusedAfter : (answer value lent : ℕ) → ℕ
-refusedAfter answer value lent = after answer lent value
+refusedAfter answer value lent = cond (eqb answer 0) lent value
 
 -- The 23 values of a line: its labels, in the order of the hire block, and its ten numbers.
 abbrev pub valuesOf : Labels → Numbers → List ℤ

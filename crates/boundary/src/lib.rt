@@ -180,11 +180,11 @@ pub extern "C" fn trackline_day(
     ensures accurate { λ r. ⌜ (r ≡ 0 → AccurateDay (now (blocks .entry)) (now (file .exit))) ⌝ }
 {
     let answer = day::day(blocks, file);
-    let Written::Bytes(total) = answer else {
+    let Written::Bytes(file_length) = answer else {
         *block = day::written_block(answer);
         return day::written_number(answer);
     };
-    *written = total;
+    *written = file_length;
     0
 }
 

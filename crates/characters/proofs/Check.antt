@@ -27,7 +27,7 @@ two-bytes at line h = next-byte 1 at line (omega arith) ∙ ap (λ (t : List ℕ
 place : (n : ℕ) → n + 1 - 1 ≡ n + 0
 place n = omega arith
 
-next : (n : ℕ) → n + 2 - 1 ≡ n + 1
+pub next : (n : ℕ) → n + 2 - 1 ≡ n + 1
 next n = omega arith
 
 -- ---- CK

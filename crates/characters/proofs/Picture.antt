@@ -1,13 +1,13 @@
 -- The columns of the single spaces and the letters of the constellations, which stand in tables of their own, are those that `kinds` pictures.
 -- Assumes nothing.
-use mathlib.Core.Path.{_≡_, refl, sym, subst}
-use mathlib.Core.Bool.{Bool, true, cond, _||_}
+use mathlib.Core.Path.{_≡_, refl, sym, ap, _∙_, subst}
+use mathlib.Core.Bool.{Bool, true, cond, _&&_, _||_, or-true}
 use mathlib.Core.List.{List, [], _∷_}
 use Prim.Native.Nat.{ℕ, suc}
 use Prim.Native.Char.{code}
-use lib.Dec.{eqb}
+use lib.Dec.{leb, eqb}
 use borrow.Author.Tests.{eqb-true}
-use Rattle.limits.proofs.Laws.{either}
+use Rattle.limits.proofs.Laws.{both, either}
 use Rattle.fields.specs.Text.{bytesOf}
 use Rattle.labels.specs.Labels.{constellationFits}
 use Rattle.columns.specs.Columns.{spaceColumns}
@@ -22,8 +22,7 @@ pub spaces-pictured : columnsWith (code " ") 1 kinds ≡ spaceColumns
 unfolding kinds bytesOf spaceColumns
 spaces-pictured = refl
 
--- Every letter that a column may hold has ranges of IOE and FR: IOE 1 is in all of them, FR is 1 for R and 0 for the others. That no other letter
--- has ranges is law `letter-fits` of reading/proofs/Writing.antt.
+-- Every letter that a column may hold has ranges of IOE and FR: IOE 1 is in all of them, FR is 1 for R and 0 for the others.
 pub letter-has-ranges : (letter : ℕ) → letterFits letter ≡ true → constellationFits letter 1 (cond (eqb letter (code "R")) 1 0) ≡ true
 unfolding letterFits constellationFits
 letter-has-ranges letter e =
@@ -49,3 +48,24 @@ letter-has-ranges letter e =
     at : (x : ℕ) → constellationFits x 1 (cond (eqb x (code "R")) 1 0) ≡ true → eqb letter x ≡ true
         → constellationFits letter 1 (cond (eqb letter (code "R")) 1 0) ≡ true
     at x h f = subst (λ (k : ℕ). constellationFits k 1 (cond (eqb k (code "R")) 1 0) ≡ true) (sym (eqb-true letter x f)) h
+
+-- one of two tests, each of which tells one of two others
+either-of : {a b c d : Bool} → (a ≡ true → c ≡ true) → (b ≡ true → d ≡ true) → a || b ≡ true → c || d ≡ true
+either-of {a} {b} {c} {d} f g e =
+    either a b e (λ t. ap (λ (x : Bool). x || d) (f t)) (λ t. ap (λ (x : Bool). c || x) (g t) ∙ or-true c)
+
+-- And no other letter has ranges.
+pub letter-fits : (letter ioe fr : ℕ) → constellationFits letter ioe fr ≡ true → letterFits letter ≡ true
+unfolding constellationFits letterFits
+letter-fits letter ioe fr =
+    either-of (either-of (either-of (either-of (other 71 255) glonass) (other 69 999)) (other 67 23)) (other 74 255)
+  where
+    other : (c most : ℕ) → eqb letter c && leb ioe most && eqb fr 0 ≡ true → eqb letter c ≡ true
+    other c most e = both (eqb letter c) _ (both (eqb letter c && leb ioe most) _ e .0) .0
+
+    glonass : eqb letter 82 && leb 1 ioe && leb ioe 96 && leb 1 fr && leb fr 24 ≡ true → eqb letter 82 ≡ true
+    glonass e =
+        both (eqb letter 82) _
+        (both (eqb letter 82 && leb 1 ioe) _
+        (both (eqb letter 82 && leb 1 ioe && leb ioe 96) _
+        (both (eqb letter 82 && leb 1 ioe && leb ioe 96 && leb 1 fr) _ e .0) .0) .0) .0

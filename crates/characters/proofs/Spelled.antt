@@ -3,8 +3,8 @@
 use mathlib.Core.Path.{_≡_, sym, ap, _∙_}
 use mathlib.Core.Bool.{Bool, true, not, _||_}
 use mathlib.Core.List.{List}
-use Prim.Native.Nat.{ℕ, _+_, _≤_, _<_}
-use native.Mathlib.Omega.{arith}
+use Prim.Native.Nat.{ℕ, _+_, _≤_}
+use native.Mathlib.Nat.{pos-of-ne-zero}
 use lib.Dec.{ltb}
 use lib.ListN.{length, drop}
 use borrow.Author.Tests.{ltb-false, le-ltb, not-false}
@@ -55,18 +55,9 @@ pub frame-refused : {number : ℕ} (columns longest : ℕ) (table line : List �
 unfolding charactersNumber
 frame-refused {number} columns longest table line e h =
     let rest = 13 when not (allowed table line) then 13 when not (printable (drop (columns + 2) line)) in
-    sym (then-refused number rest (some h)) ∙ ap (λ (n : ℕ). n then rest) e ∙ then-assoc _ _ rest
-  where
-    some : {n : ℕ} → (n ≡ 0 → ⊥) → 0 < n
-    some h = omega arith
+    sym (then-refused number rest (pos-of-ne-zero h)) ∙ ap (λ (n : ℕ). n then rest) e ∙ then-assoc _ _ rest
 
--- where it is not refused, the columns and CK are there
-pub frame-there : {number : ℕ} (columns longest : ℕ) (line : List ℕ) → number ≡ frame columns longest line → number ≡ 0 → columns + 2 ≤ length line
-frame-there columns longest line e z =
-    let twelve = then-zero _ _ (sym e ∙ z) .0 in
-    ltb-false (length line) (columns + 2) (or-false (ltb (length line) (columns + 2)) (ltb longest (length line)) (when-zero 11 _ twelve) .0)
-
--- and what the characters are refused for is what the line is refused for
+-- where it is not, what the characters are refused for is
 pub frame-passed : {number text : ℕ} {fit : Bool} (columns longest : ℕ) (table line : List ℕ) → number ≡ frame columns longest line → number ≡ 0
     → fit ≡ allowed table line → text ≡ 13 when not fit then 13 when not (printable (drop (columns + 2) line)) → text ≡ charactersNumber columns longest table line
 unfolding charactersNumber

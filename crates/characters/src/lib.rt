@@ -3,7 +3,7 @@
 // characters are accepted is read by crate reading.
 ghost use mathlib.Core.Path.{_≡_};
 ghost use Prim.Native.Nat.{_+_, _≤_};
-ghost use mathlib.Core.Bool.{not, _||_};
+ghost use mathlib.Core.Bool.{not, _||_, cond};
 ghost use lib.Dec.{ltb};
 ghost use mathlib.Core.List.{_∷_};
 ghost use lib.ListN.{length, take, drop};
@@ -89,11 +89,12 @@ fn checked(columns: usize, line: &[u8]) -> bool
     (line[columns] == fields::hex_digit(sum / 16)) & (line[columns + 1] == fields::hex_digit(sum))
 }
 
-// 12 and 14, of a line with so many columns before CK.
+// 12 and 14, of a line with so many columns before CK. Where there is neither, the columns and CK are there.
 fn frame_refusal(columns: usize, longest: usize, line: &[u8]) -> u32
     requires { ⌜ columns ≤ 111 ⌝ }
     ensures { λ r. ⌜
-        r ≡ 12 when (ltb (length (now (line .entry))) (columns + 2) || ltb longest (length (now (line .entry)))) then 14 when not (checked columns (now (line .entry))) ⌝ }
+        (r ≡ 12 when (ltb (length (now (line .entry))) (columns + 2) || ltb longest (length (now (line .entry)))) then 14 when not (checked columns (now (line .entry))))
+        × (r ≡ 0 → columns + 2 ≤ length (now (line .entry))) ⌝ }
 {
     if (line.len() < columns + 2) | (longest < line.len()) {
         return 12;
@@ -126,7 +127,27 @@ fn first_fit(kind: u8, line: &[u8]) -> bool
         & row_fits(b" 9999 +999 9999 ", 80, line)
 }
 
-// 12, 14 and 13 of a line of ours. The last row has sixteen columns too, so that column 96 is tested twice.
+// The kind of column 1 of a line of ours, or of an old one.
+fn first_kind(old: bool) -> u8
+    ensures { λ r. ⌜ r ≡ cond old 32 76 ⌝ }
+{
+    if old { b' ' } else { b'L' }
+}
+
+// Whether the columns before CK of a line of ours, or of an old one, hold what they may hold. The last row has sixteen columns too, so that
+// column 96 is tested twice, and of an old line columns 86 to 96.
+fn kinds_fit(old: bool, line: &[u8]) -> bool
+    requires { ⌜ cond old 101 111 ≤ length (now line) ⌝ }
+    ensures { λ r. ⌜ r ≡ allowed (cond old oldKinds kinds) (now (line .entry)) ⌝ }
+{
+    let first = first_fit(first_kind(old), line);
+    if old {
+        return first & row_fits(b" +999 9999 +999 ", 85, line);
+    }
+    first & row_fits(b" +999 99 99 ZZZ ", 95, line)
+}
+
+// 12, 14 and 13 of a line of ours.
 pub fn refusal(line: &[u8]) -> u32
     ensures { λ r. ⌜ r ≡ charactersNumber 111 140 kinds (now (line .entry)) ⌝ }
 {
@@ -134,11 +155,10 @@ pub fn refusal(line: &[u8]) -> u32
     if frame != 0 {
         return frame;
     }
-    let fit = first_fit(b'L', line) & row_fits(b" +999 99 99 ZZZ ", 95, line);
-    text_refusal(fit, COLUMNS, line)
+    text_refusal(kinds_fit(false, line), COLUMNS, line)
 }
 
-// The same of an old line, whose first column is blank. Columns 86 to 96 are tested twice.
+// The same of an old line, whose first column is blank.
 pub fn old_refusal(old: &[u8]) -> u32
     ensures { λ r. ⌜ r ≡ charactersNumber 101 128 oldKinds (now (old .entry)) ⌝ }
 {
@@ -146,6 +166,5 @@ pub fn old_refusal(old: &[u8]) -> u32
     if frame != 0 {
         return frame;
     }
-    let fit = first_fit(b' ', old) & row_fits(b" +999 9999 +999 ", 85, old);
-    text_refusal(fit, OLD_COLUMNS, old)
+    text_refusal(kinds_fit(true, old), OLD_COLUMNS, old)
 }

@@ -18,19 +18,19 @@ use Rattle.columns.specs.Columns.{byteIn, field, spaceColumns}
 use Rattle.columns.proofs.Widths.{Sized, none, one, columns-sized, columns-width}
 
 -- where the spaces stand that end fields of these widths, behind so many columns
-abbrev spacesAfter : ℕ → List ℕ → List ℕ
-spacesAfter behind [] = []
-spacesAfter behind (w ∷ ws) = (behind + suc w) ∷ spacesAfter (behind + suc w) ws
+abbrev spacesBehind : ℕ → List ℕ → List ℕ
+spacesBehind behind [] = []
+spacesBehind behind (w ∷ ws) = (behind + suc w) ∷ spacesBehind (behind + suc w) ws
 
-fields-ended : {cs : List (List ℕ)} {ws : List ℕ} → Sized cs ws → (before rest : List ℕ) (behind : ℕ) → length before ≡ behind
-    → map (λ (c : ℕ). byteIn c (before ++ (spaced cs ++ rest))) (spacesAfter behind ws) ≡ replicate (length ws) (code " ")
+fields-closed : {cs : List (List ℕ)} {ws : List ℕ} → Sized cs ws → (before rest : List ℕ) (behind : ℕ) → length before ≡ behind
+    → map (λ (c : ℕ). byteIn c (before ++ (spaced cs ++ rest))) (spacesBehind behind ws) ≡ replicate (length ws) (code " ")
 unfolding spaced byteIn
-fields-ended none before rest behind e = refl
-fields-ended (one {c} {cs} {w} {ws} e r) before rest behind f =
-    ap (λ (t : List ℕ). map (λ (k : ℕ). byteIn k t) (spacesAfter behind (w ∷ ws))) text
+fields-closed none before rest behind e = refl
+fields-closed (one {c} {cs} {w} {ws} e r) before rest behind f =
+    ap (λ (t : List ℕ). map (λ (k : ℕ). byteIn k t) (spacesBehind behind (w ∷ ws))) text
     ∙ ap₂ _∷_ (getD-at front (code " ") (spaced cs ++ rest) 0 (behind + suc w - 1) (length-append before c ∙ omega (arith, e, f)))
-    (ap (λ (t : List ℕ). map (λ (k : ℕ). byteIn k t) (spacesAfter (behind + suc w) ws)) (sym (append-assoc front (code " " ∷ []) (spaced cs ++ rest)))
-    ∙ fields-ended r (front ++ code " " ∷ []) rest (behind + suc w) longer)
+    (ap (λ (t : List ℕ). map (λ (k : ℕ). byteIn k t) (spacesBehind (behind + suc w) ws)) (sym (append-assoc front (code " " ∷ []) (spaced cs ++ rest)))
+    ∙ fields-closed r (front ++ code " " ∷ []) rest (behind + suc w) longer)
   where
     front : List ℕ
     front = before ++ c
@@ -56,7 +56,7 @@ module _ (l : Labels) (n : Numbers) (rest : List ℕ) where
 
   pub spaces : map (λ (c : ℕ). byteIn c (lineText l n ++ rest)) spaceColumns ≡ replicate 20 (code " ")
   unfolding spaceColumns
-  spaces = ap (λ (t : List ℕ). map (λ (c : ℕ). byteIn c t) spaceColumns) text-is ∙ fields-ended (columns-sized l n) [] (ck ++ rest) 0 refl
+  spaces = ap (λ (t : List ℕ). map (λ (c : ℕ). byteIn c t) spaceColumns) text-is ∙ fields-closed (columns-sized l n) [] (ck ++ rest) 0 refl
 
   pub checksum-back : readHexadecimal (field 112 113 (lineText l n ++ rest)) ≡ checksum (field 1 111 (lineText l n ++ rest))
   unfolding field checksum

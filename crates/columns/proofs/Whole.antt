@@ -13,7 +13,7 @@ use Rattle.columns.specs.Placed.{Put}
 use Rattle.columns.specs.Text.{lineLength, trackColumns, clockColumns, delayColumns, columns, spaced, lineText}
 use Rattle.lent.proofs.Placing.{placed-whole, placed-front}
 use Rattle.columns.proofs.Placing.{onto}
-use Rattle.columns.proofs.Widths.{width, track-sized, clock-sized, columns-width, groups}
+use Rattle.columns.proofs.Widths.{width, track-sized, clock-columns-sized, columns-width, groups}
 
 module _ (l : Labels) (n : Numbers) (blank : List ℕ) (long : length blank ≡ lineLength) where
   -- columns 1 to 111
@@ -22,7 +22,7 @@ module _ (l : Labels) (n : Numbers) (blank : List ℕ) (long : length blank ≡ 
   all-columns {d₁} {d₂} {d₃} p q r =
       subst (Put blank d₃ 0) (groups l n)
       (onto long (omega arith) (ap (λ (k : ℕ). 0 + k) (width (track-sized l (n .trkl)))) p
-      (onto (p .long) (omega arith) (ap (λ (k : ℕ). 34 + k) (width (clock-sized n))) q r))
+      (onto (p .long) (omega arith) (ap (λ (k : ℕ). 34 + k) (width (clock-columns-sized n))) q r))
 
   pub text-is : {d₁ d₂ d₃ d₄ : List ℕ} {sum : ℕ} → Put blank d₁ 0 (spaced (trackColumns l (n .trkl))) → Put d₁ d₂ 34 (spaced (clockColumns n))
       → Put d₂ d₃ 77 (spaced (delayColumns l n)) → sum ≡ checksum (take 111 d₃) → Put d₃ d₄ 111 (hexadecimal sum) → d₄ ≡ lineText l n
@@ -35,5 +35,5 @@ module _ (l : Labels) (n : Numbers) (blank : List ℕ) (long : length blank ≡ 
       front : Put blank d₃ 0 (spaced (columns l n))
       front = all-columns p q r
 
-      full : length (spaced (columns l n)) + length (hexadecimal sum) ≡ 113
+      full : length (spaced (columns l n)) + length (hexadecimal sum) ≡ lineLength
       full = omega (arith, columns-width l n, length-hexadecimal sum)

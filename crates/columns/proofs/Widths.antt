@@ -50,9 +50,9 @@ track-sized l trkl =
     (one (length-decimal 3 _)
     (one (length-decimal 4 _) none))))))
 
-pub clock-sized : (n : Numbers) → Sized (clockColumns n) (11 ∷ 6 ∷ 11 ∷ 6 ∷ 4 ∷ [])
+pub clock-columns-sized : (n : Numbers) → Sized (clockColumns n) (11 ∷ 6 ∷ 11 ∷ 6 ∷ 4 ∷ [])
 unfolding clockColumns
-clock-sized n =
+clock-columns-sized n =
     one (length-signed 11 _)
     (one (length-signed 6 _)
     (one (length-signed 11 _)
@@ -81,7 +81,7 @@ widths = 3 ∷ 2 ∷ 5 ∷ 6 ∷ 4 ∷ 3 ∷ 4 ∷ 11 ∷ 6 ∷ 11 ∷ 6 ∷ 4 �
 
 pub columns-sized : (l : Labels) (n : Numbers) → Sized (columns l n) widths
 unfolding columns
-columns-sized l n = sized-append (track-sized l (n .trkl)) (sized-append (clock-sized n) (delay-sized l n))
+columns-sized l n = sized-append (track-sized l (n .trkl)) (sized-append (clock-columns-sized n) (delay-sized l n))
 
 -- a column stands behind those before it and their spaces
 pub column-at : {cs : List (List ℕ)} {ws : List ℕ} → Sized cs ws → (k : ℕ) → k < length ws → (rest : List ℕ)

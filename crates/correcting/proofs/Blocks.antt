@@ -19,7 +19,7 @@ use Rattle.limits.specs.Lists.{anyBeyond}
 use Rattle.series.specs.Answers.{smoothReply, smoothNumbered}
 use Rattle.series.specs.Smooth.{smoothed, smoothRule}
 use Rattle.limits.proofs.Lists.{list-passes, counts, within-limit}
-use Rattle.series.proofs.Weights.{smoothed-bound}
+use Rattle.series.proofs.Weights.{mostSmoothed, smoothed-bound}
 use Rattle.limits.proofs.Replies.{reply-accepted}
 use Rattle.series.proofs.Replies.{smooth-case}
 
@@ -45,5 +45,5 @@ module _ (m : List ℤ) (from : ℕ) (fits : from + 15 ≤ length m) where
         ∙ ap Smoothed.Value part-smoothed
 
     -- and it is as large as measurements within their limits allow
-    pub part-bound : natAbs (smoothed (λ i. at m (from + i))) ≤ 13294117647059
-    part-bound = subst (λ (z : ℤ). natAbs z ≤ 13294117647059) part-smoothed (smoothed-bound (at (take 15 (drop from m))) (λ i. within-limit measurementLimit (take 15 (drop from m)) e i))
+    pub part-bound : natAbs (smoothed (λ i. at m (from + i))) ≤ mostSmoothed
+    part-bound = subst (λ (z : ℤ). natAbs z ≤ mostSmoothed) part-smoothed (smoothed-bound (at (take 15 (drop from m))) (λ i. within-limit measurementLimit (take 15 (drop from m)) e i))

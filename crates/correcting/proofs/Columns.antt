@@ -10,14 +10,11 @@ use lib.IntN.{ℤ, pos}
 use lib.ListN.{length, drop, getD, drop-of-length-le}
 use lib.Seq.{drop-cons}
 use Rattle.correcting.specs.Correct.{geometryLimit}
+use Rattle.correcting.specs.Block.{groupBeyond}
 use Rattle.limits.specs.Limits.{beyond, delayLimit}
 use Rattle.limits.specs.Lists.{anyOutside, anyBeyond}
 
--- whether row j has a correction beyond its limit
-abbrev pub Row : (g r i t k : ℤ) → Bool
-Row g r i t k = beyond geometryLimit g || beyond delayLimit r || beyond delayLimit i || beyond delayLimit t || beyond delayLimit k
-
--- whether one from row j on has
+-- whether a row from row j on has a correction beyond its limit
 abbrev pub From : (g r i t k : List ℤ) → ℕ → Bool
 From g r i t k j =
     anyBeyond geometryLimit (drop j g) || anyBeyond delayLimit (drop j r) || anyBeyond delayLimit (drop j i) || anyBeyond delayLimit (drop j t)
@@ -41,7 +38,7 @@ all a b c d e u v w x y =
 
 module _ (g r i t k : List ℤ) (same : (length r ≡ length g) × (length i ≡ length g) × (length t ≡ length g) × (length k ≡ length g)) (j : ℕ) where
   pub from-row : j < length g
-      → From g r i t k j ≡ Row (getD g j (pos 0)) (getD r j (pos 0)) (getD i j (pos 0)) (getD t j (pos 0)) (getD k j (pos 0)) || From g r i t k (j + 1)
+      → From g r i t k j ≡ groupBeyond (getD g j (pos 0)) (getD r j (pos 0)) (getD i j (pos 0)) (getD t j (pos 0)) (getD k j (pos 0)) || From g r i t k (j + 1)
   from-row h =
       let r' : j < length r = omega (arith, same) in
       let i' : j < length i = omega (arith, same) in

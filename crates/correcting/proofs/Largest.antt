@@ -15,16 +15,13 @@ use Rattle.limits.specs.Limits.{measurementLimit, delayLimit}
 use Rattle.limits.specs.Lists.{anyBeyond}
 use Rattle.limits.proofs.Lists.{within-limit, limit-within}
 use Rattle.series.specs.Fit.{valueLimit}
-use Rattle.series.proofs.Weights.{smoothed-bound}
+use Rattle.series.proofs.Weights.{mostSmoothed, smoothed-bound}
 use Rattle.correcting.specs.Correct.{smoothedAt, valueA, valueB, valueC, valueD, places, outOfLimits, geometryLimit}
 use Rattle.correcting.proofs.Arrays.{places-bound}
 use Rattle.correcting.proofs.Refusals.{limited, others}
 
--- The most that a smoothed value, A and B can be, in tenths. Smoothing magnifies by at most 1469 / 1105, and all else is added or taken off: to A a geometry
--- and seven numbers within 10^10 ps, to B the clock too. (That some track reaches each is not proved here.)
-abbrev mostSmoothed : ℕ
-mostSmoothed = 13294117647059
-
+-- The most that A and B can be, in tenths: to a smoothed value all else is added or taken off, to A a geometry and seven numbers within `delayLimit`, to B
+-- the clock too. (That some track reaches each is not proved here.)
 abbrev mostA : ℕ
 mostA = mostSmoothed + steps * (geometryLimit + 7 * delayLimit)
 

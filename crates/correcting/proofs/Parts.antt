@@ -121,6 +121,14 @@ part-read l j room e =
     let h : 15 ≤ length (drop (15 * j) l) = rw (length-drop (15 * j) l) (omega arith) in
     read-all least most (take 15 (drop (15 * j) l)) e ∙ length-take-le 15 (drop (15 * j) l) h
 
+-- where nothing is outside, every block is whole
+pub whole-blocks : (l : List ℤ) (n : ℕ) → length l ≡ 15 * n → anyOutside least most l ≡ false → wholeBlocks l ≡ n
+unfolding wholeBlocks
+whole-blocks l n all none = ap (λ (m : ℕ). m / 15) (none-outside least most l none ∙ all) ∙ whole n
+  where
+    whole : (n : ℕ) → 15 * n / 15 ≡ n
+    whole n = omega arith
+
 -- all blocks are inside
 module _ (l : List ℤ) (n : ℕ) (all : length l ≡ 15 * n) (so-far : Passed l n) where
   nothing : drop (15 * n) l ≡ []
@@ -138,8 +146,4 @@ module _ (l : List ℤ) (n : ℕ) (all : length l ≡ 15 * n) (so-far : Passed l
       λ i. corrected (is i) (count i)
 
   pub done-blocks : wholeBlocks l ≡ n
-  unfolding wholeBlocks
-  done-blocks = ap (λ (m : ℕ). m / 15) (none-outside least most l none ∙ all) ∙ whole n
-    where
-      whole : (n : ℕ) → 15 * n / 15 ≡ n
-      whole n = omega arith
+  done-blocks = whole-blocks l n all none

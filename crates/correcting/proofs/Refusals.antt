@@ -1,24 +1,25 @@
 -- The refusals 1 and 2 (specs/Correct.antt): what it tells that a track's lists and numbers are not refused, and what the rule gives where they are
 -- and where they are not.
 -- Assumes nothing.
-use mathlib.Core.Path.{_≡_, refl, sym, ap, _∙_}
-use mathlib.Core.Bool.{Bool, true, false, not, _||_, or-true, or-false as or-none}
-use Prim.Native.Nat.{ℕ, zero, suc, _*_, _/_, _≤_, _<_}
+use mathlib.Core.Path.{_≡_, refl, sym, _∙_}
+use mathlib.Core.Bool.{true, false, not, _||_, or-true, or-assoc, or-false as or-none}
+use mathlib.Core.List.{List}
+use Prim.Native.Nat.{ℕ, zero, suc, _*_, _≤_, _<_}
 use native.Mathlib.Omega.{arith}
-use lib.IntN.{natAbs}
+use lib.IntN.{ℤ, natAbs}
 use lib.ListN.{length}
 use Rattle.limits.specs.Blocks.{blocksFit}
 use Rattle.limits.specs.Limits.{beyond, measurementLimit, delayLimit}
 use Rattle.limits.specs.Lists.{miscounted, anyBeyond}
 use Rattle.limits.specs.Refusal.{_when_, _then_}
 use Rattle.limits.proofs.Blocks.{blocks-within}
-use Rattle.limits.proofs.Laws.{then-zero, when-zero, or-false, magnitude-within}
+use Rattle.limits.proofs.Laws.{then-zero, when-zero, when-some, or-false, magnitude-within}
 use Rattle.limits.proofs.Lists.{counted}
 use Rattle.exact.specs.Corrected.{Given}
 use Rattle.correcting.specs.Correct.{blocks, wrongSizes, outOfLimits, geometryLimit}
-use Rattle.limits.proofs.Scans.{none-outside}
 use Rattle.correcting.specs.declared.Corrected.{Corrected}
-use Rattle.correcting.specs.Answer.{correctNumber, correctedNumber, corrected, othersBeyond, wholeBlocks, blocksRule, correctedBlocks, correctRule}
+use Rattle.correcting.specs.Answer.{correctNumber, corrected, othersBeyond, wholeBlocks, blocksRule, correctedBlocks, correctRule}
+use Rattle.correcting.proofs.Parts.{whole-blocks}
 
 -- ---- what it tells that a track's lists and numbers are not refused
 
@@ -97,10 +98,6 @@ others g e =
       in-gd = magnitude-within delayLimit (g .gd) (delays .1);
     }
 
-or-assoc : (a b c : Bool) → a || b || c ≡ a || (b || c)
-or-assoc true b c = refl
-or-assoc false b c = refl
-
 -- 2 is told by the measurements and by all else
 pub limits-parts : (g : Given) → outOfLimits g ≡ anyBeyond measurementLimit (g .measurements) || othersBeyond g
 unfolding outOfLimits othersBeyond
@@ -140,7 +137,7 @@ by-measurements g e h = (rw (limits-parts g, e, h, or-none (anyBeyond measuremen
 
 -- ---- what the case of an answer tells
 
-module _ (g : Given) {r : Corrected} (e : r ≡ correctRule g) where
+module _ {r : Corrected} where
   refused-by : (k m : ℕ) → r ≡ corrected k m → {number read : ℕ} → r ≡ Corrected.Refused number read → (number ≡ k) × (0 < number)
   unfolding corrected
   refused-by zero m a {number} {read} f = absurd (differ (sym f ∙ a))
@@ -148,10 +145,6 @@ module _ (g : Given) {r : Corrected} (e : r ≡ correctRule g) where
       differ : Corrected.Refused number read ≡ Corrected.Values m → ⊥
       differ d = let z : _≡_ {A = ℕ} 0 1 = cc in omega arith
   refused-by (suc k) m a {number} {read} f = let z : number ≡ suc k = cc in (z, omega (arith, z))
-
-  pub corrected-refused : {number read : ℕ} → r ≡ Corrected.Refused number read → (number ≡ correctNumber g) × (0 < number)
-  unfolding correctRule
-  corrected-refused f = refused-by (correctNumber g) _ e f
 
   values-by : (k m : ℕ) → r ≡ corrected k m → {read : ℕ} → r ≡ Corrected.Values read → k ≡ 0
   unfolding corrected
@@ -161,9 +154,27 @@ module _ (g : Given) {r : Corrected} (e : r ≡ correctRule g) where
       differ : Corrected.Values read ≡ Corrected.Refused (suc k) m → ⊥
       differ d = let z : _≡_ {A = ℕ} 0 1 = cc in omega arith
 
+-- the answer to what a track is given
+module _ (g : Given) {r : Corrected} (e : r ≡ correctRule g) where
+  pub corrected-refused : {number read : ℕ} → r ≡ Corrected.Refused number read → (number ≡ correctNumber g) × (0 < number)
+  unfolding correctRule
+  corrected-refused f = refused-by (correctNumber g) _ e f
+
   pub corrected-values : {read : ℕ} → r ≡ Corrected.Values read → correctNumber g ≡ 0
   unfolding correctRule
   corrected-values f = values-by (correctNumber g) _ e f
+
+-- the answer to the blocks of a list
+module _ (l : List ℤ) {r : Corrected} (e : r ≡ blocksRule l) where
+  pub blocks-refused : {number read : ℕ} → r ≡ Corrected.Refused number read → (number ≡ 2) × (anyBeyond measurementLimit l ≡ true)
+  unfolding blocksRule
+  blocks-refused f =
+      let n = refused-by (2 when anyBeyond measurementLimit l) _ e f in
+      when-some 2 (anyBeyond measurementLimit l) (n .0) (λ z. omega (arith, n .1, z))
+
+  pub blocks-values : {read : ℕ} → r ≡ Corrected.Values read → anyBeyond measurementLimit l ≡ false
+  unfolding blocksRule
+  blocks-values f = when-zero 1 (anyBeyond measurementLimit l) (values-by (2 when anyBeyond measurementLimit l) _ e f)
 
 -- ---- what the number of an answer tells
 
@@ -177,11 +188,8 @@ unfolding correctNumber
 limits-passed g e = when-zero 1 (outOfLimits g) (then-zero (1 when wrongSizes g) _ e .1)
 
 pub all-corrected : (g : Given) → correctNumber g ≡ 0 → correctedBlocks g ≡ blocks g
-unfolding correctedBlocks wholeBlocks
+unfolding correctedBlocks
 all-corrected g e =
     let s = sizes-passed g e in
     let l = limited g (limits-passed g e) in
-    rw (s, l .in-others) (ap (λ (m : ℕ). m / 15) (none-outside _ _ (g .measurements) (l .in-measurements) ∙ sized g s .size-measurements) ∙ whole (blocks g))
-  where
-    whole : (n : ℕ) → 15 * n / 15 ≡ n
-    whole n = omega arith
+    rw (s, l .in-others) (whole-blocks (g .measurements) (blocks g) (sized g s .size-measurements) (l .in-measurements))

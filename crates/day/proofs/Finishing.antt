@@ -10,7 +10,7 @@ use lib.Dec.{ltb, eqb}
 use lib.ListN.{length, take, drop, length-append, drop-of-length-le}
 use borrow.Author.Tests.{ltb-true, ltb-false, lt-ltb, le-ltb, eqb-true, eqb-false, eq-eqb, ne-eqb}
 use Rattle.limits.specs.Refusal.{_when_, _then_}
-use Rattle.limits.proofs.Laws.{then-zero, then-refused, when-zero, after-accepted, after-refused}
+use Rattle.limits.proofs.Laws.{then-zero, then-refused, after-accepted, after-refused, room-passed}
 use Rattle.lent.specs.Placed.{placed}
 use Rattle.lent.proofs.Placing.{placed-onto, placed-front, placed-first}
 use Rattle.linefile.specs.Files.{endedLength}
@@ -147,7 +147,7 @@ module _ {bytes : List ℕ} {s b j : State} {kept : List ℕ} (k : Judged bytes 
   accepted file z =
       let t = then-zero _ _ z in
       let n = sym (ap (λ (v : Verdict). v .refusal) verdict-is) ∙ t .0 in
-      let room = ltb-false (length file) (length (dayFile bytes)) (when-zero 8 _ (t .1)) in (
+      let room = room-passed (length file) (length (dayFile bytes)) (t .1) in (
         ap (λ (v : Verdict). v .refusal) (k .verdict) ∙ n,
         omega (arith, room, length-of (blocksOf bytes), counted, ap length blocks-are, length-append (k .wrote .seen) (left bytes b)),
         long-is n,

@@ -12,7 +12,7 @@ use Rattle.columns.specs.Text.{lineLength}
 use Rattle.linefile.specs.Files.{before}
 use Rattle.line.proofs.Retired.{blockAnswerWith10, block-stays}
 use Rattle.day.specs.declared.Written.{Written}
-use Rattle.day.specs.Day.{blocksOf, blockKeys, numberBehind, Verdict, judged, dayFile, dayNumber, dayRule, dayAfter}
+use Rattle.day.specs.Day.{blocksOf, blockKeys, behindNumber, Verdict, judged, dayFile, dayNumber, dayRule, dayAfter}
 
 abbrev behindWith10 : (last block : List ℕ) → ℕ
 behindWith10 last b = blockAnswerWith10 b lineLength then 16 when not (before last (blockKeys b))
@@ -41,7 +41,7 @@ dayRuleWith10 bytes room = ruleBy (judgedWith10 [] 0 (blocksOf bytes)) bytes roo
 abbrev pub dayAfterWith10 : (bytes lent : List ℕ) → List ℕ
 dayAfterWith10 bytes lent = afterBy (judgedWith10 [] 0 (blocksOf bytes)) bytes lent
 
-behind-stays : (last b : List ℕ) → behindWith10 last b ≡ numberBehind last b
+behind-stays : (last b : List ℕ) → behindWith10 last b ≡ behindNumber last b
 behind-stays last b = ap (λ (k : ℕ). k then 16 when not (before last (blockKeys b))) (block-stays b lineLength)
 
 pub verdict-stays : (last : List ℕ) (index : ℕ) (blocks : List (List ℕ)) → judgedWith10 last index blocks ≡ judged last index blocks

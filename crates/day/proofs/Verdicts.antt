@@ -14,25 +14,25 @@ use Rattle.limits.proofs.Laws.{then-zero, then-passed, when-zero}
 use Rattle.line.specs.Block.{blockNumber}
 use Rattle.linefile.specs.Files.{keysOf, before}
 use Rattle.linefile.proofs.Ascending.{All}
-use Rattle.day.specs.Day.{blockKeys, numberBehind, Verdict, judged}
+use Rattle.day.specs.Day.{blockKeys, behindNumber, Verdict, judged}
 
-pub judged-passed : (last : List ℕ) (index : ℕ) (b : List ℕ) (rest : List (List ℕ)) → numberBehind last b ≡ 0
+pub judged-passed : (last : List ℕ) (index : ℕ) (b : List ℕ) (rest : List (List ℕ)) → behindNumber last b ≡ 0
     → judged last index (b ∷ rest) ≡ judged (blockKeys b) (index + 1) rest
 unfolding judged
-judged-passed last index b rest e = rw (eq-eqb (numberBehind last b) 0 e)
+judged-passed last index b rest e = rw (eq-eqb (behindNumber last b) 0 e)
 
-pub judged-refused : (last : List ℕ) (index : ℕ) (b : List ℕ) (rest : List (List ℕ)) → (numberBehind last b ≡ 0 → ⊥)
-    → judged last index (b ∷ rest) ≡ record { refusal = numberBehind last b; block = index }
+pub judged-refused : (last : List ℕ) (index : ℕ) (b : List ℕ) (rest : List (List ℕ)) → (behindNumber last b ≡ 0 → ⊥)
+    → judged last index (b ∷ rest) ≡ record { refusal = behindNumber last b; block = index }
 unfolding judged
-judged-refused last index b rest h = rw (ne-eqb (numberBehind last b) 0 h)
+judged-refused last index b rest h = rw (ne-eqb (behindNumber last b) 0 h)
 
 -- where none is refused, the number of blocks is named
 pub judged-count : (last : List ℕ) (index : ℕ) (bs : List (List ℕ)) → judged last index bs .refusal ≡ 0 → judged last index bs .block ≡ index + length bs
 unfolding judged
 judged-count last index [] e = omega arith
-judged-count last index (b ∷ bs) e = by-test (eqb (numberBehind last b) 0) refl (judged-count (blockKeys b) (index + 1) bs)
+judged-count last index (b ∷ bs) e = by-test (eqb (behindNumber last b) 0) refl (judged-count (blockKeys b) (index + 1) bs)
   where
-    by-test : (t : Bool) → eqb (numberBehind last b) 0 ≡ t
+    by-test : (t : Bool) → eqb (behindNumber last b) 0 ≡ t
         → (judged (blockKeys b) (index + 1) bs .refusal ≡ 0 → judged (blockKeys b) (index + 1) bs .block ≡ index + 1 + length bs)
         → judged last index (b ∷ bs) .block ≡ index + suc (length bs)
     by-test true f k =
@@ -54,10 +54,10 @@ abbrev pub Ascends : (last : List ℕ) → List (List ℕ) → Type 0
 Ascends last [] = Unit {0}
 Ascends last (b ∷ bs) = (before last (blockKeys b) ≡ true) × Ascends (blockKeys b) bs
 
-first-passed : (last : List ℕ) (i : ℕ) (b : List ℕ) (bs : List (List ℕ)) → judged last i (b ∷ bs) .refusal ≡ 0 → numberBehind last b ≡ 0
-first-passed last i b bs e = by-test (eqb (numberBehind last b) 0) refl
+first-passed : (last : List ℕ) (i : ℕ) (b : List ℕ) (bs : List (List ℕ)) → judged last i (b ∷ bs) .refusal ≡ 0 → behindNumber last b ≡ 0
+first-passed last i b bs e = by-test (eqb (behindNumber last b) 0) refl
   where
-    by-test : (t : Bool) → eqb (numberBehind last b) 0 ≡ t → numberBehind last b ≡ 0
+    by-test : (t : Bool) → eqb (behindNumber last b) 0 ≡ t → behindNumber last b ≡ 0
     by-test true f = eqb-true _ 0 f
     by-test false f = sym (ap (λ (v : Verdict). v .refusal) (judged-refused last i b bs (eqb-false _ 0 f))) ∙ e
 
@@ -69,7 +69,7 @@ all-accepted last i (b ∷ bs) e =
     let r = all-accepted (blockKeys b) (i + 1) bs (sym (ap (λ (v : Verdict). v .refusal) (judged-passed last i b bs p)) ∙ e) in
     ((t .0, r .0), (not-false _ (when-zero 15 _ (t .1)), r .1))
 
-follows : (last b : List ℕ) → AcceptedBlock b → before last (blockKeys b) ≡ true → numberBehind last b ≡ 0
+follows : (last b : List ℕ) → AcceptedBlock b → before last (blockKeys b) ≡ true → behindNumber last b ≡ 0
 unfolding _when_
 follows last b a h = then-passed _ _ a ∙ ap (λ (t : Bool). 16 when not t) h
 

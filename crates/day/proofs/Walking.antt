@@ -21,6 +21,8 @@ use Rattle.day.specs.declared.walk.State.{State}
 use Rattle.day.proofs.Blocks.{blocks-cut, no-blocks}
 use Rattle.day.proofs.Verdicts.{judged-passed, judged-refused}
 use Rattle.day.proofs.Lines.{length-of, file-none, file-one, file-append}
+use Rattle.limits.specs.Refusal.{after}
+use Rattle.limits.proofs.Laws.{after-accepted, after-refused}
 
 -- ---- a walk, and one after another
 
@@ -165,9 +167,9 @@ pub record Stepped (bytes : List ℕ) (s r : State) : Type 0 where
   pub walked : Walked bytes s r seen
   pub less : ahead bytes r < ahead bytes s
   pub one : r .count ≤ s .count + 1
-  pub written : (line file after : List ℕ) → (r .refusal ≡ 0 → line ≡ endedLine (nextBlock bytes s))
-      → after ≡ cond (eqb (r .refusal) 0) (placed file (endedLength * s .count) line) file
-      → after ≡ placed file (endedLength * s .count) (fileOf seen)
+  pub written : (line file kept : List ℕ) → (r .refusal ≡ 0 → line ≡ endedLine (nextBlock bytes s))
+      → kept ≡ after (r .refusal) (placed file (endedLength * s .count) line) file
+      → kept ≡ placed file (endedLength * s .count) (fileOf seen)
 
 pub stepped : (bytes : List ℕ) (s r : State) → Within bytes s → s .refusal ≡ 0 → s .at < length bytes → r ≡ nextState bytes s → Stepped bytes s r
 stepped bytes s r w z h f = by-test (eqb (nextNumber bytes s) 0) refl
@@ -183,9 +185,9 @@ stepped bytes s r w z h f = by-test (eqb (nextNumber bytes s) 0) refl
           walked = step-passed bytes s w z h n r f;
           less = rw (eq-eqb (s .refusal) 0 z, eq-eqb (r .refusal) 0 number) (omega (arith, ap (λ (t : State). t .at) p, k));
           one = omega (arith, ap (λ (t : State). t .count) p);
-          written = λ line file after l a.
+          written = λ line file kept l a.
               a
-              ∙ ap (λ (b : Bool). cond b (placed file (endedLength * s .count) line) file) (eq-eqb (r .refusal) 0 number)
+              ∙ after-accepted (placed file (endedLength * s .count) line) file number
               ∙ ap (placed file (endedLength * s .count)) (l number ∙ sym (file-one (nextBlock bytes s)));
         }
     by-test false e =
@@ -198,9 +200,9 @@ stepped bytes s r w z h f = by-test (eqb (nextNumber bytes s) 0) refl
           walked = step-refused bytes s w z h n r f;
           less = rw (eq-eqb (s .refusal) 0 z, ne-eqb (r .refusal) 0 no) (omega (arith, ap (λ (t : State). t .at) p));
           one = omega (arith, ap (λ (t : State). t .count) p);
-          written = λ line file after l a.
+          written = λ line file kept l a.
               a
-              ∙ ap (λ (b : Bool). cond b (placed file (endedLength * s .count) line) file) (ne-eqb (r .refusal) 0 no)
+              ∙ after-refused (placed file (endedLength * s .count) line) file no
               ∙ nothing file (endedLength * s .count);
         }
 
@@ -210,10 +212,10 @@ pub wrote-none : (bytes : List ℕ) (s : State) (file : List ℕ) → Within byt
 wrote-none bytes s file w h =
     record { seen = []; walked = walked-none bytes s w; text = nothing file (endedLength * s .count); room = h }
 
-pub wrote-on : (bytes : List ℕ) (s t r : State) (lent file after : List ℕ) {more : List (List ℕ)} → endedLength * s .count ≤ length lent
-    → Wrote bytes s t lent file → Walked bytes t r more → after ≡ placed file (endedLength * t .count) (fileOf more)
-    → endedLength * r .count ≤ length lent → Wrote bytes s r lent after
-wrote-on bytes s t r lent file after {more} h w v e k =
+pub wrote-on : (bytes : List ℕ) (s t r : State) (lent file kept : List ℕ) {more : List (List ℕ)} → endedLength * s .count ≤ length lent
+    → Wrote bytes s t lent file → Walked bytes t r more → kept ≡ placed file (endedLength * t .count) (fileOf more)
+    → endedLength * r .count ≤ length lent → Wrote bytes s r lent kept
+wrote-on bytes s t r lent file kept {more} h w v e k =
     record {
       seen = w .seen ++ more;
       walked = walked-on bytes s t r (w .walked) v;

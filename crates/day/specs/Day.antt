@@ -35,8 +35,8 @@ abbrev pub blockKeys : List ℕ → List ℕ
 blockKeys b = keysOf (blockLabels b)
 
 -- What a block is refused for behind one with the keys `last`: by Block's order without 9; then 16.
-abbrev pub numberBehind : (last block : List ℕ) → ℕ
-numberBehind last b = blockNumber b then 16 when not (before last (blockKeys b))
+abbrev pub behindNumber : (last block : List ℕ) → ℕ
+behindNumber last b = blockNumber b then 16 when not (before last (blockKeys b))
 
 -- The number of the first block that is refused, and its index; 0 and the number of blocks where none is. `index` is that of the first one given.
 pub record Verdict : Type 0 where
@@ -46,9 +46,9 @@ pub record Verdict : Type 0 where
 unfoldable pub judged : (last : List ℕ) (index : ℕ) → List (List ℕ) → Verdict
 judged last index [] = record { refusal = 0; block = index }
 judged last index (b ∷ rest) =
-    cond (eqb (numberBehind last b) 0)
+    cond (eqb (behindNumber last b) 0)
     (judged (blockKeys b) (index + 1) rest)
-    (record { refusal = numberBehind last b; block = index })
+    (record { refusal = behindNumber last b; block = index })
 
 -- The verdict on all blocks, counted from 0. No keys stand before the first.
 abbrev pub dayVerdict : List ℕ → Verdict

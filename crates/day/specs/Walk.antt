@@ -10,7 +10,7 @@ use Rattle.labels.specs.declared.Labels.{Labels}
 use Rattle.lent.specs.Placed.{placed}
 use Rattle.hire.specs.Hire.{blockLabels}
 use Rattle.linefile.specs.Files.{endedLength, keysOf}
-use Rattle.day.specs.Day.{ownLength, blocksOf, numberBehind, Verdict, judged, fileOf}
+use Rattle.day.specs.Day.{ownLength, blocksOf, behindNumber, Verdict, judged, fileOf}
 use Rattle.day.specs.declared.walk.State.{State}
 
 -- The keys that the next block has to follow: none before the first.
@@ -21,7 +21,7 @@ abbrev pub nextBlock : (bytes : List ℕ) → State → List ℕ
 nextBlock bytes s = take (ownLength (drop (s .at) bytes)) (drop (s .at) bytes)
 
 abbrev pub nextNumber : (bytes : List ℕ) → State → ℕ
-nextNumber bytes s = numberBehind (lastKeys (s .count) (s .last)) (nextBlock bytes s)
+nextNumber bytes s = behindNumber (lastKeys (s .count) (s .last)) (nextBlock bytes s)
 
 -- The walk behind the next block, or stopped at it.
 unfoldable pub nextState : (bytes : List ℕ) → State → State

@@ -1,16 +1,17 @@
 // The walk over the blocks, one by one. Any byte that is left begins a block, a cut one at worst.
 ghost use mathlib.Core.Path.{_≡_};
-ghost use mathlib.Core.Bool.{false, cond, _&&_};
+ghost use mathlib.Core.Bool.{false, _&&_};
 ghost use mathlib.Core.List.{_++_};
 ghost use Prim.Native.Nat.{_+_, _*_, _≤_, _<_, _/_};
-ghost use lib.Dec.{eqb, ltb};
+ghost use lib.Dec.{ltb};
 ghost use lib.ListN.{length, take, drop};
 ghost use Rattle.columns.specs.Text.{lineLength};
 ghost use Rattle.lent.specs.Placed.{placed};
 ghost use Rattle.line.specs.Block.{blockLine};
 ghost use Rattle.linefile.specs.Files.{endedLength, keysOf, before};
-ghost use Rattle.day.specs.Day.{ownLength, numberBehind, fileOf};
+ghost use Rattle.day.specs.Day.{ownLength, behindNumber, fileOf};
 ghost use Rattle.day.specs.Walk.{lastKeys, nextBlock, nextState, Within, Wrote, goesOn, left, verdict};
+ghost use Rattle.limits.specs.Refusal.{after};
 use columns::LINE_LENGTH;
 use labels::Labels;
 use lent::put;
@@ -61,7 +62,7 @@ fn own_length(bytes: &[u8]) -> usize
 // What a block is refused for behind so many others, the last of them with these labels; else its line in the lent one.
 fn judge_block(block: &[u8], count: usize, last: Labels, lent: &mut [u8]) -> u32
     requires { ⌜ lineLength ≤ length (now lent) ⌝ }
-    ensures { λ r. ⌜ r ≡ numberBehind (lastKeys count last) (now (block .entry)) ⌝ }
+    ensures { λ r. ⌜ r ≡ behindNumber (lastKeys count last) (now (block .entry)) ⌝ }
     ensures { λ r. ⌜ (r ≡ 0 → now (lent .exit) ≡ blockLine (now (block .entry)) ++ drop lineLength (now (lent .entry))) ⌝ }
     ensures { λ _. ⌜ drop lineLength (now (lent .exit)) ≡ drop lineLength (now (lent .entry)) ⌝ }
 {
@@ -120,7 +121,7 @@ pub fn judge(blocks: &[u8], from: State) -> State
 fn keep(number: u32, line: &[u8], file: &mut [u8], k: usize)
     requires { ⌜ length (now line) ≡ endedLength ⌝ }
     requires { ⌜ endedLength * (k + 1) ≤ length (now file) ⌝ }
-    ensures { λ _. ⌜ now (file .exit) ≡ cond (eqb number 0) (placed (now (file .entry)) (endedLength * k) (now (line .entry))) (now (file .entry)) ⌝ }
+    ensures { λ _. ⌜ now (file .exit) ≡ after number (placed (now (file .entry)) (endedLength * k) (now (line .entry))) (now (file .entry)) ⌝ }
 {
     if number == 0 {
         put(line, file, LINE * k);

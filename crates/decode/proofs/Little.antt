@@ -1,6 +1,6 @@
 -- Little-endian numbers in halves, and numbers that do not lie within the bytes.
 -- Assumes nothing.
-use mathlib.Core.Path.{_≡_, refl, sym, ap, _∙_}
+use mathlib.Core.Path.{_≡_, sym, ap, _∙_}
 use mathlib.Core.Bool.{true, false}
 use mathlib.Core.List.{List, [], _∷_, _++_}
 use Prim.Native.Nat.{ℕ, suc, _+_, _*_, _-_, _^_, _≤_, _<_}
@@ -11,7 +11,7 @@ use lib.ListN.{length, take, drop, getD, length-drop}
 use lib.Seq.{take-add, drop-drop, drop-cons, length-take-le}
 use lib.Dec.{leb}
 use lib.IntN.{pos, negsuc}
-use borrow.Author.Tests.{le-leb, lt-leb, leb-true, leb-false, lt-ltb, le-ltb}
+use borrow.Author.Tests.{lt-leb, lt-ltb, le-ltb}
 use Rattle.decode.specs.Number.{little, unsignedAt, twosComplement}
 
 little-append : (xs ys : List ℕ) → little (xs ++ ys) ≡ little xs + 256 ^ length xs * little ys
@@ -37,19 +37,7 @@ unfolding little
 two-bytes at bytes h =
     rw (drop-cons bytes at 0 (omega arith), drop-cons bytes (suc at) 0 (omega arith), add-one) (omega arith)
 
--- ---- whether a number lies within the bytes, by a difference
-
-pub lies-at : (at width end : ℕ) → at ≤ end → leb width (end - at) ≡ leb (at + width) end
-lies-at at width end h = elim (leb (at + width) end) as (λ t. leb (at + width) end ≡ t → leb width (end - at) ≡ t) [
-  | true ↦ λ e. le-leb width (end - at) (fits (leb-true (at + width) end e))
-  | false ↦ λ e. lt-leb width (end - at) (over (leb-false (at + width) end e))
-] refl
-  where
-    fits : at + width ≤ end → width ≤ end - at
-    fits k = omega arith
-
-    over : end < at + width → end - at < width
-    over k = omega arith
+-- ---- whether a number lies within the bytes
 
 pub lies-not : (at width end : ℕ) → end < at → leb at end ≡ leb (at + width) end
 lies-not at width end h = lt-leb at end h ∙ sym (lt-leb (at + width) end (omega arith))

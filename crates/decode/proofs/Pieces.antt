@@ -7,7 +7,7 @@ use native.Mathlib.Nat.{le-of-suc-le-suc, not-suc-le-zero}
 use native.Mathlib.Omega.{arith}
 use lib.IntN.{ℤ}
 use lib.ListN.{length, take, drop, length-drop}
-use Rattle.decode.specs.Number.{twosComplement, signedAt, signedsAt}
+use Rattle.decode.specs.Number.{unsignedAt, twosComplement, signedAt, signedsAt}
 use Rattle.decode.proofs.Rows.{unsigned-take, unsigned-drop}
 
 -- the piece of so many bytes from an offset on
@@ -16,10 +16,12 @@ module _ (bytes : List ℕ) (from width : ℕ) (fits : from + width ≤ length b
   room = rw (length-drop from bytes) (omega arith)
 
   -- a number that lies within it
+  number-piece : (v at : ℕ) → at + v ≤ width → unsignedAt v (take width (drop from bytes)) at ≡ unsignedAt v bytes (from + at)
+  number-piece v at h = unsigned-take v width (drop from bytes) at room h ∙ unsigned-drop v from bytes at (omega arith)
+
   pub signed-piece : (at : ℕ) → at + 8 ≤ width → signedAt (take width (drop from bytes)) at ≡ signedAt bytes (from + at)
   unfolding signedAt
-  signed-piece at h =
-      ap twosComplement (unsigned-take 8 width (drop from bytes) at room h ∙ unsigned-drop 8 from bytes at (omega arith))
+  signed-piece at h = ap twosComplement (number-piece 8 at h)
 
   -- a row of which every number does
   pub signeds-piece : (at stride count : ℕ) → ((i : ℕ) → i < count → at + stride * i + 8 ≤ width)
@@ -34,6 +36,19 @@ module _ (bytes : List ℕ) (from width : ℕ) (fits : from + width ≤ length b
     where
       next : (i : ℕ) → i < count → at + stride + stride * i + 8 ≤ width
       next i k = let all = h (suc i) (omega arith) in omega (arith, all)
+
+-- a number in a part that is lent up to its end, and a signed one that has all of it
+pub number-part : (v w : ℕ) (bytes : List ℕ) (from at : ℕ) → from + w ≤ length bytes → at + v ≤ w
+    → unsignedAt v (take (from + w - from) (drop from bytes)) at ≡ unsignedAt v bytes (from + at)
+number-part v w bytes from at h i =
+    ap (λ (n : ℕ). unsignedAt v (take n (drop from bytes)) at) (width from) ∙ number-piece bytes from w h v at i
+  where
+    width : (from : ℕ) → from + w - from ≡ w
+    width from = omega arith
+
+pub signed-part : (bytes : List ℕ) (from : ℕ) → from + 8 ≤ length bytes → signedAt (take (from + 8 - from) (drop from bytes)) 0 ≡ signedAt bytes from
+unfolding signedAt
+signed-part bytes from h = ap twosComplement (number-part 8 8 bytes from 0 h (omega arith) ∙ ap (unsignedAt 8 bytes) (omega arith))
 
 -- a row of all that is left from an offset on
 pub signeds-from : (bytes : List ℕ) (from : ℕ) → from ≤ length bytes → (at stride count : ℕ)

@@ -14,9 +14,9 @@ use Rattle.limits.specs.Refusal.{_when_, _then_}
 use Rattle.limits.specs.Reply.{Reply, reply}
 use Rattle.limits.specs.Limits.{delayLimit}
 use Rattle.limits.specs.Lists.{anyBeyond}
-use Rattle.limits.proofs.Laws.{then-zero, then-refused, when-zero, or-false, after-accepted, after-refused}
+use Rattle.limits.proofs.Laws.{then-zero, then-refused, when-zero, or-false, after-accepted, after-refused, room-passed}
 use Rattle.limits.proofs.Replies.{reply-refused, reply-number, reply-values}
-use Rattle.delays.specs.Store.{version, count, groupWidth, storeLength, start, delays, rising, storeNumber}
+use Rattle.delays.specs.Store.{version, count, groupWidth, storeLength, start, delays, rising, storeNumber, mostEntries}
 use Rattle.delays.specs.Lookup.{inForce, setInForce, lookupNumber, noSet, lookupRule}
 use Rattle.delays.specs.Append.{longerStore, appendNumber, appendRule, appendAfter}
 use Rattle.delays.specs.Answers.{delaysReply, delaysNumbered, appendReply, appendNumbered}
@@ -36,7 +36,7 @@ in-force-most start mjd (suc n) = by-test (leb (start n) mjd) (in-force-most sta
 
 pub record Accepted (s : List ℕ) : Type 0 where
   pub known : eqb (version s) 1 || eqb (version s) 2 ≡ true
-  pub few : count s ≤ 1000
+  pub few : count s ≤ mostEntries
   pub long : length s ≡ storeLength (version s) (count s)
   pub rises : rising (start s) (count s) ≡ true
   pub within : anyBeyond delayLimit (delays s) ≡ false
@@ -50,7 +50,7 @@ accepted s e =
     let d = or-false _ _ (c .0) in
     record {
       known = not-false _ (d .0);
-      few = ltb-false 1000 (count s) (d .1);
+      few = ltb-false mostEntries (count s) (d .1);
       long = eqb-true (length s) (storeLength (version s) (count s)) (not-false _ (c .1));
       rises = not-false _ (b .1);
       within = a .1;
@@ -104,7 +104,7 @@ module _ (s : List ℕ) (mjd : ℕ) (int cab refdly gd : ℤ) (lent : List ℕ) 
       let a = then-zero _ _ e in
       let b = then-zero _ _ (a .1) in
       let c = then-zero _ _ (b .1) in
-      (a .0, ltb-false (length lent) (storeLength (version s) (suc (count s))) (when-zero 8 _ (c .1)))
+      (a .0, room-passed (length lent) (storeLength (version s) (suc (count s))) (c .1))
 
 pub groups-fit : (s : List ℕ) → length s ≡ storeLength (version s) (count s) → 4 + 4 * count s ≤ length s
 unfolding storeLength
@@ -119,7 +119,7 @@ pub record Fitting (s lent : List ℕ) : Type 0 where
   pub groups : 4 + 4 * count s ≤ length s
   pub long : length s + 4 + 8 * groupWidth (version s) ≡ storeLength (version s) (suc (count s))
   pub room : storeLength (version s) (suc (count s)) ≤ length lent
-  pub few : count s ≤ 1000
+  pub few : count s ≤ mostEntries
 
 pub fitting : (s : List ℕ) (mjd : ℕ) (int cab refdly gd : ℤ) (lent : List ℕ) → appendNumber s mjd int cab refdly gd (length lent) ≡ 0 → Fitting s lent
 fitting s mjd int cab refdly gd lent e =

@@ -3,7 +3,7 @@
 use mathlib.Core.Path.{_≡_, refl, subst}
 use mathlib.Core.Bool.{Bool, true, false, cond}
 use Prim.Native.Nat.{ℕ, zero, suc, _≤_, _<_}
-use native.Mathlib.Nat.{not-suc-le-zero, le-refl}
+use native.Mathlib.Nat.{not-suc-le-zero, le-refl, le-of-lt}
 use native.Mathlib.Omega.{arith}
 use lib.Dec.{leb, ltb}
 use borrow.Author.Tests.{leb-true, leb-false, ltb-true, ltb-false}
@@ -122,10 +122,7 @@ latest-greatest start mjd n k e p j h l = by-tests (ltb j k) refl (ltb k j) refl
     is : k ≤ j → j ≤ k → j ≡ k
     is q r = omega arith
 
-    weak : {a b : ℕ} → a < b → a ≤ b
-    weak h = omega arith
-
     by-tests : (t : Bool) → ltb j k ≡ t → (u : Bool) → ltb k j ≡ u → start j ≤ start k
-    by-tests true q u r = weak (rising-below start n e j k (ltb-true j k q) (p .within))
+    by-tests true q u r = le-of-lt (rising-below start n e j k (ltb-true j k q) (p .within))
     by-tests false q true r = absurd (clash l (p .last j (ltb-true k j r) h))
     by-tests false q false r = subst (λ (m : ℕ). start j ≤ start m) (is (ltb-false j k q) (ltb-false k j r)) (le-refl (start j))

@@ -14,9 +14,9 @@ use Rattle.decode.proofs.Rows.{unsigned-before, unsigned-piece, unsigned-take, 
 use Rattle.encode.specs.Encode.{littleBytes, patternOf}
 use Rattle.encode.proofs.Bytes.{length-bytes}
 use Rattle.encode.proofs.RoundTrip.{unsigned-bytes, signed-bytes}
-use Rattle.delays.specs.Store.{version, count, groupWidth, start, groups}
+use Rattle.delays.specs.Store.{version, count, start, groups}
 use Rattle.delays.specs.Append.{groupBytes, longerDates, longerGroups, longerStore}
-use Rattle.delays.proofs.Writing.{two, two-long, three-long, length-dates}
+use Rattle.delays.proofs.Writing.{new, two, two-long, three-long, length-dates}
 
 -- ---- a group
 
@@ -88,9 +88,6 @@ module _ (s : List ℕ) (long : 4 + 4 * count s ≤ length s) (mjd : ℕ) where
     abbrev longer : List ℕ
     longer = longerStore s mjd int cab refdly gd
 
-    abbrev new : List ℤ
-    new = take (groupWidth (version s)) (int ∷ cab ∷ refdly ∷ gd ∷ [])
-
     in-dates : (width at : ℕ) → at + width ≤ 4 + 4 * count s + 4 → unsignedAt width longer at ≡ unsignedAt width (longerDates s mjd) at
     unfolding longerStore
     in-dates width at h =
@@ -120,16 +117,16 @@ module _ (s : List ℕ) (long : 4 + 4 * count s ≤ length s) (mjd : ℕ) where
     longer-old at h =
         in-groups at
         ∙ ap twosComplement
-        (unsigned-before 8 (drop (groups s) s) (groupBytes new) at (rw length-drop (omega arith))
+        (unsigned-before 8 (drop (groups s) s) (groupBytes (new s int cab refdly gd)) at (rw length-drop (omega arith))
         ∙ unsigned-drop 8 (groups s) s at (omega arith))
 
-    pub longer-new : AllFit new → (j : ℕ) → j < length new → signedAt longer (length s + 4 + 8 * j) ≡ getD new j (pos 0)
+    pub longer-new : AllFit (new s int cab refdly gd) → (j : ℕ) → j < length (new s int cab refdly gd) → signedAt longer (length s + 4 + 8 * j) ≡ getD (new s int cab refdly gd) j (pos 0)
     unfolding longerGroups signedAt
     longer-new f j h =
         ap (signedAt longer) (place (length s) (count s) long)
         ∙ in-groups (length s - (4 + 4 * count s) + 8 * j)
-        ∙ ap twosComplement (unsigned-piece 8 (drop (groups s) s) (groupBytes new) (8 * j) (length-drop (groups s) s))
-        ∙ group-at new f j h
+        ∙ ap twosComplement (unsigned-piece 8 (drop (groups s) s) (groupBytes (new s int cab refdly gd)) (8 * j) (length-drop (groups s) s))
+        ∙ group-at (new s int cab refdly gd) f j h
       where
         place : (l c : ℕ) → 4 + 4 * c ≤ l → l + 4 + 8 * j ≡ 4 + 4 * c + 4 + (l - (4 + 4 * c) + 8 * j)
         place l c h = omega arith

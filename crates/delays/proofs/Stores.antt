@@ -12,29 +12,11 @@ use lib.IntN.{ℤ, pos}
 use borrow.Author.Tests.{le-leb, lt-leb, ne-eqb}
 use Rattle.limits.specs.Limits.{beyond, delayLimit}
 use Rattle.limits.specs.Lists.{anyOutside, anyBeyond}
-use lib.ListN.{length, take, drop, length-drop}
-use Rattle.decode.specs.Number.{unsignedAt, twosComplement, signedAt, signedsAt}
-use Rattle.decode.proofs.Rows.{unsigned-take, unsigned-drop}
+use lib.ListN.{length, take, drop}
+use Rattle.decode.specs.Number.{unsignedAt, signedAt, signedsAt}
+use Rattle.decode.proofs.Pieces.{number-part}
 use Rattle.delays.specs.Store.{version, count, groupWidth, start, delay, later, rising}
 use Rattle.delays.specs.Lookup.{inForce, setOf}
-
--- a number in a part that has it
-number-part : (v w : ℕ) (s : List ℕ) (p q : ℕ) → p + w ≤ length s → q + v ≤ w → unsignedAt v (take (p + w - p) (drop p s)) q ≡ unsignedAt v s (p + q)
-number-part v w s p q h i =
-    ap (λ (n : ℕ). unsignedAt v (take n (drop p s)) q) (width p)
-    ∙ unsigned-take v w (drop p s) q (rest (length-drop p s)) i
-    ∙ unsigned-drop v p s q (omega arith)
-  where
-    width : (p : ℕ) → p + w - p ≡ w
-    width p = omega arith
-
-    rest : {k : ℕ} → k ≡ length s - p → w ≤ k
-    rest e = omega arith
-
--- a delay in the eight bytes that it has
-pub signed-part : (s : List ℕ) (p : ℕ) → p + 8 ≤ length s → signedAt (take (p + 8 - p) (drop p s)) 0 ≡ signedAt s p
-unfolding signedAt
-signed-part s p h = ap twosComplement (number-part 8 8 s p 0 h (omega arith) ∙ ap (unsignedAt 8 s) (omega arith))
 
 -- a start among the bytes from p on
 pub start-part : (s : List ℕ) (p w q k : ℕ) → p + w ≤ length s → q + 4 ≤ w → p + q ≡ 4 + 4 * k → unsignedAt 4 (take (p + w - p) (drop p s)) q ≡ start s k

@@ -21,7 +21,7 @@ use Rattle.limits.proofs.Laws.{then-zero, when-zero, or-false, magnitude-within
 use Rattle.limits.proofs.Lists.{within-limit, limit-within}
 use Rattle.decode.specs.Number.{signedAt, signedsAt}
 use Rattle.decode.proofs.Signeds.{length-signeds, signeds-at}
-use Rattle.delays.specs.Store.{version, count, groupWidth, storeLength, start, groups, delay, delays, later, rising, storeNumber}
+use Rattle.delays.specs.Store.{version, count, groupWidth, storeLength, start, groups, delay, delays, later, rising, storeNumber, mostEntries}
 use Rattle.delays.specs.Lookup.{inForce, setOf, lookupRule}
 use Rattle.delays.specs.Append.{longerStore, appendNumber}
 use Rattle.delays.proofs.Stores.{wide-two, three-wide, four-wide}
@@ -56,7 +56,7 @@ module _ (f g : ℕ → ℕ) where
 
 pub record Appendable (s : List ℕ) (mjd : ℕ) (int cab refdly gd : ℤ) : Type 0 where
   pub store : Accepted s
-  pub free : count s < 1000
+  pub free : count s < mostEntries
   pub dated : mjd < 4294967296
   pub late : later (start s) (count s) mjd ≡ true
   pub int-within : natAbs int ≤ delayLimit
@@ -73,15 +73,15 @@ gd-plain v gd e h = zero-of gd (magnitude-within 0 gd (sym (ap (λ (t : Bool). t
     zero-of (pos n) h = ap pos (omega arith)
     zero-of (negsuc n) h = absurd (not-suc-le-zero h)
 
-not-full : (n : ℕ) → n ≤ 1000 → eqb n 1000 ≡ false → n < 1000
-not-full n h e = by-test (ltb n 1000) refl
+not-full : (n : ℕ) → n ≤ mostEntries → eqb n mostEntries ≡ false → n < mostEntries
+not-full n h e = by-test (ltb n mostEntries) refl
   where
-    is : 1000 ≤ n → n ≡ 1000
+    is : mostEntries ≤ n → n ≡ mostEntries
     is l = omega arith
 
-    by-test : (t : Bool) → ltb n 1000 ≡ t → n < 1000
-    by-test true q = ltb-true n 1000 q
-    by-test false q = absurd (true≢false (sym (eq-eqb n 1000 (is (ltb-false n 1000 q))) ∙ e))
+    by-test : (t : Bool) → ltb n mostEntries ≡ t → n < mostEntries
+    by-test true q = ltb-true n mostEntries q
+    by-test false q = absurd (true≢false (sym (eq-eqb n mostEntries (is (ltb-false n mostEntries q))) ∙ e))
 
 pub appendable : (s : List ℕ) (mjd : ℕ) (int cab refdly gd : ℤ) (room : ℕ) → mjd < 4294967296 → appendNumber s mjd int cab refdly gd room ≡ 0
     → Appendable s mjd int cab refdly gd
@@ -109,7 +109,7 @@ appendable s mjd int cab refdly gd room dated e =
 
 pub accepts : (s : List ℕ) → Accepted s → storeNumber s ≡ 0
 unfolding storeNumber _when_
-accepts s a = rw (a .known, le-ltb 1000 (count s) (a .few), eq-eqb (length s) (storeLength (version s) (count s)) (a .long), a .rises, a .within)
+accepts s a = rw (a .known, le-ltb mostEntries (count s) (a .few), eq-eqb (length s) (storeLength (version s) (count s)) (a .long), a .rises, a .within)
 
 -- ---- the longer store
 

@@ -9,12 +9,17 @@ use lib.IntN.{ℤ}
 use lib.ListN.{length, take, drop, length-append, length-drop}
 use lib.Seq.{length-take-le}
 use Rattle.lent.specs.Placed.{placed, placedWithin}
-use Rattle.lent.proofs.Placing.{within, placed-onto, placed-behind, length-placed, rest-part}
+use Rattle.limits.proofs.Parts.{rest-part}
+use Rattle.lent.proofs.Placing.{within, placed-onto, placed-behind, length-placed}
 use Rattle.encode.specs.Encode.{littleBytes, patternOf}
 use Rattle.encode.proofs.Bytes.{length-bytes}
 use Rattle.delays.specs.Append.{groupBytes, longerDates, longerGroups, longerStore}
 use Rattle.delays.specs.Store.{version, count, groupWidth, groups}
 use Rattle.delays.proofs.Stores.{four-wide}
+
+-- the new delays, as many as the version has
+abbrev pub new : (s : List ℕ) (int cab refdly gd : ℤ) → List ℤ
+new s int cab refdly gd = take (groupWidth (version s)) (int ∷ cab ∷ refdly ∷ gd ∷ [])
 
 pub length-group : (zs : List ℤ) → length (groupBytes zs) ≡ 8 * length zs
 unfolding groupBytes
@@ -95,18 +100,18 @@ module _ (s : List ℕ) (n : ℕ) (counted : n ≡ count s) (long : 4 + 4 * n �
   unfolding longerStore longerGroups
   store-written mjd int cab refdly gd d v room {d₁} {d₂} e f g =
       let long₁ : length d₁ ≡ length d = ap length e ∙ length-placed d 0 (longerDates s mjd) (omega (arith, length-dates mjd)) in
-      placed-behind d (longerDates s mjd ++ rest) new both-long
+      placed-behind d (longerDates s mjd ++ rest) group both-long
       (placed-behind d (longerDates s mjd) rest (length-dates mjd) e
       (f ∙ ap (placedWithin d₁ (4 + 4 * n + 4)) (rest-part s (4 + 4 * n) ∙ ap (λ (m : ℕ). drop (4 + 4 * m) s) counted)
       ∙ within d₁ (4 + 4 * n + 4) rest (omega (arith, long₁, rest-long))))
       (g ∙ ap (λ (w : ℕ). placed d₂ (length s + 4) (groupBytes (take (groupWidth w) (int ∷ cab ∷ refdly ∷ gd ∷ [])))) v)
-      ∙ ap (placed d 0) (append-assoc (longerDates s mjd) rest new)
+      ∙ ap (placed d 0) (append-assoc (longerDates s mjd) rest group)
     where
       rest : List ℕ
       rest = drop (groups s) s
 
-      new : List ℕ
-      new = groupBytes (take (groupWidth (version s)) (int ∷ cab ∷ refdly ∷ gd ∷ []))
+      group : List ℕ
+      group = groupBytes (new s int cab refdly gd)
 
       rest-long : length rest ≡ length s - (4 + 4 * n)
       rest-long = ap (λ (m : ℕ). length (drop (4 + 4 * m) s)) (sym counted) ∙ length-drop (4 + 4 * n) s
@@ -123,15 +128,12 @@ module _ (s : List ℕ) (n : ℕ) (counted : n ≡ count s) (long : 4 + 4 * n �
   pub length-longer : (mjd : ℕ) (int cab refdly gd : ℤ) → length (longerStore s mjd int cab refdly gd) ≡ length s + 4 + 8 * groupWidth (version s)
   unfolding longerStore longerGroups
   length-longer mjd int cab refdly gd =
-      length-append (longerDates s mjd) (drop (groups s) s ++ groupBytes new)
+      length-append (longerDates s mjd) (drop (groups s) s ++ groupBytes (new s int cab refdly gd))
       ∙ ap₂ _+_ (length-dates mjd)
-      (length-append (drop (groups s) s) (groupBytes new)
+      (length-append (drop (groups s) s) (groupBytes (new s int cab refdly gd))
       ∙ ap₂ _+_ (ap (λ (m : ℕ). length (drop (4 + 4 * m) s)) (sym counted) ∙ length-drop (4 + 4 * n) s)
-      (length-group new ∙ ap (λ (m : ℕ). 8 * m) (length-take-le (groupWidth (version s)) (int ∷ cab ∷ refdly ∷ gd ∷ []) (four-wide (version s)))))
+      (length-group (new s int cab refdly gd) ∙ ap (λ (m : ℕ). 8 * m) (length-take-le (groupWidth (version s)) (int ∷ cab ∷ refdly ∷ gd ∷ []) (four-wide (version s)))))
       ∙ all n (length s) (groupWidth (version s)) long
     where
-      new : List ℤ
-      new = take (groupWidth (version s)) (int ∷ cab ∷ refdly ∷ gd ∷ [])
-
       all : (n l w : ℕ) → 4 + 4 * n ≤ l → 4 + 4 * n + 4 + (l - (4 + 4 * n) + 8 * w) ≡ l + 4 + 8 * w
       all n l w h = omega arith

@@ -1,4 +1,4 @@
-// What is refused of a store, and of what is to be appended.
+// What is refused of a store, and of what is to be appended. A count has 16 bits: it is below 65536.
 ghost use mathlib.Core.Path.{_≡_};
 ghost use Prim.Native.Nat.{_+_, _*_, _≤_};
 ghost use mathlib.Core.Bool.{not, _&&_, _||_};
@@ -22,6 +22,9 @@ use limits::outside;
 use limits::then;
 use limits::when;
 
+// How many entries a store has at most.
+const MOST_ENTRIES: usize = 1000;
+
 // Whether each of the first n starts is later than the one before; the two lie in eight bytes.
 fn rising(store: &[u8], n: usize) -> bool
     requires { ⌜ n ≤ 65536 ⌝ }
@@ -37,7 +40,8 @@ fn rising(store: &[u8], n: usize) -> bool
     ok
 }
 
-// Whether one of n delays, the first at an offset, is beyond the limit.
+// Whether one of n delays, the first at an offset, is beyond the limit. Offset and n are far below what 64 bits hold, so that no sum
+// overflows.
 fn any_beyond(store: &[u8], at: usize, n: usize) -> bool
     requires { ⌜ at ≤ 1000000 ⌝ }
     requires { ⌜ n ≤ 1000000 ⌝ }
@@ -53,18 +57,18 @@ fn any_beyond(store: &[u8], at: usize, n: usize) -> bool
     found
 }
 
-// Whether the version is neither 1 nor 2, there are more than 1000 entries, or the length is another one.
+// Whether the version is neither 1 nor 2, there are too many entries, or the length is another one.
 fn head_wrong(store: &[u8], version: u16, entries: usize) -> bool
     requires { ⌜ entries ≤ 65536 ⌝ }
     ensures { λ r. ⌜ r ≡ (not (eqb version 1 || eqb version 2) || ltb mostEntries entries || not (eqb (length (now (store .entry))) (storeLength version entries))) ⌝ }
 {
     !((version == 1) | (version == 2))
-        | (1000 < entries)
+        | (MOST_ENTRIES < entries)
         | !(store.len() == store_length(version, entries))
 }
 
 // 20 or 0 of a store. Entries are looked at where the length is right, so that no store takes longer than its bytes do.
-pub fn store_number(store: &[u8]) -> u32
+pub fn store_refusal(store: &[u8]) -> u32
     ensures { λ r. ⌜ r ≡ storeNumber (now (store .entry)) ⌝ }
 {
     let version = unsigned16(store, 0);
@@ -85,7 +89,7 @@ fn new_beyond(store: &[u8], int: i64, cab: i64, refdly: i64, gd: i64) -> bool
 }
 
 // The number of an append.
-pub fn append_number(
+pub fn append_refusal(
     store: &[u8],
     mjd: u32,
     int: i64,
@@ -97,9 +101,9 @@ pub fn append_number(
     ensures { λ r. ⌜ r ≡ appendNumber (now (store .entry)) mjd int cab refdly gd room ⌝ }
 {
     let entries = count(store);
-    let bad = store_number(store);
+    let bad = store_refusal(store);
     let new = when(20, new_beyond(store, int, cab, refdly, gd));
-    let full = when(22, !later(store, entries, mjd) | (entries == 1000));
+    let full = when(22, !later(store, entries, mjd) | (entries == MOST_ENTRIES));
     let short = when(9, room < store_length(unsigned16(store, 0), entries + 1));
     then(bad, then(new, then(full, short)))
 }

@@ -35,7 +35,7 @@ pub fn lookup(store: &[u8], mjd: u32) -> Delays
     ensures answer { λ r. ⌜ delaysReply r ≡ lookupRule (now (store .entry)) mjd ⌝ }
     ensures variant { λ r. ⌜ delaysNumbered r ⌝ }
 {
-    let bad = judge::store_number(store);
+    let bad = judge::store_refusal(store);
     if bad != 0 {
         return Delays::Refused(bad);
     }
@@ -60,7 +60,7 @@ pub fn append(
     ensures variant { λ r. ⌜ appendNumbered r ⌝ }
     ensures written { λ _. ⌜ now (longer .exit) ≡ appendAfter (now (store .entry)) mjd int cab refdly gd (now (longer .entry)) ⌝ }
 {
-    let refusal = judge::append_number(store, mjd, int, cab, refdly, gd, longer.len());
+    let refusal = judge::append_refusal(store, mjd, int, cab, refdly, gd, longer.len());
     if refusal != 0 {
         return Appended::Refused(refusal);
     }

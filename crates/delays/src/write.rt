@@ -1,4 +1,5 @@
-// Writing a store with one entry more, piece by piece from its first byte on.
+// Writing a store with one entry more, piece by piece from its first byte on. There are fewer than 65535 entries, so that one more still counts
+// in 16 bits.
 ghost use mathlib.Core.Path.{_≡_};
 ghost use Prim.Native.Nat.{_+_, _*_, _<_, _≤_};
 ghost use mathlib.Core.List.{[], _∷_};

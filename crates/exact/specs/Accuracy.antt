@@ -10,7 +10,7 @@ use Rattle.whole.specs.Square.{squared, magnitude}
 use Rattle.whole.specs.Sum.{sum}
 use Rattle.whole.specs.Identity.{identity, quote}
 use Rattle.whole.specs.Linear.{le-by, le-is, lt-is}
-use Rattle.whole.specs.Order.{_⩽_, _⋖_, le-refl, le-of-eq, le-of-lt, lt-le-trans, le-shift, cancel-le, pos-le, pos-lt, zero-le-pos, mul-le, mul-le-mul, mul-nonneg, add-le, sub-nonneg, le-trans, square-nonneg, square-pos, square-le}
+use Rattle.whole.specs.Order.{_⩽_, _⋖_, le-refl, le-of-eq, le-of-lt, lt-le-trans, le-shift, cancel-le, pos-le, pos-lt, pos-sub, zero-le-pos, mul-le, mul-le-mul, mul-nonneg, add-le, sub-nonneg, le-trans, square-nonneg, square-pos, square-le}
 use Rattle.whole.specs.Magnitude.{magnitude-mul, magnitude-combined}
 use Rattle.limits.specs.declared.Numbers.{Numbers}
 use Rattle.exact.specs.Parabola.{LeastParabola, ExactSmoothed}
@@ -20,7 +20,7 @@ use Rattle.exact.specs.Corrected.{Given, block, toA, toB, steps}
 use Rattle.exact.specs.Accurate.{AccurateLine, AccurateScatter, AccurateTrack}
 use Rattle.exact.specs.Weights.{weights, place}
 use Rattle.exact.specs.Smoothing.{weights-exact}
-use Rattle.exact.specs.Places.{span, span-is, minus-one}
+use Rattle.exact.specs.Places.{span, span-is}
 use Rattle.exact.specs.Fitting.{misfit-scaled, least-scaled}
 use Rattle.exact.specs.Bounds.{Near, Rounded, midpoint-bound, slope-bound}
 use Rattle.exact.specs.Scattering.{spread, scatter-above, scatter-below}
@@ -144,6 +144,10 @@ pub record RoundedScatter (s n : ℕ) (v : ℕ → ℤ) (dsg : ℤ) : Type 0 whe
   pub threshold : pos 1 ⩽ dsg → pos n *ℤ squared (pos s *ℤ (pos 100 *ℤ dsg -ℤ pos 50)) ⩽ sum n (λ j. squared (residual j))
   pub nextThreshold : sum n (λ j. squared (residual j)) ⩽ pos n *ℤ squared (pos s *ℤ (pos 100 *ℤ dsg +ℤ pos 50))
 
+-- half a unit below a number from 1 up is above 0
+below-dsg : (dsg : ℤ) → pos 1 ⩽ dsg → pos 1 ⩽ pos 100 *ℤ dsg -ℤ pos 50
+below-dsg dsg k = let ρ : List ℤ = dsg ∷ [] in le-by ρ (search quote depth 20) (omega (arith, le-is ρ (search quote depth 20) k))
+
 pub accurate-scatter : (s n : ℕ) → 0 < s → 2 ≤ n → (v Y : ℕ → ℤ) (e : ℤ) {dsg : ℤ} → pos 0 ⋖ e → Near n v (λ j. pos s *ℤ Y j) e
     → RoundedScatter s n v dsg → AccurateScatter s n Y e dsg
 accurate-scatter s n s-pos h v Y e {dsg} e-pos near r =
@@ -155,7 +159,7 @@ accurate-scatter s n s-pos h v Y e {dsg} e-pos near r =
       atLeast = λ P Q d l k.
           subst (λ (W : ℤ). pos n *ℤ squared (pos s *ℤ (pos 100 *ℤ dsg -ℤ pos 50) -ℤ pos 1) *ℤ squared (pos 2 *ℤ d *ℤ e) ⩽ W)
           (misfit-scaled n Y e (pos s) P Q d)
-          (scatter-above n v h e-pos near (scaled l) (r .residual) (r .rounded) (pos s *ℤ (pos 100 *ℤ dsg -ℤ pos 50)) (in-steps (below k)) (r .threshold k));
+          (scatter-above n v h e-pos near (scaled l) (r .residual) (r .rounded) (pos s *ℤ (pos 100 *ℤ dsg -ℤ pos 50)) (in-steps (below-dsg dsg k)) (r .threshold k));
     }
   where
     scaled : {P Q d : ℤ} → LeastLine n Y e P Q d → LeastLine n (λ j. pos s *ℤ Y j) e (pos s *ℤ P) (pos s *ℤ Q) d
@@ -169,10 +173,6 @@ accurate-scatter s n s-pos h v Y e {dsg} e-pos near r =
     above =
         let ρ : List ℤ = dsg ∷ [] in
         le-by ρ (search quote depth 20) (omega (arith, le-is ρ (search quote depth 20) (r .notNegative)))
-
-    below : pos 1 ⩽ dsg → pos 1 ⩽ pos 100 *ℤ dsg -ℤ pos 50
-    below k =
-        let ρ : List ℤ = dsg ∷ [] in le-by ρ (search quote depth 20) (omega (arith, le-is ρ (search quote depth 20) k))
 
 -- ---- the track
 
@@ -257,15 +257,12 @@ coarser-scatter s n s-pos {Y} {e} {dsg} dsg-pos f =
     record {
       atMost = λ P Q d l. above (pos s) (pos 100 *ℤ dsg +ℤ pos 50) (pos n) (squared (pos 2 *ℤ d *ℤ e)) (lineMisfit n Y e P Q d) (pos-le s-pos) a-pos
           (zero-le-pos n) (square-nonneg (pos 2 *ℤ d *ℤ e)) (f .atMost P Q d l);
-      atLeast = λ P Q d l k. below (pos s) (pos 100 *ℤ dsg -ℤ pos 50) (pos n) (squared (pos 2 *ℤ d *ℤ e)) (lineMisfit n Y e P Q d) (pos-le s-pos) (b-pos k)
+      atLeast = λ P Q d l k. below (pos s) (pos 100 *ℤ dsg -ℤ pos 50) (pos n) (squared (pos 2 *ℤ d *ℤ e)) (lineMisfit n Y e P Q d) (pos-le s-pos) (below-dsg dsg k)
           (zero-le-pos n) (square-nonneg (pos 2 *ℤ d *ℤ e)) (f .atLeast P Q d l k);
     }
   where
     a-pos : pos 0 ⩽ pos 100 *ℤ dsg +ℤ pos 50
     a-pos = let ρ : List ℤ = dsg ∷ [] in le-by ρ (search quote depth 20) (omega (arith, le-is ρ (search quote depth 20) dsg-pos))
-
-    b-pos : pos 1 ⩽ dsg → pos 1 ⩽ pos 100 *ℤ dsg -ℤ pos 50
-    b-pos k = let ρ : List ℤ = dsg ∷ [] in le-by ρ (search quote depth 20) (omega (arith, le-is ρ (search quote depth 20) k))
 
     above : (s a n M W : ℤ) → pos 1 ⩽ s → pos 0 ⩽ a → pos 0 ⩽ n → pos 0 ⩽ M → squared s *ℤ W ⩽ n *ℤ squared (s *ℤ a +ℤ pos 1) *ℤ M
         → squared (pos 1) *ℤ W ⩽ n *ℤ squared (pos 1 *ℤ a +ℤ pos 1) *ℤ M
@@ -376,7 +373,7 @@ earlier-track s n s-pos {g} {f} dsg-pos t =
 
 -- from 51 values on, n / (n² - 1) is at most 0.02
 pub tilt : (n : ℕ) → 51 ≤ n → pos 50 *ℤ pos n ⩽ squared (pos n) -ℤ pos 1
-tilt n h = subst (λ (m : ℤ). pos 50 *ℤ pos n ⩽ m) (minus-one (n * n) (omega (arith, mul-le-mul-left n h))) (pos-le (omega (arith, mul-le-mul-left n h)))
+tilt n h = subst (λ (m : ℤ). pos 50 *ℤ pos n ⩽ m) (sym (pos-sub (n * n) 1 (omega (arith, mul-le-mul-left n h)))) (pos-le (omega (arith, mul-le-mul-left n h)))
 
 -- so that a slope's bound is at most 0.5 + 0.02 / s of a unit, in tenths 0.502, with u for the error's magnitude and m for n² - 1
 tilted-by : (s m n u d : ℤ) → pos 0 ⋖ m → pos 0 ⩽ d → pos 2 *ℤ s *ℤ m *ℤ u ⩽ (s *ℤ m +ℤ pos 2 *ℤ n) *ℤ d → pos 50 *ℤ n ⩽ m

@@ -9,7 +9,7 @@ use lib.IntN.{ℤ, pos, negℤ, _+ℤ_, _-ℤ_, _*ℤ_}
 use Rattle.whole.specs.Square.{squared, magnitude}
 use Rattle.whole.specs.Sum.{sum}
 use Rattle.whole.specs.Identity.{identity, quote}
-use Rattle.whole.specs.Order.{_⩽_, le-refl, le-shift}
+use Rattle.whole.specs.Order.{_⩽_, le-refl, le-shift, pos-sub}
 use Rattle.whole.specs.Magnitude.{magnitude-neg}
 use Rattle.whole.specs.Sums.{sum-cong, sum-first}
 use Rattle.exact.specs.Line.{twiceMeanDate, twiceSeconds}
@@ -32,15 +32,9 @@ seconds-place n j = dates (pos j) (pos (n - 1))
 abbrev pub span : ℕ → ℕ
 span n = n * (n * n - 1)
 
-move : (u v : ℤ) → u +ℤ pos 1 ≡ v → u ≡ v -ℤ pos 1
-move u v e = identity (u ∷ []) (search quote depth 20) tt ∙ ap (λ (z : ℤ). z -ℤ pos 1) e
-
-pub minus-one : (k : ℕ) → 1 ≤ k → pos (k - 1) ≡ pos k -ℤ pos 1
-minus-one k h = move (pos (k - 1)) (pos k) (ap pos {x = k - 1 + 1} {y = k} (omega arith))
-
 -- as a whole number, with no natural subtraction
 pub span-is : (n : ℕ) → 1 ≤ n → pos (span n) ≡ pos n *ℤ (pos n *ℤ pos n -ℤ pos 1)
-span-is n h = ap (λ (z : ℤ). pos n *ℤ z) (minus-one (n * n) (one-le-mul h h))
+span-is n h = ap (λ (z : ℤ). pos n *ℤ z) (sym (pos-sub (n * n) 1 (one-le-mul h h)))
 
 one-more : (n : ℕ) → pos (suc n) ≡ pos n +ℤ pos 1
 one-more n = ap pos (omega arith)
@@ -93,7 +87,7 @@ squares-from (suc n) c =
 module _ (n : ℕ) (h : 1 ≤ n) where
   place-from : (j : ℕ) → place n j ≡ pos (2 * j) -ℤ (pos n -ℤ pos 1)
   unfolding place
-  place-from j = ap (λ (c : ℤ). pos (2 * j) -ℤ c) (minus-one n h)
+  place-from j = ap (λ (c : ℤ). pos (2 * j) -ℤ c) (sym (pos-sub n 1 h))
 
   pub sum-place : sum n (place n) ≡ pos 0
   sum-place =

@@ -1,7 +1,7 @@
 // Numbers as text for the columns of a line: decimals with zero fill, signed decimals, hexadecimal digits, and the checksum.
 // A writer fills the whole part that it is lent. And digits as they stand in a text, for who compares them.
 ghost use mathlib.Core.Path.{_≡_};
-ghost use Prim.Native.Nat.{_≤_};
+ghost use Prim.Native.Nat.{_*_, _≤_};
 ghost use lib.ListN.{length, getD};
 ghost use Rattle.fields.specs.Text.{decimal, sign, signed, hexDigit, checksum};
 ghost use Rattle.fields.specs.Raw.{twoDigits};
@@ -66,15 +66,12 @@ pub fn checksum(text: &[u8]) -> u8
 pub fn byte_at(text: &[u8], at: usize) -> u64
     ensures { λ r. ⌜ (r ≡ getD (now (text .entry)) at 0) × (r ≤ 255) ⌝ }
 {
-    if text.len() <= at {
-        return 0;
-    }
-    text[at] as u64
+    if at < text.len() { text[at] as u64 } else { 0 }
 }
 
-// Two bytes of a text, as if they were digits and '0' were 0. What stands past its end counts as 0.
+// Two bytes of a text that stand for the digits of a number: 11 times '0' more than it. What stands past the end counts as 0.
 pub fn two_digits(text: &[u8], at: usize) -> u64
-    ensures { λ r. ⌜ (r ≡ twoDigits at (now (text .entry))) × (r ≤ 2805) ⌝ }
+    ensures { λ r. ⌜ (r ≡ twoDigits at (now (text .entry))) × (r ≤ 11 * 255) ⌝ }
 {
     if text.len() <= at {
         return 0;

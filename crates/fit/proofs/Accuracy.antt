@@ -22,16 +22,14 @@ use Rattle.exact.specs.Scattering.{spread}
 use Rattle.series.specs.Smooth.{smoothed}
 use Rattle.series.specs.Fit.{total, moment, midpoint, slope}
 use Rattle.series.specs.Scatter.{residual, squares, threshold, dsg}
-use Rattle.correcting.specs.Correct.{blocks, places, smoothedAt, valueA, valueB, valueC, valueD, wrongSizes}
+use Rattle.correcting.specs.Correct.{blocks, places, smoothedAt, valueA, valueB, valueC, valueD}
 use Rattle.fit.specs.Track.{numbersWith, recordOf, results, tracked, trackNumber, trackRule}
 use Rattle.fit.specs.declared.Tracked.{Tracked}
 use Rattle.limits.specs.declared.Numbers.{Numbers}
-use Rattle.limits.specs.Refusal.{_when_}
-use Rattle.limits.proofs.Laws.{then-zero, when-zero}
 use Rattle.series.proofs.Fitting.{span-some, midpoint-cong, slope-cong, midpoint-stepped, slope-stepped}
 use Rattle.series.proofs.Thresholds.{dsg-greatest}
 use Rattle.correcting.proofs.Arrays.{places-at}
-use Rattle.correcting.proofs.Refusals.{sized}
+use Rattle.fit.proofs.Tracks.{track-sized}
 
 -- midpoint and slope are rounded to the nearest
 fit-rounded : (n : ℕ) → 2 ≤ n → (v : ℕ → ℤ) → RoundedFit steps n v (midpoint steps n v) (slope steps n v)
@@ -130,11 +128,8 @@ results-accurate g h =
     })
 
 -- a track of too few blocks is refused
-enough : (g : Given) → trackNumber g ≡ 0 → 2 ≤ blocks g
-unfolding trackNumber
-enough g e =
-    let s = sized g (when-zero 0 (wrongSizes g) (then-zero (1 when wrongSizes g) _ e .0)) .size-blocks in
-    omega (arith, s .0)
+pub enough : (g : Given) → trackNumber g ≡ 0 → 2 ≤ blocks g
+enough g e = let s = track-sized g e .size-blocks in omega (arith, s .0)
 
 -- so what holds of the numbers of every track of 2 blocks or more holds of those of an accepted answer
 accepted-has : (P : Numbers → Type 0) (g : Given) (number : ℕ) → (number ≡ 0 → P (results g .numbers)) → tracked number (results g) .refusal ≡ 0

@@ -14,8 +14,9 @@ use mir.Val.{toZ, ofZ}
 use lib.ListN.{length, take}
 use Rattle.whole.specs.Words.{back-of}
 use Rattle.limits.specs.Refusal.{_when_, _then_}
-use Rattle.limits.proofs.Laws.{then-refused, then-passed, then-assoc}
+use Rattle.limits.proofs.Laws.{then-zero, then-refused, then-passed, then-assoc}
 use Rattle.fit.specs.declared.TrackRecord.{TrackRecord}
+use Rattle.fit.specs.declared.Tracked.{Tracked}
 use Rattle.whole.specs.Table.{at}
 use Rattle.exact.specs.Corrected.{Given, steps}
 use Rattle.limits.specs.Lists.{anyBeyond}
@@ -26,15 +27,31 @@ use Rattle.series.specs.Fit.{midpoint, slope, fitRule, valueLimit}
 use Rattle.series.proofs.Fitting.{fit-part}
 use Rattle.limits.specs.declared.Numbers.{Numbers}
 use Rattle.fit.specs.declared.Found.{Found}
-use Rattle.fit.specs.Found.{foundNumber, foundNumbers, found, judgedOf, foundIn}
+use Rattle.fit.specs.Found.{foundNumber, foundNumbers, found, judgedRule, foundRule}
 use Rattle.correcting.specs.Correct.{wrongSizes, outOfLimits}
 use Rattle.correcting.specs.Answer.{correctNumber}
+use Rattle.correcting.proofs.Refusals.{Sized, sized, sizes-passed}
 use Rattle.fit.specs.Track.{results, recordNumber, trackNumber, zeros, tracked, trackRule}
 
 pub tracked-refused : (number : ℕ) (t : TrackRecord) → 0 < number → tracked number t ≡ record { refusal = number; «record» = zeros }
 unfolding tracked
 tracked-refused zero t h = absurd (not-suc-le-zero h)
 tracked-refused (suc number) t h = refl
+
+-- the refusal is the number, and the record of an accepted track is that of its results
+number-of : (number : ℕ) (g : Given) → tracked number (results g) .refusal ≡ number
+unfolding tracked
+number-of zero g = refl
+number-of (suc number) g = refl
+
+pub track-number : (g : Given) (t : Tracked) → t ≡ trackRule g → t .refusal ≡ trackNumber g
+unfolding trackRule
+track-number g t e = ap (λ (t : Tracked). t .refusal) e ∙ number-of (trackNumber g) g
+
+pub track-record : (g : Given) (t : Tracked) → t ≡ trackRule g → t .refusal ≡ 0 → t .«record» ≡ results g
+unfolding trackRule tracked
+track-record g t e h =
+    ap (λ (t : Tracked). t .«record») e ∙ ap (λ (n : ℕ). tracked n (results g) .«record») (sym (track-number g t e) ∙ h)
 
 -- Fit's answer to the first n places where all are inside their limit: the line through them,
 abbrev lineThrough : ℕ → List ℤ → Fitted
@@ -63,6 +80,10 @@ number-parts : (g : Given) → trackNumber g ≡ correctNumber g then recordNumb
 unfolding trackNumber correctNumber
 number-parts g = sym (then-assoc (1 when wrongSizes g) (2 when outOfLimits g) (recordNumber (results g)))
 
+-- 0: its sizes are right
+pub track-sized : (g : Given) → trackNumber g ≡ 0 → Sized g
+track-sized g e = sized g (sizes-passed g (then-zero (correctNumber g) _ (sym (number-parts g) ∙ e) .0))
+
 -- a track that is refused as it is given
 pub track-refused : (g : Given) (number : ℕ) → number ≡ correctNumber g → 0 < number → record { refusal = number; «record» = zeros } ≡ trackRule g
 unfolding trackRule
@@ -86,9 +107,9 @@ module _ (t : TrackRecord) where
       differ d = let z : _≡_ {A = ℕ} 0 1 = cc in omega arith
   by-number (suc k) e {number} f = let z : number ≡ suc k = cc in ap (λ (m : ℕ). record { refusal = m; «record» = zeros }) z
 
-  pub found-refused : {r : Found} → r ≡ judgedOf t → {number : ℕ} → r ≡ Found.Refused number
+  pub found-refused : {r : Found} → r ≡ judgedRule t → {number : ℕ} → r ≡ Found.Refused number
       → record { refusal = number; «record» = zeros } ≡ tracked (recordNumber t) t
-  unfolding judgedOf
+  unfolding judgedRule
   found-refused e f = by-number (recordNumber t) e f
 
   ten-by : (k : ℕ) {r : Found} → r ≡ found k (t .numbers) → {n : Numbers} → r ≡ Found.Ten n → (n ≡ t .numbers) × (tracked k t ≡ record { refusal = 0; «record» = t })
@@ -99,32 +120,32 @@ module _ (t : TrackRecord) where
       differ : Found.Ten n ≡ Found.Refused (suc k) → ⊥
       differ d = let z : _≡_ {A = ℕ} 0 1 = cc in omega arith
 
-  pub found-ten : {r : Found} → r ≡ judgedOf t → {n : Numbers} → r ≡ Found.Ten n
+  pub found-ten : {r : Found} → r ≡ judgedRule t → {n : Numbers} → r ≡ Found.Ten n
       → (n ≡ t .numbers) × (tracked (recordNumber t) t ≡ record { refusal = 0; «record» = t })
-  unfolding judgedOf
+  unfolding judgedRule
   found-ten e f = ten-by (recordNumber t) e f
 
 -- ---- the numbers alone
 
 -- what such a case tells
-pub found-number : (g : Given) (x : Found) → x ≡ foundIn g → foundNumber x ≡ trackNumber g
-unfolding foundIn found
+pub found-number : (g : Given) (x : Found) → x ≡ foundRule g → foundNumber x ≡ trackNumber g
+unfolding foundRule found
 found-number g x e = ap foundNumber e ∙ by (trackNumber g)
   where
     by : (k : ℕ) → foundNumber (found k (results g .numbers)) ≡ k
     by zero = refl
     by (suc k) = refl
 
-pub found-numbers : (g : Given) (x : Found) → x ≡ foundIn g → foundNumber x ≡ 0 → foundNumbers x ≡ results g .numbers
-unfolding foundIn found
+pub found-numbers : (g : Given) (x : Found) → x ≡ foundRule g → foundNumber x ≡ 0 → foundNumbers x ≡ results g .numbers
+unfolding foundRule found
 found-numbers g x e h = ap foundNumbers e ∙ by (trackNumber g) (sym (found-number g x e) ∙ h)
   where
     by : (k : ℕ) → k ≡ 0 → foundNumbers (found k (results g .numbers)) ≡ results g .numbers
     by zero h = refl
     by (suc k) h = absurd (omega (arith, h))
 
-pub found-some : (g : Given) {x : Found} → x ≡ foundIn g → {number : ℕ} → x ≡ Found.Refused number → 0 < number
-unfolding foundIn found
+pub found-some : (g : Given) {x : Found} → x ≡ foundRule g → {number : ℕ} → x ≡ Found.Refused number → 0 < number
+unfolding foundRule found
 found-some g {x} e f = by (trackNumber g) e f
   where
     by : (k : ℕ) → x ≡ found k (results g .numbers) → {number : ℕ} → x ≡ Found.Refused number → 0 < number

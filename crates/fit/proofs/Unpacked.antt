@@ -2,7 +2,7 @@
 -- has the numbers of its row.
 -- Assumes nothing.
 use mathlib.Core.Path.{_≡_, refl, sym, ap, ap₂, _∙_, subst}
-use mathlib.Core.Bool.{Bool, true, false, not, _||_}
+use mathlib.Core.Bool.{true, false, not, _||_}
 use mathlib.Core.List.{List, []}
 use Prim.Native.Nat.{ℕ, zero, suc, _+_, _*_, _/_, _≤_, _<_}
 use native.Mathlib.Nat.{le-trans}
@@ -15,9 +15,7 @@ use Rattle.limits.specs.Blocks.{blocksFit}
 use Rattle.limits.specs.Lists.{anyBeyond}
 use Rattle.limits.specs.Refusal.{_when_, _then_}
 use Rattle.limits.proofs.Blocks.{blocks-within}
-use Rattle.limits.proofs.Laws.{then-zero, when-zero}
 use Rattle.limits.proofs.Lists.{counts, within-limit, limit-within}
-use Rattle.limits.proofs.Scans.{none-outside}
 use Rattle.series.specs.Fit.{valueLimit}
 use Rattle.series.specs.Smooth.{smoothed}
 use Rattle.series.proofs.Weights.{smoothed-bound}
@@ -27,16 +25,16 @@ use Rattle.decode.proofs.Pieces.{signed-piece, signeds-part}
 use Rattle.exact.specs.Accurate.{AccurateTrack}
 use Rattle.whole.specs.Table.{at}
 use Rattle.exact.specs.Corrected.{Given, steps, block, toA, toB}
-use Rattle.correcting.specs.declared.Corrected.{Corrected}
 use Rattle.correcting.specs.Correct.{blocks, smoothedAt, valueA, valueB, valueC, valueD, places, wrongSizes, outOfLimits}
-use Rattle.correcting.specs.Answer.{corrected, filled, wholeBlocks, blocksRule, othersBeyond}
+use Rattle.correcting.specs.Answer.{filled, wholeBlocks, othersBeyond}
 use Rattle.correcting.proofs.Arrays.{places-at, places-bound, filled-places}
-use Rattle.correcting.proofs.Refusals.{sized, limits-parts}
+use Rattle.correcting.proofs.Parts.{whole-blocks}
+use Rattle.correcting.proofs.Refusals.{limits-parts}
 use Rattle.fit.specs.declared.Found.{Found}
 use Rattle.fit.specs.Track.{recordOf, results, trackNumber}
-use Rattle.fit.specs.Found.{foundNumber, foundNumbers, found, judgedOf, foundIn}
+use Rattle.fit.specs.Found.{foundNumber, foundNumbers, found, judgedRule, foundRule}
 use Rattle.fit.specs.Packed.{grouped, packed, smoothedOf}
-use Rattle.fit.proofs.Accuracy.{results-accurate}
+use Rattle.fit.proofs.Accuracy.{results-accurate, enough}
 use Rattle.fit.proofs.Tracks.{found-number, found-numbers}
 
 -- the measurements of n blocks
@@ -64,32 +62,6 @@ unpacked-group k n j from fits h g =
 
 -- ---- what is found of packed numbers
 
--- what the answer to the blocks of a list tells
-module _ (l : List ℤ) {x : Corrected} (e : x ≡ blocksRule l) where
-  refused-by : (b : Bool) (count : ℕ) → x ≡ corrected (2 when b) count → {number read : ℕ} → x ≡ Corrected.Refused number read → (number ≡ 2) × (b ≡ true)
-  unfolding corrected _when_
-  refused-by true count h {number} {read} f = let z : number ≡ 2 = cc in (z, refl)
-  refused-by false count h {number} {read} f = absurd (differ h f)
-    where
-      differ : x ≡ Corrected.Values count → x ≡ Corrected.Refused number read → ⊥
-      differ h f = let z : _≡_ {A = ℕ} 0 1 = cc in omega arith
-
-  pub blocks-refused : {number read : ℕ} → x ≡ Corrected.Refused number read → (number ≡ 2) × (anyBeyond measurementLimit l ≡ true)
-  unfolding blocksRule
-  blocks-refused f = refused-by (anyBeyond measurementLimit l) _ e f
-
-  values-by : (b : Bool) (count : ℕ) → x ≡ corrected (2 when b) count → {read : ℕ} → x ≡ Corrected.Values read → b ≡ false
-  unfolding corrected _when_
-  values-by true count h {read} f = absurd (differ h f)
-    where
-      differ : x ≡ Corrected.Refused 2 count → x ≡ Corrected.Values read → ⊥
-      differ h f = let z : _≡_ {A = ℕ} 0 1 = cc in omega arith
-  values-by false count h f = refl
-
-  pub blocks-values : {read : ℕ} → x ≡ Corrected.Values read → anyBeyond measurementLimit l ≡ false
-  unfolding blocksRule
-  blocks-values f = values-by (anyBeyond measurementLimit l) _ e f
-
 -- two rows that are filled alike
 filled-alike : (n : ℕ) (f f' : ℕ → ℤ) (row : List ℤ) → ((j : ℕ) → j < n → f j ≡ f' j) → filled n f row ≡ filled n f' row
 unfolding filled
@@ -100,15 +72,8 @@ filled-alike (suc n) f f' row h =
 -- where nothing is outside, every block is whole, and the row holds its smoothed values
 module _ (l : List ℤ) (n : ℕ) (all : length l ≡ 15 * n) (most : n ≤ 52) (inside : anyBeyond measurementLimit l ≡ false) {y : List ℤ}
     (e : y ≡ filled (wholeBlocks l) (smoothedOf l) (replicate 52 (pos 0))) where
-  whole-blocks : wholeBlocks l ≡ n
-  unfolding wholeBlocks
-  whole-blocks = ap (λ (m : ℕ). m / 15) (none-outside _ _ l inside ∙ all) ∙ whole n
-    where
-      whole : (n : ℕ) → 15 * n / 15 ≡ n
-      whole n = omega arith
-
   smoothed-row : y ≡ places n (smoothedOf l)
-  smoothed-row = e ∙ ap (λ (m : ℕ). filled m (smoothedOf l) (replicate 52 (pos 0))) whole-blocks ∙ filled-places n (smoothedOf l) most
+  smoothed-row = e ∙ ap (λ (m : ℕ). filled m (smoothedOf l) (replicate 52 (pos 0))) (whole-blocks l n all inside) ∙ filled-places n (smoothedOf l) most
 
   pub smoothed-at : (j : ℕ) → j < n → at y j ≡ smoothedOf l j
   smoothed-at j h = ap (λ (k : List ℤ). at k j) smoothed-row ∙ places-at n (smoothedOf l) j h
@@ -123,26 +88,23 @@ module _ (l : List ℤ) (n : ℕ) (all : length l ≡ 15 * n) (most : n ≤ 52) 
       (λ i. subst (λ (k : List ℤ). natAbs (at k i) ≤ valueLimit) (sym smoothed-row) (places-bound (smoothedOf l) n valueLimit smoothed-most i))
 
 -- an accepted answer is accurate
-pub found-accurate : (g : Given) (x : Found) → x ≡ foundIn g → foundNumber x ≡ 0 → AccurateTrack steps (blocks g) g (foundNumbers x)
-unfolding trackNumber
+pub found-accurate : (g : Given) (x : Found) → x ≡ foundRule g → foundNumber x ≡ 0 → AccurateTrack steps (blocks g) g (foundNumbers x)
 found-accurate g x e z =
-    let t : trackNumber g ≡ 0 = sym (found-number g x e) ∙ z in
-    let s = sized g (when-zero 0 (wrongSizes g) (then-zero (1 when wrongSizes g) _ t .0)) .size-blocks in
-    subst (AccurateTrack steps (blocks g) g) (sym (found-numbers g x e z)) (results-accurate g (omega (arith, s .0)))
+    subst (AccurateTrack steps (blocks g) g) (sym (found-numbers g x e z)) (results-accurate g (enough g (sym (found-number g x e) ∙ z)))
 
 -- the cases of a track's answer
 module _ (g : Given) where
-  pub sizes-found : wrongSizes g ≡ true → Found.Refused 1 ≡ foundIn g
-  unfolding foundIn found trackNumber _when_ _then_
+  pub sizes-found : wrongSizes g ≡ true → Found.Refused 1 ≡ foundRule g
+  unfolding foundRule found trackNumber _when_ _then_
   sizes-found e = rw e
 
   module _ (e : wrongSizes g ≡ false) where
-    pub limits-found : outOfLimits g ≡ true → Found.Refused 2 ≡ foundIn g
-    unfolding foundIn found trackNumber _when_ _then_
+    pub limits-found : outOfLimits g ≡ true → Found.Refused 2 ≡ foundRule g
+    unfolding foundRule found trackNumber _when_ _then_
     limits-found f = rw (e, f)
 
-    pub judged-found : outOfLimits g ≡ false → judgedOf (results g) ≡ foundIn g
-    unfolding foundIn judgedOf trackNumber _when_ _then_
+    pub judged-found : outOfLimits g ≡ false → judgedRule (results g) ≡ foundRule g
+    unfolding foundRule judgedRule trackNumber _when_ _then_
     judged-found f = rw (e, f)
 
 module _ (m k : List ℕ) (int cab refdly gd : ℤ) where

@@ -24,9 +24,9 @@ found zero numbers = Found.Ten numbers
 found (suc number) numbers = Found.Refused (suc number)
 
 -- The case for a record.
-unfoldable pub judgedOf : TrackRecord → Found
-judgedOf t = found (recordNumber t) (t .numbers)
+unfoldable pub judgedRule : TrackRecord → Found
+judgedRule t = found (recordNumber t) (t .numbers)
 
 -- The case for what a track is given.
-unfoldable pub foundIn : Given → Found
-foundIn g = found (trackNumber g) (results g .numbers)
+unfoldable pub foundRule : Given → Found
+foundRule g = found (trackNumber g) (results g .numbers)

@@ -32,7 +32,7 @@ ghost use Rattle.whole.specs.Table.{at};
 ghost use Rattle.exact.specs.Corrected.{steps, toA, toB};
 ghost use Rattle.correcting.specs.Answer.{filled, wholeBlocks, blocksRule, othersBeyond};
 ghost use Rattle.correcting.specs.Block.{blockValuesRule};
-ghost use Rattle.fit.specs.Found.{foundNumber, foundNumbers, foundIn};
+ghost use Rattle.fit.specs.Found.{foundNumber, foundNumbers, foundRule};
 ghost use Rattle.fit.specs.Packed.{smoothedOf, grouped, packed};
 
 // The fifteen measurements of one block.
@@ -181,7 +181,7 @@ pub fn track_packed(
     gd: i64,
     corrections: &[u8],
 ) -> Found
-    ensures answer { λ r. ⌜ r ≡ foundIn (packed (now (measurements .entry)) int cab refdly gd (now (corrections .entry))) ⌝ }
+    ensures answer { λ r. ⌜ r ≡ foundRule (packed (now (measurements .entry)) int cab refdly gd (now (corrections .entry))) ⌝ }
     ensures accurate { λ r. ⌜ (foundNumber r ≡ 0 → AccurateTrack steps (length (now (corrections .entry)) / 40)
         (packed (now (measurements .entry)) int cab refdly gd (now (corrections .entry))) (foundNumbers r)) ⌝ }
 {

@@ -25,7 +25,7 @@ ghost use Rattle.series.specs.Answers.{scatterReply, scatterNumbered};
 ghost use Rattle.series.specs.Fit.{midpoint, slope, valueLimit};
 ghost use Rattle.series.specs.Scatter.{squares, dsg};
 ghost use Rattle.fit.specs.Track.{recordOf, zeros};
-ghost use Rattle.fit.specs.Found.{judgedOf};
+ghost use Rattle.fit.specs.Found.{judgedRule};
 
 // A refusal: its number, and 0 throughout.
 pub fn refused(number: u32) -> Tracked
@@ -80,7 +80,7 @@ pub fn ten_numbers(n: usize, a: &[i64], b: &[i64], c: &[i64], d: &[i64]) -> Foun
     requires { ⌜ (length (now a) ≡ 52) × (length (now b) ≡ 52) × (length (now c) ≡ 52) × (length (now d) ≡ 52) ⌝ }
     requires { ⌜ (anyBeyond valueLimit (now a) ≡ false) × (anyBeyond valueLimit (now b) ≡ false)
         × (anyBeyond valueLimit (now c) ≡ false) × (anyBeyond valueLimit (now d) ≡ false) ⌝ }
-    ensures { λ r. ⌜ r ≡ judgedOf (recordOf n (now (a .entry)) (now (b .entry)) (now (c .entry)) (now (d .entry))) ⌝ }
+    ensures { λ r. ⌜ r ≡ judgedRule (recordOf n (now (a .entry)) (now (b .entry)) (now (c .entry)) (now (d .entry))) ⌝ }
 {
     let line_a = fit_blocks(n, a);
     let Fitted::Line {

@@ -6,9 +6,9 @@ use mathlib.Core.List.{List}
 use lib.ListN.{length}
 use lib.Dec.{eqb}
 use Rattle.fit.specs.declared.Found.{Found}
-use Rattle.fit.specs.Found.{foundIn}
+use Rattle.fit.specs.Found.{foundRule}
 use Rattle.hire.specs.Hire.{blocksIn, blockLength, blockGiven}
 
 -- Track's answer to a block that is as long as its sizes make it, and 11 to any other.
-unfoldable pub blockFound : List ℕ → Found
-blockFound b = cond (eqb (length b) (blockLength (blocksIn b))) (foundIn (blockGiven b)) (Found.Refused 11)
+unfoldable pub blockRule : List ℕ → Found
+blockRule b = cond (eqb (length b) (blockLength (blocksIn b))) (foundRule (blockGiven b)) (Found.Refused 11)

@@ -1,7 +1,7 @@
 -- Laws of the track length (specs/Labels.antt).
 -- Assumes nothing.
 use mathlib.Core.Path.{_≡_, refl, sym, ap₂, _∙_, subst}
-use mathlib.Core.Bool.{Bool, true, false, not, _&&_, _||_, false≢true}
+use mathlib.Core.Bool.{Bool, true, false, not, _&&_, _||_, and-false, false≢true}
 use Prim.Native.Nat.{ℕ, _/_, _%_, _≤_}
 use native.Mathlib.Omega.{arith}
 use lib.Dec.{T, leb, ltb, eqb, leb→le, eqb→eq}
@@ -17,10 +17,6 @@ use Rattle.labels.specs.Labels.{trackLengthFits}
 not-or : (a b : Bool) → not (a || b) ≡ not a && not b
 not-or true b = refl
 not-or false b = refl
-
-and-false : (a : Bool) → a && false ≡ false
-and-false true = refl
-and-false false = refl
 
 -- whole blocks are from 4 to 52 where their seconds are from 60 to 780
 module _ (s : ℕ) (whole : s % 15 ≡ 0) where

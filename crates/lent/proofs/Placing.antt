@@ -7,7 +7,7 @@ use native.Mathlib.Nat.{add-assoc, add-zero, zero-add, le-of-eq}
 use native.Mathlib.Numerals.{add-one}
 use native.Mathlib.Omega.{arith}
 use lib.ListN.{length, take, drop, set, take-append-drop, length-append, length-drop, drop-of-length-le}
-use lib.Seq.{length-take-le, take-at, take-all, take-length, drop-append-add, drop-drop, drop-length, set-split}
+use lib.Seq.{length-take-le, take-at, take-length, drop-append-add, drop-drop, drop-length, set-split}
 use borrow.Author.Tests.{le-leb, lt-leb}
 use borrow.Rule.Slice.PartMut.{putMid, midOf, mid-len}
 use Rattle.lent.specs.Placed.{placed, placedWithin}
@@ -100,12 +100,9 @@ put-part d text part at h e =
     width : at + length text - at ≡ length text
     width = omega arith
 
--- the length of a part of some bytes, and the part from an offset on
+-- the length of a part of some bytes
 pub length-part : (d : List ℕ) (at end : ℕ) → end ≤ length d → length (take (end - at) (drop at d)) ≡ end - at
 length-part d at end h = length-take-le (end - at) (drop at d) (rw length-drop (omega arith))
-
-pub rest-part : (d : List ℕ) (at : ℕ) → take (length d - at) (drop at d) ≡ drop at d
-rest-part d at = take-all (length d - at) (drop at d) (le-of-eq (length-drop at d))
 
 -- what is placed from the first byte on, and what follows it
 pub placed-first : (d s : List ℕ) {n : ℕ} → length s ≡ n → placed d 0 s ≡ s ++ drop n d

@@ -1,14 +1,14 @@
--- The order of refusals, and what an answer 0 tells: no condition held, and a number that is not outside its limits is inside them.
+-- The order of refusals, tests joined and turned, and what an answer 0 tells: no condition held, and a number that is not outside its limits is inside them.
 -- Assumes nothing.
-use mathlib.Core.Path.{_≡_, refl}
-use mathlib.Core.Bool.{Bool, true, false, _&&_, _||_, true≢false, false≢true}
+use mathlib.Core.Path.{_≡_, refl, sym, ap₂, _∙_}
+use mathlib.Core.Bool.{Bool, true, false, not, _&&_, _||_, true≢false, false≢true}
 use Prim.Native.Nat.{ℕ, zero, suc, _≤_, _<_, zero-le, suc-le-suc}
 use native.Mathlib.Nat.{suc-ne-zero, not-suc-le-zero, le-of-suc-le-suc}
 use lib.IntN.{ℤ, pos, negsuc, natAbs}
-use lib.Dec.{ltb, eqb·suc-zero}
+use lib.Dec.{ltb, leb, eqb, eqb·suc-zero}
 use mir.Syntax.{w64}
 use mir.Val.{SFits}
-use borrow.Author.Tests.{ltb-false, le-ltb}
+use borrow.Author.Tests.{ltb-true, ltb-false, leb-true, leb-false, eqb-true, eqb-false, lt-ltb, le-ltb, le-leb, lt-leb, eq-eqb, ne-eqb}
 use Rattle.limits.specs.Refusal.{_when_, _then_, after}
 use Rattle.limits.specs.declared.Numbers.{Numbers}
 use Rattle.limits.specs.Limits.{outside, beyond, limitsNumber, dsgNumber}
@@ -53,6 +53,16 @@ unfolding _when_
 when-zero number true e = absurd (suc-ne-zero number e)
 when-zero number false e = refl
 
+-- a number by one test that is not 0
+pub when-some : (number : ℕ) (condition : Bool) {k : ℕ} → k ≡ number when condition → (k ≡ 0 → ⊥) → (k ≡ number) × (condition ≡ true)
+unfolding _when_
+when-some number true e h = (e, refl)
+when-some number false e h = absurd (h e)
+
+-- there is room where the test for it is passed
+pub room-passed : (room least : ℕ) → 9 when ltb room least ≡ 0 → least ≤ room
+room-passed room least e = ltb-false room least (when-zero 8 _ e)
+
 -- what was lent is written where nothing is refused, and else kept
 pub after-accepted : {A : Type 0} {number : ℕ} (written lent : A) → number ≡ 0 → after number written lent ≡ written
 after-accepted written lent e = rw e
@@ -66,6 +76,9 @@ pub both : (a b : Bool) → a && b ≡ true → (a ≡ true) × (b ≡ true)
 both true b e = (refl, e)
 both false b e = absurd (false≢true e)
 
+pub and-true-both : {a b : Bool} → a ≡ true → b ≡ true → a && b ≡ true
+and-true-both p q = ap₂ _&&_ p q
+
 pub either : {X : Type 0} (a b : Bool) → a || b ≡ true → (a ≡ true → X) → (b ≡ true → X) → X
 either true b e f g = f refl
 either false b e f g = g e
@@ -73,6 +86,32 @@ either false b e f g = g e
 pub or-false : (a b : Bool) → a || b ≡ false → (a ≡ false) × (b ≡ false)
 or-false true b e = absurd (true≢false e)
 or-false false b e = (refl, e)
+
+-- no test says no and yes
+pub never : {x : Bool} → x ≡ false → x ≡ true → ⊥
+never e f = true≢false (sym f ∙ e)
+
+-- a test denied, and two numbers compared the other way round
+pub not-ltb : (m n : ℕ) → not (ltb m n) ≡ leb n m
+not-ltb m n = by-test (ltb m n) refl
+  where
+    by-test : (t : Bool) → ltb m n ≡ t → not t ≡ leb n m
+    by-test true e = sym (lt-leb n m (ltb-true m n e))
+    by-test false e = sym (le-leb n m (ltb-false m n e))
+
+pub not-leb : (m n : ℕ) → not (leb m n) ≡ ltb n m
+not-leb m n = by-test (leb m n) refl
+  where
+    by-test : (t : Bool) → leb m n ≡ t → not t ≡ ltb n m
+    by-test true e = sym (le-ltb n m (leb-true m n e))
+    by-test false e = sym (lt-ltb n m (leb-false m n e))
+
+pub eqb-turned : (m n : ℕ) → eqb m n ≡ eqb n m
+eqb-turned m n = by-test (eqb n m) refl
+  where
+    by-test : (t : Bool) → eqb n m ≡ t → eqb m n ≡ t
+    by-test true e = eq-eqb m n (sym (eqb-true n m e))
+    by-test false e = ne-eqb m n (λ h. eqb-false n m e (sym h))
 
 -- within plus or minus a limit, the magnitude is at most the limit
 pub magnitude-within : (limit : ℕ) (z : ℤ) → beyond limit z ≡ false → natAbs z ≤ limit
@@ -146,3 +185,12 @@ within n e =
 pub dsg-within : (dsg : ℤ) → dsgNumber dsg ≡ 0 → (pos (natAbs dsg) ≡ dsg) × (natAbs dsg ≤ 9999)
 unfolding dsgNumber
 dsg-within dsg e = let d = natural-within 0 9999 dsg (when-zero 5 _ e) in (d .0, d .2)
+
+-- what a natural number is as a DSG
+pub dsg-refused : (d : ℕ) → 9999 < d → dsgNumber (pos d) ≡ 6
+unfolding dsgNumber outside _when_
+dsg-refused d h = rw (le-ltb d 0 zero-le, lt-ltb 9999 d h)
+
+pub dsg-accepted : (d : ℕ) → d ≤ 9999 → dsgNumber (pos d) ≡ 0
+unfolding dsgNumber _when_
+dsg-accepted d h = rw (within-natural 0 9999 d zero-le h)

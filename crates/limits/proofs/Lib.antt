@@ -3,3 +3,4 @@ pub mod Lists
 pub mod Scans
 pub mod Replies
 pub mod Blocks
+pub mod Parts

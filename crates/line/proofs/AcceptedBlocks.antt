@@ -15,6 +15,7 @@ use Rattle.exact.specs.Corrected.{steps}
 use Rattle.exact.specs.Accurate.{AccurateTrack}
 use Rattle.fit.specs.declared.TrackRecord.{TrackRecord}
 use Rattle.fit.specs.Track.{trackNumber, trackRule}
+use Rattle.fit.proofs.Tracks.{track-number, track-record}
 use Rattle.fit.proofs.Accuracy.{tracked-accurate}
 use Rattle.decode.proofs.Signeds.{length-signeds}
 use Rattle.columns.specs.Text.{lineLength}
@@ -25,7 +26,6 @@ use Rattle.hire.specs.Hire.{blocksIn, blockLabels, givenIn, blockGiven}
 use Rattle.line.specs.Line.{lineAnswer}
 use Rattle.line.specs.Block.{blockNumbers, blockLine, sizesNumber, blockAnswer, blockAfter, blockNumber}
 use Rattle.line.proofs.Accepted.{content-accepted}
-use Rattle.line.proofs.Blocks.{track-number, track-record}
 
 -- any room is enough that has room for the line
 pub room-enough : (b : List ℕ) (room : ℕ) → lineLength ≤ room → blockAnswer b room ≡ blockNumber b

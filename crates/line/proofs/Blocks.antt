@@ -1,59 +1,38 @@
 -- Laws of Block (specs/Block.antt): which number comes first, and that the numbers in the columns of an accepted line are accurate.
 -- Assumes nothing.
-use mathlib.Core.Path.{_≡_, refl, sym, ap, _∙_, subst}
-use mathlib.Core.Bool.{Bool, true, false, true≢false, not}
+use mathlib.Core.Path.{_≡_, sym, ap, _∙_, subst}
+use mathlib.Core.Bool.{not}
 use mathlib.Core.List.{List, _++_}
-use Prim.Native.Nat.{ℕ, zero, suc, _<_}
+use Prim.Native.Nat.{ℕ, _<_}
 use native.Mathlib.Omega.{arith}
 use lib.ListN.{length, drop}
 use lib.Dec.{ltb, eqb}
-use borrow.Author.Tests.{eqb-true}
+use borrow.Author.Tests.{eqb-true, not-false}
 use Rattle.limits.specs.Refusal.{_when_, _then_, after}
 use Rattle.limits.proofs.Laws.{then-zero, when-zero, then-refused, then-passed, after-refused}
-use Rattle.exact.specs.Corrected.{Given, steps}
+use Rattle.exact.specs.Corrected.{steps}
 use Rattle.exact.specs.Accurate.{AccurateTrack}
 use Rattle.fit.specs.declared.Found.{Found}
-use Rattle.fit.specs.declared.Tracked.{Tracked}
-use Rattle.fit.specs.Track.{results, tracked, trackNumber, trackRule}
-use Rattle.fit.specs.Found.{foundNumber, foundNumbers, foundIn}
+use Rattle.fit.specs.Track.{trackNumber}
+use Rattle.fit.specs.Found.{foundNumber, foundNumbers, foundRule}
 use Rattle.fit.proofs.Tracks.{found-number, found-numbers}
 use Rattle.limits.specs.declared.Numbers.{Numbers}
 use Rattle.columns.specs.Text.{lineLength}
 use Rattle.columns.specs.Columns.{readNumbers}
 use Rattle.line.specs.Line.{lineAnswer, lineAfter}
 use Rattle.hire.specs.Hire.{blocksIn, sizesFit, blockLength, blockLabels, blockGiven}
-use Rattle.hire.specs.Found.{blockFound}
+use Rattle.hire.specs.Found.{blockRule}
 use Rattle.hire.proofs.Lists.{whole-found}
 use Rattle.line.specs.Block.{blockNumbers, blockLine, sizesNumber, blockAnswer, blockAfter}
 use Rattle.line.proofs.ReadBack.{numbers-read}
 
--- ---- what Track's answer says
-
-number-of : (number : ℕ) (g : Given) → tracked number (results g) .refusal ≡ number
-unfolding tracked
-number-of zero g = refl
-number-of (suc number) g = refl
-
-pub track-number : (g : Given) (t : Tracked) → t ≡ trackRule g → t .refusal ≡ trackNumber g
-unfolding trackRule
-track-number g t e = ap (λ (t : Tracked). t .refusal) e ∙ number-of (trackNumber g) g
-
-pub track-record : (g : Given) (t : Tracked) → t ≡ trackRule g → t .refusal ≡ 0 → t .«record» ≡ results g
-unfolding trackRule tracked
-track-record g t e h =
-    ap (λ (t : Tracked). t .«record») e ∙ ap (λ (n : ℕ). tracked n (results g) .«record») (sym (track-number g t e) ∙ h)
-
 -- a block whose sizes and length pass is given to Track
-pub sizes-found : (b : List ℕ) → sizesNumber b ≡ 0 → blockFound b ≡ foundIn (blockGiven b)
+pub sizes-found : (b : List ℕ) → sizesNumber b ≡ 0 → blockRule b ≡ foundRule (blockGiven b)
 unfolding sizesNumber
 sizes-found b e =
     let sizes = then-zero (11 when ltb (length b) 4) _ e .1 in
     let other = when-zero 10 (not (eqb (length b) (blockLength (blocksIn b)))) (then-zero (1 when not (sizesFit b)) _ sizes .1) in
     sym (whole-found b (eqb-true (length b) (blockLength (blocksIn b)) (not-false _ other)))
-  where
-    not-false : (x : Bool) → not x ≡ false → x ≡ true
-    not-false true h = refl
-    not-false false h = absurd (true≢false h)
 
 -- ---- the answer, test by test
 
@@ -100,7 +79,7 @@ module _ (b lent : List ℕ) where
   unfolding lineAfter blockAfter
   same-after e = ap (λ (k : ℕ). after k (blockLine b ++ drop lineLength lent) lent) e
 
-  pub written : (x : Found) → sizesNumber b ≡ 0 → x ≡ foundIn (blockGiven b)
+  pub written : (x : Found) → sizesNumber b ≡ 0 → x ≡ foundRule (blockGiven b)
       → (foundNumber x ≡ 0 → AccurateTrack steps (blocksIn b) (blockGiven b) (foundNumbers x)) → foundNumber x ≡ 0
       → (r : ℕ) (after : List ℕ) → r ≡ lineAnswer (blockLabels b) (foundNumbers x) (length lent)
       → after ≡ lineAfter (blockLabels b) (foundNumbers x) lent → Promised r after

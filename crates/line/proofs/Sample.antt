@@ -13,7 +13,7 @@ use Rattle.limits.specs.Blocks.{blocksFit}
 use Rattle.labels.specs.Labels.{constellationFits, codeFits, labelsFit, trackLengthFits}
 use Rattle.labels.specs.Content.{contentNumber}
 use Rattle.line.specs.Line.{lineAnswer}
-use Rattle.columns.specs.Text.{timeOfDay, trackColumns, clockColumns, delayColumns, columns, spaced, lineText}
+use Rattle.columns.specs.Text.{timeOfDay, trackColumns, clockColumns, delayColumns, columns, spaced, lineText, lineLength}
 
 abbrev pub labels : Labels
 labels =
@@ -52,6 +52,6 @@ pub sample : lineText labels numbers ≡ bytesOf "G05 FF 50722 000200 0780 450 1
 unfolding bytesOf lineText columns trackColumns clockColumns delayColumns spaced timeOfDay decimal signed sign hexadecimal hexDigit checksum byteSum
 sample = refl
 
-pub sample-accepted : lineAnswer labels numbers 113 ≡ 0
+pub sample-accepted : lineAnswer labels numbers lineLength ≡ 0
 unfolding lineAnswer contentNumber _when_ _then_ labelsFit constellationFits codeFits startNumber isStart some startMinute broughtIn limitsNumber dsgNumber outside trackLengthFits blocksFit
 sample-accepted = refl

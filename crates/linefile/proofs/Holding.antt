@@ -5,9 +5,9 @@ use mathlib.Core.Bool.{Bool, true, false, cond, _||_, false≢true}
 use mathlib.Core.List.{List, [], _∷_}
 use Prim.Native.Nat.{ℕ, _+_}
 use native.Mathlib.Omega.{arith}
-use Rattle.limits.proofs.Laws.{either}
+use Rattle.limits.proofs.Laws.{either, never}
 use Rattle.linefile.specs.Files.{same, keys, before}
-use Rattle.linefile.proofs.Keys.{never, same-refl, same-eq, before-irrefl, before-asym}
+use Rattle.linefile.proofs.Keys.{same-refl, same-eq, before-irrefl, before-asym}
 use Rattle.linefile.proofs.Ascending.{Ascending, All, Behind, all-behind}
 
 -- Whether a line is among others, and how often.

@@ -9,27 +9,21 @@ use native.Mathlib.Omega.{arith}
 use lib.Dec.{ltb, leb, eqb}
 use lib.ListN.{length, drop, getD, drop-of-length-le}
 use lib.Seq.{drop-cons}
-use borrow.Author.Tests.{ltb-true, ltb-false, eqb-false, lt-ltb, le-leb, lt-leb}
+use borrow.Author.Tests.{ltb-false, eqb-false, lt-ltb}
 use Rattle.limits.specs.Refusal.{_when_, _then_}
-use Rattle.limits.proofs.Laws.{then-refused, then-passed, then-assoc, then-none}
+use Rattle.limits.proofs.Laws.{then-refused, then-passed, then-assoc, then-none, not-ltb}
 use Rattle.linefile.specs.Files.{endedLength, columnsOf, same, hasLineEnd, keys, before, endedNumber, linesNumber}
 use Rattle.reading.specs.Read.{readNumber}
 use Rattle.linefile.specs.Walk.{rank}
 use Rattle.linefile.proofs.Ascending.{Accepted, before-none}
 use Rattle.linefile.proofs.Ranks.{rank-before, rank-some}
+use Rattle.columns.specs.Text.{lineLength}
 
 -- Lines behind one of the rank `last`.
 unfoldable pub rankedNumber : (last : ℕ) → List (List ℕ) → ℕ
 rankedNumber last [] = 0
 rankedNumber last (line ∷ rest) =
     endedNumber line then 16 when leb (rank line) last then rankedNumber (rank line) rest
-
-not-ltb : (m n : ℕ) → not (ltb m n) ≡ leb n m
-not-ltb m n = by-test (ltb m n) refl
-  where
-    by-test : (t : Bool) → ltb m n ≡ t → not (ltb m n) ≡ leb n m
-    by-test true e = ap not e ∙ sym (lt-leb n m (ltb-true m n e))
-    by-test false e = ap not e ∙ sym (le-leb n m (ltb-false m n e))
 
 -- A rank stands for keys where every accepted line is as far behind the one as it is behind the other.
 Stands : (last : List ℕ) → ℕ → Type 0
@@ -61,13 +55,13 @@ pub refused-line : (line : List ℕ) {number : ℕ} → number ≡ readNumber (c
 unfolding endedNumber
 refused-line line e h = e ∙ sym (then-refused _ _ h)
 
-ended-is : (line : List ℕ) → length line ≡ endedLength → hasLineEnd line ≡ eqb (getD line 113 0) 13 && eqb (getD line 114 0) 10
+line-end-is : (line : List ℕ) → length line ≡ endedLength → hasLineEnd line ≡ eqb (getD line lineLength 0) 13 && eqb (getD line (lineLength + 1) 0) 10
 unfolding hasLineEnd same
-ended-is line h =
-    rw (drop-cons line 113 0 (omega arith), drop-cons line 114 0 (omega arith), drop-of-length-le line (most h))
-    (ap (λ (b : Bool). eqb (getD line 113 0) 13 && b) (and-true _))
+line-end-is line h =
+    rw (drop-cons line lineLength 0 (omega arith), drop-cons line (lineLength + 1) 0 (omega arith), drop-of-length-le line (most h))
+    (ap (λ (b : Bool). eqb (getD line lineLength 0) 13 && b) (and-true _))
   where
-    most : length line ≡ endedLength → length line ≤ 115
+    most : length line ≡ endedLength → length line ≤ endedLength
     most h = omega arith
 
 either-not : (a b : Bool) → not a || not b ≡ not (a && b)
@@ -75,17 +69,17 @@ either-not true b = refl
 either-not false b = refl
 
 pub read-line : (line : List ℕ) {number : ℕ} → length line ≡ endedLength → readNumber (columnsOf line) ≡ 0
-    → number ≡ 13 when (not (eqb (getD line 113 0) 13) || not (eqb (getD line 114 0) 10)) → number ≡ endedNumber line
+    → number ≡ 13 when (not (eqb (getD line lineLength 0) 13) || not (eqb (getD line (lineLength + 1) 0) 10)) → number ≡ endedNumber line
 unfolding endedNumber
 read-line line h z e =
-    e ∙ ap (λ (b : Bool). 13 when b) (either-not (eqb (getD line 113 0) 13) (eqb (getD line 114 0) 10) ∙ ap not (sym (ended-is line h))) ∙ sym (then-passed _ _ z)
+    e ∙ ap (λ (b : Bool). 13 when b) (either-not (eqb (getD line lineLength 0) 13) (eqb (getD line (lineLength + 1) 0) 10) ∙ ap not (sym (line-end-is line h))) ∙ sym (then-passed _ _ z)
 
 -- ---- a turn
 
-pub judged : (ls : List (List ℕ)) (i last place : ℕ) {line : List ℕ} {own order number next total : ℕ} → i < length ls → line ≡ getD ls i []
+pub judged : (ls : List (List ℕ)) (i last place : ℕ) {line : List ℕ} {own order number next allNumber : ℕ} → i < length ls → line ≡ getD ls i []
     → place ≡ rank line → own ≡ endedNumber line → order ≡ 16 when leb place last
-    → number ≡ 0 → total ≡ number then rankedNumber last (drop i ls) → next ≡ own then order
-    → total ≡ next then rankedNumber place (drop (i + 1) ls)
+    → number ≡ 0 → allNumber ≡ number then rankedNumber last (drop i ls) → next ≡ own then order
+    → allNumber ≡ next then rankedNumber place (drop (i + 1) ls)
 unfolding rankedNumber
 judged ls i last place {line} {own} {order} h l p o s z t e =
     t
@@ -97,12 +91,12 @@ judged ls i last place {line} {own} {order} h l p o s z t e =
     ∙ ap (λ (n : ℕ). n then rankedNumber place (drop (i + 1) ls)) (sym e)
 
 -- all lines are judged, or one is refused
-pub judged-all : (ls : List (List ℕ)) (i last number : ℕ) {total : ℕ} → ltb i (length ls) && eqb number 0 ≡ false
-    → total ≡ number then rankedNumber last (drop i ls) → total ≡ number
+pub judged-all : (ls : List (List ℕ)) (i last number : ℕ) {allNumber : ℕ} → ltb i (length ls) && eqb number 0 ≡ false
+    → allNumber ≡ number then rankedNumber last (drop i ls) → allNumber ≡ number
 unfolding rankedNumber
-judged-all ls i last number {total} e t = by-test (ltb i (length ls)) refl
+judged-all ls i last number {allNumber} e t = by-test (ltb i (length ls)) refl
   where
-    by-test : (b : Bool) → ltb i (length ls) ≡ b → total ≡ number
+    by-test : (b : Bool) → ltb i (length ls) ≡ b → allNumber ≡ number
     by-test false f =
         t
         ∙ ap (λ (l : List (List ℕ)). number then rankedNumber last l) (drop-of-length-le ls (ltb-false i (length ls) f))

@@ -1,18 +1,15 @@
 -- Laws of keys (specs/Files.antt): `same` tells equal rows, and `before` is an order in which any two rows are comparable.
 -- Assumes nothing.
 use mathlib.Core.Path.{_≡_, refl, sym, ap, subst, _∙_}
-use mathlib.Core.Bool.{Bool, true, false, true≢false, false≢true}
+use mathlib.Core.Bool.{true, false, false≢true}
 use mathlib.Core.List.{List, [], _∷_}
 use Prim.Native.Nat.{ℕ, zero, suc, _≤_, _<_, zero-le, suc-le-suc}
 use native.Mathlib.Nat.{le-refl}
 use native.Mathlib.Omega.{arith}
 use lib.Dec.{eqb}
 use borrow.Author.Tests.{lt-ltb, le-ltb, eq-eqb, ne-eqb, eqb-true}
-use Rattle.limits.proofs.Laws.{both}
+use Rattle.limits.proofs.Laws.{both, never}
 use Rattle.linefile.specs.Files.{same, before}
-
-pub never : {x : Bool} → x ≡ false → x ≡ true → ⊥
-never e f = true≢false (sym f ∙ e)
 
 -- ---- equal rows
 

@@ -12,7 +12,7 @@ use lib.Seq.{length-take-le, drop-cons, drop-drop}
 use borrow.Author.Tests.{ltb-true, eqb-true, eq-eqb, not-false}
 use Rattle.limits.specs.Refusal.{_when_, _then_}
 use Rattle.limits.proofs.Laws.{then-zero, when-zero, both}
-use Rattle.linefile.specs.Files.{endedLength, linesIn, lines, fileNumber}
+use Rattle.linefile.specs.Files.{endedLength, linesIn, lines, linesNumber, fileNumber}
 use Rattle.linefile.proofs.Ascending.{Ascending, All, Accepted, all-drop, lines-accepted, accepted-lines}
 
 -- A line with its end.
@@ -101,6 +101,15 @@ line-file-zero file f =
   where
     no-tail : length file ≡ endedLength * (length file / endedLength) → length file % endedLength ≡ 0
     no-tail h = omega arith
+
+-- an empty file has no lines and is one
+pub no-lines : lines [] ≡ []
+unfolding lines linesIn
+no-lines = refl
+
+pub empty-file : fileNumber [] ≡ 0
+unfolding fileNumber lines linesIn linesNumber _when_ _then_
+empty-file = refl
 
 -- each of its lines is accepted
 pub line-accepted : (file : List ℕ) → LineFile file → (i : ℕ) → i < length file / endedLength → Accepted (getD (lines file) i [])

@@ -4,6 +4,7 @@ use mathlib.Core.Path.{_≡_, sym, ap, ap₂, _∙_}
 use mathlib.Core.Bool.{true}
 use mathlib.Core.List.{List, [], _∷_}
 use Prim.Native.Nat.{ℕ, _+_, _*_, _≤_, _<_}
+use native.Mathlib.Nat.{le-of-lt}
 use native.Mathlib.Omega.{arith}
 use lib.Dec.{ltb, eqb, lit<, lit≤}
 use lib.ListN.{getD}
@@ -21,6 +22,7 @@ use Rattle.linefile.specs.Walk.{rank}
 use Rattle.linefile.proofs.Keys.{Heads, less, equal, more, heads, before-below, before-above, before-level, before-irrefl}
 use Rattle.linefile.proofs.Ascending.{Accepted}
 use Rattle.linefile.proofs.Digits.{letter-holds, rawFrom, excess, row, columns, digits-raw}
+use Rattle.columns.specs.Text.{lineLength}
 
 -- the letter is that of a constellation
 letter-bound : (b : ℕ) → letterFits b ≡ true → b < 256
@@ -53,13 +55,10 @@ by-first : (m n : ℕ) (a b : List ℕ) (v w : ℕ) → (m < n → v < w) → (n
     → before (m ∷ a) (n ∷ b) ≡ ltb v w
 by-first m n a b v w f g h = by-heads (heads m n)
   where
-    weak : w < v → w ≤ v
-    weak k = omega arith
-
     by-heads : Heads m n → before (m ∷ a) (n ∷ b) ≡ ltb v w
     by-heads (less k) = before-below m n a b k ∙ sym (lt-ltb v w (f k))
     by-heads (equal e) = ap (λ (l : ℕ). before (l ∷ a) (n ∷ b)) e ∙ before-level n a b ∙ h e
-    by-heads (more k) = before-above m n a b k ∙ sym (le-ltb v w (weak (g k)))
+    by-heads (more k) = before-above m n a b k ∙ sym (le-ltb v w (le-of-lt (g k)))
 
 value-before : (m s c t m′ s′ c′ t′ : ℕ) → Inside s c t → Inside s′ c′ t′
     → before (m ∷ s ∷ c ∷ t ∷ []) (m′ ∷ s′ ∷ c′ ∷ t′ ∷ []) ≡ ltb (value m s c t) (value m′ s′ c′ t′)
@@ -79,7 +78,7 @@ value-before m s c t m′ s′ c′ t′ i j =
 
 module _ (x : List ℕ) (e : Accepted x) where
   letter-is-first : getD x 0 0 ≡ getD (columnsOf x) 0 0
-  letter-is-first = sym (getD-take 113 x 0 0 (lit< tt))
+  letter-is-first = sym (getD-take lineLength x 0 0 (lit< tt))
 
   mjd-is : 1000 * twoDigits 7 x + 10 * twoDigits 9 x + getD x 11 0 ≡ readDecimal (field 8 12 (columnsOf x)) + 533328
   unfolding field rawFrom excess row

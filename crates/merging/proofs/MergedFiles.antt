@@ -10,12 +10,12 @@ use lib.ListN.{length, drop}
 use Rattle.limits.specs.Refusal.{_when_, _then_, after}
 use Rattle.limits.specs.Reply.{reply}
 use Rattle.limits.proofs.Laws.{then-passed}
-use Rattle.linefile.specs.Files.{linesIn, lines, linesNumber, fileNumber, joined}
+use Rattle.linefile.specs.Files.{lines, fileNumber, joined}
 use Rattle.linefile.specs.Partners.{partners}
 use Rattle.merging.specs.Merge.{anyDiffer, merged, mergedFile, mergeNumber, mergeRule, mergeAfter}
 use Rattle.linefile.proofs.Ascending.{Ascending, All, Accepted}
 use Rattle.linefile.proofs.Holding.{holds, times}
-use Rattle.linefile.proofs.Lines.{line-file, line-file-zero, whole-lines}
+use Rattle.linefile.proofs.Lines.{line-file, line-file-zero, whole-lines, no-lines, empty-file}
 use Rattle.linefile.proofs.Partners.{partners-nothing}
 use Rattle.linefile.proofs.Joined.{lines-joined, joined-lines}
 use Rattle.merging.proofs.Steps.{all-merged, merged-ascends, merged-nothing}
@@ -105,14 +105,6 @@ makes first second file f g e b =
       number = λ room. number-is first second room (then-passed _ (fileNumber second) f ∙ g)
           ∙ ap₂ (λ (d : Bool) (t : List ℕ). 15 when d then 17 when ltb room (length t)) e b;
     }
-
-pub empty-file : fileNumber [] ≡ 0
-unfolding fileNumber lines linesIn linesNumber _when_ _then_
-empty-file = refl
-
-no-lines : lines [] ≡ []
-unfolding lines linesIn
-no-lines = refl
 
 module _ (file : List ℕ) (f : fileNumber file ≡ 0) where
   pub with-itself : Makes file file file

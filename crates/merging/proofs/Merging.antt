@@ -2,15 +2,15 @@
 -- whichever list is the first. `merged-ascends` (Steps) is the first of these.
 -- Assumes nothing.
 use mathlib.Core.Path.{_≡_, refl, sym, ap, ap₂, subst, _∙_}
-use mathlib.Core.Bool.{Bool, true, false, cond, not, _||_, or-comm, or-assoc}
+use mathlib.Core.Bool.{Bool, true, false, cond, not, _||_, or-comm, or-assoc, or-self-left}
 use mathlib.Core.List.{List, [], _∷_, _++_}
 use Prim.Native.Nat.{ℕ}
 use borrow.Author.Tests.{not-false}
-use Rattle.limits.proofs.Laws.{or-false}
+use Rattle.limits.proofs.Laws.{or-false, never}
 use Rattle.linefile.specs.Files.{same, keys, before}
 use Rattle.linefile.specs.Partners.{partnersOf, partners}
 use Rattle.merging.specs.Merge.{anyDiffer, inserted, merged}
-use Rattle.linefile.proofs.Keys.{never, same-refl, same-eq, Order, below, level, above, order, before-irrefl, before-apart}
+use Rattle.linefile.proofs.Keys.{same-refl, same-eq, Order, below, level, above, order, before-irrefl, before-apart}
 use Rattle.linefile.proofs.Ascending.{Ascending, All, Behind, all-map, all-behind}
 use Rattle.linefile.proofs.Holding.{holds, times, ascending-once, ascending-only}
 use Rattle.linefile.proofs.Partners.{level-partners}
@@ -88,14 +88,10 @@ holds-inserted l x (o ∷ os) a = by-order (order (keys x) (keys o)) (holds-inse
     swap true false c = refl
     swap false b c = refl
 
-    twice : (a b : Bool) → a || b ≡ a || (a || b)
-    twice true b = refl
-    twice false b = refl
-
     by-order : Order (keys x) (keys o) → holds l (inserted x os) ≡ same l x || holds l os → holds l (inserted x (o ∷ os)) ≡ same l x || (same l o || holds l os)
     by-order (below p q r) h = rw p
     by-order (level e p q r) h =
-        rw (p, q) (subst (λ (t : List ℕ). same l x || holds l os ≡ same l x || (same l t || holds l os)) (a .0 r) (twice (same l x) (holds l os)))
+        rw (p, q) (subst (λ (t : List ℕ). same l x || holds l os ≡ same l x || (same l t || holds l os)) (a .0 r) (sym (or-self-left (same l x) (holds l os))))
     by-order (above p q r) h = rw (q, p) (ap (λ (t : Bool). same l o || t) h ∙ swap (same l o) (same l x) (holds l os))
 
 agrees-behind : (x : List ℕ) (xs : List (List ℕ)) → Ascending (keys x) xs → All (Agrees x) xs

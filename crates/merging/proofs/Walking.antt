@@ -123,12 +123,12 @@ length-merged first second = length-joined (merged (lines first) (lines second))
 
 module _ (first second : List ℕ) (f : LineFile first) (g : LineFile second) (m n : ℕ)
     (e : ltb m (length first / endedLength) && ltb n (length second / endedLength) ≡ false) where
-  ended-test : ltb m (length (lines first)) && ltb n (length (lines second)) ≡ false
-  ended-test = rw (length-lines first, length-lines second) e
+  finished-test : ltb m (length (lines first)) && ltb n (length (lines second)) ≡ false
+  finished-test = rw (length-lines first, length-lines second) e
 
   pub end-length : length (merged (drop m (lines first)) (drop n (lines second))) ≡ length first / endedLength - m + (length second / endedLength - n)
   end-length =
-      ap length (end-lines (lines first) (lines second) m n ended-test (f .ascends))
+      ap length (end-lines (lines first) (lines second) m n finished-test (f .ascends))
       ∙ length-append (drop m (lines first)) (drop n (lines second))
       ∙ ap₂ _+_ (rest first m) (rest second n)
     where
@@ -138,11 +138,11 @@ module _ (first second : List ℕ) (f : LineFile first) (g : LineFile second) (m
   pub end-differ : {found all : Bool} → all ≡ found || anyDiffer (partners (drop m (lines first)) (drop n (lines second))) → found ≡ all
   unfolding anyDiffer
   end-differ {found} t =
-      sym (t ∙ ap (λ (p : List (List ℕ × List ℕ)). found || anyDiffer p) (end-pairs (lines first) (lines second) m n ended-test) ∙ or-false found)
+      sym (t ∙ ap (λ (p : List (List ℕ × List ℕ)). found || anyDiffer p) (end-pairs (lines first) (lines second) m n finished-test) ∙ or-false found)
 
   -- what is left to write are the rests of the two files
   pub end-text : joined (merged (drop m (lines first)) (drop n (lines second))) ≡ drop (endedLength * m) first ++ drop (endedLength * n) second
   end-text =
-      ap joined (end-lines (lines first) (lines second) m n ended-test (f .ascends))
+      ap joined (end-lines (lines first) (lines second) m n finished-test (f .ascends))
       ∙ joined-append (drop m (lines first)) (drop n (lines second))
       ∙ ap₂ _++_ (rest-lines first f m) (rest-lines second g n)

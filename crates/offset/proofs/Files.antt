@@ -34,8 +34,8 @@ use Rattle.offset.proofs.Tracks.{results-move, drops}
 record ShiftedPair (k : ℤ) (pair : List ℕ × List ℕ) : Type 0 where
   pub before : AcceptedBlock (pair .0)
   pub after : AcceptedBlock (pair .1)
-  pub classBefore : Classed (pair .0)
-  pub classAfter : Classed (pair .1)
+  pub beforeClass : Classed (pair .0)
+  pub afterClass : Classed (pair .1)
   pub moved : ShiftedBlock k (pair .0) (pair .1)
 
 record Alike (k : ℤ) (lines : List ℕ × List ℕ) : Type 0 where
@@ -49,10 +49,10 @@ linesOf pair = (endedLine (pair .0), endedLine (pair .1))
 alike : (k : ℤ) (pair : List ℕ × List ℕ) → ShiftedPair k pair → Alike k (linesOf pair)
 unfolding keys trklOf refsysOf
 alike k pair s =
-    let l = labels-are (pair .0) (s .before) (s .classBefore) in
-    let l′ = labels-are (pair .1) (s .after) (s .classAfter) in
-    let n = numbers-are (pair .0) (s .before) (s .classBefore) in
-    let n′ = numbers-are (pair .1) (s .after) (s .classAfter) ∙ ap (λ (g : Given). results g .numbers) (s .moved .given) in
+    let l = labels-are (pair .0) (s .before) (s .beforeClass) in
+    let l′ = labels-are (pair .1) (s .after) (s .afterClass) in
+    let n = numbers-are (pair .0) (s .before) (s .beforeClass) in
+    let n′ = numbers-are (pair .1) (s .after) (s .afterClass) ∙ ap (λ (g : Given). results g .numbers) (s .moved .given) in
     let m = results-move k (blockGiven (pair .0)) (track-accepts (pair .0) lineLength (s .before)) in
     record {
       keys = ap keysOf (l′ ∙ s .moved .labels ∙ sym l);
@@ -117,8 +117,8 @@ zipped (x ∷ xs) (y ∷ ys) = (x, y) ∷ zipped xs ys
 record Shifted (k : ℤ) (xs ys : List (List ℕ)) : Type 0 where
   pub before : All AcceptedBlock xs
   pub after : All AcceptedBlock ys
-  pub classesBefore : All Classed xs
-  pub classesAfter : All Classed ys
+  pub beforeClasses : All Classed xs
+  pub afterClasses : All Classed ys
   pub count : length ys ≡ length xs
   pub moved : (i : ℕ) → i < length xs → ShiftedBlock k (getD xs i []) (getD ys i [])
 
@@ -127,8 +127,8 @@ rest k x y xs ys s =
     record {
       before = s .before .1;
       after = s .after .1;
-      classesBefore = s .classesBefore .1;
-      classesAfter = s .classesAfter .1;
+      beforeClasses = s .beforeClasses .1;
+      afterClasses = s .afterClasses .1;
       count = omega (arith, s .count);
       moved = λ i h. s .moved (suc i) (omega arith);
     }
@@ -141,8 +141,8 @@ lines-alike k (x ∷ xs) (y ∷ ys) s = (
       (record {
         before = s .before .0;
         after = s .after .0;
-        classBefore = s .classesBefore .0;
-        classAfter = s .classesAfter .0;
+        beforeClass = s .beforeClasses .0;
+        afterClass = s .afterClasses .0;
         moved = s .moved 0 (omega arith);
       }),
   lines-alike k xs ys (rest k x y xs ys s),
@@ -165,10 +165,10 @@ module _ (k : ℤ) (before after : List ℕ) (s : ShiftedDay k before after) whe
   shifted-blocks : Shifted k (blocksOf before) (blocksOf after)
   shifted-blocks =
       record {
-        before = all-accepted [] 0 (blocksOf before) (s .acceptedBefore) .0;
-        after = all-accepted [] 0 (blocksOf after) (s .acceptedAfter) .0;
-        classesBefore = all-classed before (s .bytesBefore);
-        classesAfter = all-classed after (s .bytesAfter);
+        before = all-accepted [] 0 (blocksOf before) (s .beforeAccepted) .0;
+        after = all-accepted [] 0 (blocksOf after) (s .afterAccepted) .0;
+        beforeClasses = all-classed before (s .beforeBytes);
+        afterClasses = all-classed after (s .afterBytes);
         count = s .count;
         moved = s .moved;
       }
@@ -191,7 +191,7 @@ module _ (k : ℤ) (before after : List ℕ) (s : ShiftedDay k before after) whe
 
   -- both are line files
   file-stays : fileNumber (dayFile after) ≡ fileNumber (dayFile before)
-  file-stays = day-file after (s .bytesAfter) (s .acceptedAfter) ∙ sym (day-file before (s .bytesBefore) (s .acceptedBefore))
+  file-stays = day-file after (s .afterBytes) (s .afterAccepted) ∙ sym (day-file before (s .beforeBytes) (s .beforeAccepted))
 
 module _ (k : ℤ) (a a′ b b′ : List ℕ) (s : ShiftedDay k a a′) (t : ShiftedDay k b b′) where
   -- The list of the differences of the files of two days that are shifted alike stays.

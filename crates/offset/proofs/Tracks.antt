@@ -1,7 +1,6 @@
 -- A shared offset drops out (document 02, Job 7): the theorems of specs/Shifted.antt's definitions, for a track of any number of blocks.
 -- Assumes nothing.
 use mathlib.Core.Path.{_≡_, refl, sym, ap, ap₂, _∙_, subst₂}
-use mathlib.Core.Bool.{false}
 use mathlib.Core.List.{List, [], _∷_, map}
 use Prim.Native.Nat.{ℕ, zero, suc, _+_, _*_, _≤_, _<_}
 use native.Mathlib.Nat.{not-suc-le-zero, le-of-suc-le-suc}
@@ -9,17 +8,14 @@ use native.Mathlib.Omega.{arith}
 use lib.IntN.{ℤ, pos, _+ℤ_, _-ℤ_, _*ℤ_}
 use lib.ListN.{length}
 use Rattle.whole.specs.Identity.{identity, quote}
-use Rattle.limits.specs.Refusal.{_when_}
-use Rattle.limits.proofs.Laws.{then-zero, when-zero}
 use Rattle.whole.specs.Table.{at}
 use Rattle.exact.specs.Corrected.{Given, block, toA, toB, steps}
 use Rattle.series.specs.Scatter.{dsg}
 use Rattle.fit.specs.declared.TrackRecord.{TrackRecord}
-use Rattle.correcting.specs.Correct.{blocks, smoothedAt, valueA, valueB, valueC, valueD, places, wrongSizes}
+use Rattle.correcting.specs.Correct.{blocks, smoothedAt, valueA, valueB, valueC, valueD, places}
 use Rattle.fit.specs.Track.{numbersWith, recordOf, results, trackNumber, trackRule}
 use Rattle.correcting.proofs.Arrays.{places-at}
-use Rattle.correcting.proofs.Refusals.{sized}
-use Rattle.line.proofs.Blocks.{track-number, track-record}
+use Rattle.fit.proofs.Tracks.{track-number, track-record, track-sized}
 use Rattle.offset.specs.Shifted.{unit, shifted, Moved}
 use Rattle.offset.proofs.Series.{smoothed-moves, midpoint-moves, slope-stays, squares-stay}
 
@@ -82,14 +78,10 @@ module _ (k : ℤ) (g : Given) (sized : length (g .measurements) ≡ 15 * blocks
 
 -- ---- the theorems
 
-sizes-right : (g : Given) → trackNumber g ≡ 0 → wrongSizes g ≡ false
-unfolding trackNumber
-sizes-right g e = when-zero 0 (wrongSizes g) (then-zero (1 when wrongSizes g) _ e .0)
-
 -- what acceptance before the shift is enough for
 pub results-move : (k : ℤ) (g : Given) → trackNumber g ≡ 0 → Moved k (results g .numbers) (results (shifted k g) .numbers)
 results-move k g e =
-    let s = sized g (sizes-right g e) in numbers-move k g (s .size-measurements) (omega (arith, s .size-blocks .0))
+    let s = track-sized g e in numbers-move k g (s .size-measurements) (omega (arith, s .size-blocks .0))
 
 -- One track: k × 100 ps more in every measurement, accepted before and after. REFSV and REFSYS move by k, nothing else does.
 pub offset-moves : (k : ℤ) (g : Given) → trackRule g .refusal ≡ 0 → trackRule (shifted k g) .refusal ≡ 0

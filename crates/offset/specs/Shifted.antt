@@ -52,9 +52,9 @@ pub record ShiftedBlock (k : ℤ) (before after : List ℕ) : Type 0 where
 
 -- Two days of hire blocks, back to back, that `day` accepts where there is room: block i of the second is block i of the first, shifted by k.
 pub record ShiftedDay (k : ℤ) (before after : List ℕ) : Type 0 where
-  pub bytesBefore : AllBytes before
-  pub bytesAfter : AllBytes after
-  pub acceptedBefore : dayVerdict before .refusal ≡ 0
-  pub acceptedAfter : dayVerdict after .refusal ≡ 0
+  pub beforeBytes : AllBytes before
+  pub afterBytes : AllBytes after
+  pub beforeAccepted : dayVerdict before .refusal ≡ 0
+  pub afterAccepted : dayVerdict after .refusal ≡ 0
   pub count : length (blocksOf after) ≡ length (blocksOf before)
   pub moved : (i : ℕ) → i < length (blocksOf before) → ShiftedBlock k (blockAt before i) (blockAt after i)

@@ -1,11 +1,12 @@
 -- What is said of two points, from what is said of their coordinates.
 -- Assumes nothing.
-use mathlib.Core.Path.{_≡_, refl, _∙_}
-use mathlib.Core.Bool.{Bool, true, false, not, _||_, true≢false}
+use mathlib.Core.Path.{_≡_, _∙_}
+use mathlib.Core.Bool.{true, false, not, _||_}
 use Prim.Native.Nat.{ℕ, _+_, _*_, _≤_}
 use native.Mathlib.Nat.{mul-le-mul}
 use native.Mathlib.Omega.{arith}
 use lib.Ieee.{Float}
+use borrow.Author.Tests.{not-false}
 use Rattle.limits.proofs.Laws.{or-false, then-zero, when-zero}
 use Rattle.path.specs.declared.Point.{Point}
 use Rattle.path.specs.declared.wide.Wide.{Wide}
@@ -35,17 +36,13 @@ accepted s a e =
 abbrev pub Usable : Float → Type 0
 Usable x = (whole x ≡ true) × (outside x ≡ false)
 
-whole-of : (t : Bool) → not t ≡ false → t ≡ true
-whole-of true h = refl
-whole-of false h = absurd (true≢false h)
-
 pub usable : (p : Point) → fractional p ≡ false → beyond p ≡ false → Usable (p .x) × Usable (p .y) × Usable (p .z)
 unfolding fractional
 usable p f b =
     let xy = or-false (not (whole (p .x)) || not (whole (p .y))) (not (whole (p .z))) f in
     let x = or-false (not (whole (p .x))) (not (whole (p .y))) (xy .0) in
     let w = within p b in
-    ((whole-of _ (x .0), w .0), (whole-of _ (x .1), w .1), (whole-of _ (xy .1), w .2))
+    ((not-false _ (x .0), w .0), (not-false _ (x .1), w .1), (not-false _ (xy .1), w .2))
 
 -- the product of two differences of at most 10^11
 pub part : {w : Wide} {c d : ℕ} → Stands w (c * d) → c ≤ 100000000000 → d ≤ 100000000000 → Part w

@@ -10,13 +10,14 @@ use lib.IntN.{ℤ, pos, negℤ, natAbs}
 use lib.Pow.{pow-pos}
 use lib.Ieee.{Float, nan, inf, fin, up, down, le, toSigned}
 use lib.Ieee.Fits.{down-pos}
-use borrow.Author.Tests.{ltb-true, ltb-false, eqb-true, eqb-false, lt-ltb, le-ltb, eq-eqb, ne-eqb, le-leb, leb-true, leb-false, lt-leb}
+use borrow.Author.Tests.{ltb-true, ltb-false, eqb-true, eqb-false, lt-ltb, le-leb, leb-true, lt-leb}
 use mir.Syntax.{w64}
 use mir.Val.{toZ, ofZ}
 use mir.Facts.{toZ-ofZ}
 use Rattle.whole.specs.Magnitude.{natAbs-add, natAbs-neg}
 use Rattle.whole.specs.Words.{fits-of}
-use Rattle.path.specs.Coordinate.{outside, millimetres}
+use Rattle.limits.proofs.Laws.{not-leb, eqb-turned}
+use Rattle.path.specs.Coordinate.{outside, millimetres, coordinateLimit}
 use Rattle.path.specs.Path.{difference}
 
 -- ---- tests against ±K
@@ -46,22 +47,8 @@ le-is a b q f = go (ltb a b) q refl f
     go false true e f = sym (le-leb a b (omega (arith, eqb-true a b f)))
     go false false e f = sym (lt-leb a b (omega (arith, ltb-false a b e, eqb-false a b f)))
 
-eqb-turned : (a b : ℕ) → eqb a b ≡ eqb b a
-eqb-turned a b = go (eqb b a) refl
-  where
-    go : (q : Bool) → eqb b a ≡ q → eqb a b ≡ q
-    go true f = eq-eqb a b (sym (eqb-true b a f))
-    go false f = ne-eqb a b (λ h. eqb-false b a f (sym h))
-
 leb-one : (m n : ℕ) → leb (m * 1) n ≡ leb m n
 leb-one m n = ap (λ (x : ℕ). leb x n) (mul-one m)
-
-not-leb : (a b : ℕ) → not (leb a b) ≡ ltb b a
-not-leb a b = go (leb a b) refl
-  where
-    go : (t : Bool) → leb a b ≡ t → not t ≡ ltb b a
-    go true e = sym (le-ltb b a (leb-true a b e))
-    go false e = sym (lt-ltb b a (leb-false a b e))
 
 -- x is at least -K, at most K, with K written M * 2 ^ k
 module _ (M k : ℕ) where
@@ -107,20 +94,20 @@ module _ (M k : ℕ) where
 
 -- ---- the limit
 
-not-in-range : (x : Float) → not (inRange 50000000000 x) ≡ outside x
+not-in-range : (x : Float) → not (inRange coordinateLimit x) ≡ outside x
 unfolding outside
 not-in-range nan = refl
 not-in-range (inf s) = refl
-not-in-range (fin s m e) = not-leb (m * up e) (50000000000 * down e)
+not-in-range (fin s m e) = not-leb (m * up e) (coordinateLimit * down e)
 
 pub outside-is : (x : Float) → not (le (fin true 48828125 (pos 10)) x && le x (fin false 48828125 (pos 10))) ≡ outside x
 outside-is x = ap not (range-is 48828125 10 (omega arith) x) ∙ not-in-range x
 
-pub within-limit : (x : Float) → outside x ≡ false → Inside 50000000000 x
+pub within-limit : (x : Float) → outside x ≡ false → Inside coordinateLimit x
 unfolding outside
 within-limit nan h = true≢false h
 within-limit (inf s) h = true≢false h
-within-limit (fin s m e) h = ltb-false (50000000000 * down e) (m * up e) h
+within-limit (fin s m e) h = ltb-false (coordinateLimit * down e) (m * up e) h
 
 -- ---- the cast
 
@@ -149,11 +136,11 @@ cast-is K h (fin false m e) i =
 pub difference-bound : (x y : Float) → outside x ≡ false → outside y ≡ false → difference x y ≤ 100000000000
 unfolding difference
 difference-bound x y h k =
-    let p = cast-is 50000000000 (lit< tt) x (within-limit x h) .1 in
-    let q = cast-is 50000000000 (lit< tt) y (within-limit y k) .1 in
+    let p = cast-is coordinateLimit (lit< tt) x (within-limit x h) .1 in
+    let q = cast-is coordinateLimit (lit< tt) y (within-limit y k) .1 in
     omega (arith, natAbs-add (millimetres x) (negℤ (millimetres y)), natAbs-neg (millimetres y))
 
 -- a coordinate is what is read back of the bits of its millimetres
 pub limited : (x : Float) → outside x ≡ false → {r : ℤ} → r ≡ millimetres x → toZ w64 (ofZ w64 r) ≡ millimetres x
 limited x h e =
-    toZ-ofZ (fits-of (subst (λ (z : ℤ). natAbs z ≤ 50000000000) (sym e) (cast-is 50000000000 (lit< tt) x (within-limit x h) .1)) (lit< tt)) ∙ e
+    toZ-ofZ (fits-of (subst (λ (z : ℤ). natAbs z ≤ coordinateLimit) (sym e) (cast-is coordinateLimit (lit< tt) x (within-limit x h) .1)) (lit< tt)) ∙ e

@@ -3,7 +3,6 @@
 -- Assumes nothing.
 use mathlib.Core.Path.{_≡_, refl, sym, ap, ap₂, _∙_, subst}
 use mathlib.Core.Bool.{Bool, true, false, cond, _||_, or-comm, true≢false}
-use mathlib.Core.List.{[], _∷_}
 use Prim.Native.Nat.{ℕ, zero, suc, _+_, _*_, _/_, _%_, _≤_, _<_}
 use native.Mathlib.Nat.{mul-one, div-add-mod'}
 use native.Mathlib.Omega.{arith}
@@ -14,8 +13,7 @@ use lib.Ieee.Back.{round-whole}
 use borrow.Author.Tests.{eqb-true}
 use Rattle.whole.specs.Square.{squared}
 use Rattle.whole.specs.Magnitude.{natAbs-neg, square-magnitude}
-use Rattle.whole.specs.Identity.{identity, quote}
-use Rattle.whole.specs.Ring.{eq-of-sub}
+use Rattle.whole.specs.Ring.{sub-turned, eq-of-sub}
 use Rattle.limits.specs.Reply.{Reply, reply}
 use Rattle.limits.specs.Refusal.{_when_, _then_}
 use Rattle.limits.proofs.Replies.{reply-accepted, reply-values}
@@ -98,12 +96,9 @@ length-floor s a l h =
 
 -- ---- exchanging the points changes nothing
 
-turned : (x y : ℤ) → x -ℤ y ≡ negℤ (y -ℤ x)
-turned x y = identity (x ∷ y ∷ []) (search quote depth 20) tt
-
 difference-turned : (x y : Float) → difference x y ≡ difference y x
 unfolding difference
-difference-turned x y = ap natAbs (turned (millimetres x) (millimetres y)) ∙ natAbs-neg (millimetres y -ℤ millimetres x)
+difference-turned x y = ap natAbs (sub-turned (millimetres x) (millimetres y)) ∙ natAbs-neg (millimetres y -ℤ millimetres x)
 
 sum-turned : (s a : Point) → sumOfSquares s a ≡ sumOfSquares a s
 unfolding sumOfSquares

@@ -15,7 +15,8 @@ use lib.Ieee.Fits.{and-l, and-r, down-pos}
 use lib.Ieee.Exact.{HasValue}
 use lib.Ieee.Back.{round-whole}
 use borrow.Author.Tests.{eqb-true, eqb-false, eq-eqb, ne-eqb, le-leb, lt-ltb, leb-false}
-use Rattle.path.specs.Coordinate.{whole, outside, millimetres}
+use Rattle.limits.proofs.Laws.{both}
+use Rattle.path.specs.Coordinate.{whole, outside, millimetres, coordinateLimit}
 use Rattle.path.proofs.Ranges.{inRange, quotient-bound, within-limit}
 
 eqb-same : (a b c d : ℕ) → (a ≡ b → c ≡ d) → (c ≡ d → a ≡ b) → eqb a b ≡ eqb c d
@@ -24,10 +25,6 @@ eqb-same a b c d f g = go (eqb c d) refl
     go : (t : Bool) → eqb c d ≡ t → eqb a b ≡ t
     go true e = eq-eqb a b (g (eqb-true c d e))
     go false e = ne-eqb a b (λ h. eqb-false c d e (f h))
-
-pub and-split : (a b : Bool) → (a && b) ≡ true → (a ≡ true) × (b ≡ true)
-and-split true b h = (refl, h)
-and-split false b h = absurd (true≢false (sym h))
 
 beq-eq : (a b : Bool) → Bool·beq a b ≡ true → a ≡ b
 beq-eq true true h = refl
@@ -79,7 +76,7 @@ module _ (s : Bool) (m : ℕ) (e : ℤ) (t : Bool) (q : ℕ) where
   back-eq nan v h = absurd v
   back-eq (inf u) v h = absurd v
   back-eq (fin u n d) v h =
-      let p = and-split (eqb (n * up d * down e) (m * up e * down d)) (Bool·beq u s || eqb (n * up d * down e) 0) h in
+      let p = both (eqb (n * up d * down e) (m * up e * down d)) (Bool·beq u s || eqb (n * up d * down e) 0) h in
       (eqb-true (q * down e) (m * up e) (sym (levels n d (v .1)) ∙ p .0), signs (Bool·beq u s) refl (p .1))
     where
       signs : (b : Bool) → Bool·beq u s ≡ b → (b || eqb (n * up d * down e) 0) ≡ true → (t ≡ s) ⊎ (q ≡ 0)
@@ -181,8 +178,8 @@ castable (inf s) h k z = absurd (true≢false (sym h))
 castable (fin s m e) h k z =
     subst T (sym (λ i. h i && few i && signed s m e z i && side s i)) tt
   where
-    q : m * up e / down e ≤ 50000000000
-    q = quotient-bound (m * up e) (down e) 50000000000 (down-pos e) (within-limit (fin s m e) k)
+    q : m * up e / down e ≤ coordinateLimit
+    q = quotient-bound (m * up e) (down e) coordinateLimit (down-pos e) (within-limit (fin s m e) k)
 
     few : leb (m * up e / down e) 9007199254740992 ≡ true
     few = le-leb (m * up e / down e) 9007199254740992 (omega (arith, q))

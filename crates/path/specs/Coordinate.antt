@@ -2,7 +2,7 @@
 -- m * 2 ^ e, below zero where s is true; 2 ^ e is the fraction up e / down e (lib.Ieee of the kit).
 -- Assumes nothing.
 use mathlib.Core.Bool.{Bool, true, false, cond}
-use Prim.Native.Nat.{ℕ, _*_, _/_, _%_}
+use Prim.Native.Nat.{ℕ, _*_, _/_, _%_, _^_}
 use lib.Dec.{eqb, ltb}
 use lib.IntN.{ℤ, pos, negℤ}
 use lib.Ieee.{Float, nan, inf, fin, up, down}
@@ -13,11 +13,14 @@ whole nan = false
 whole (inf s) = false
 whole (fin s m e) = eqb (m * up e % down e) 0
 
--- It is outside ±5 × 10^10.
+-- The limit on a coordinate, in mm, and whether one is beyond it.
+abbrev pub coordinateLimit : ℕ
+coordinateLimit = 5 * 10 ^ 10
+
 unfoldable pub outside : Float → Bool
 outside nan = true
 outside (inf s) = true
-outside (fin s m e) = ltb (50000000000 * down e) (m * up e)
+outside (fin s m e) = ltb (coordinateLimit * down e) (m * up e)
 
 -- The whole number that it is; minus zero counts as zero. Of any other float this is the part before the point, or 0: such a float is refused.
 unfoldable pub millimetres : Float → ℤ

@@ -16,7 +16,7 @@ ghost use mathlib.Core.Bool.{true, false, _||_};
 ghost use Prim.Native.Nat.{_≤_};
 ghost use Rattle.path.specs.Path.{fractional, beyond, pathNumber, sumOfSquares, lengthOf, pathRule};
 ghost use Rattle.path.specs.Answers.{measuredReply, measuredNumbered};
-ghost use Rattle.path.specs.Wide.{number, Stands};
+ghost use Rattle.path.specs.Wide.{wideValue, Stands};
 
 mod coordinate;
 mod root;
@@ -77,7 +77,7 @@ fn refusal(satellite: Point, antenna: Point) -> u32
 // The sum of the squared differences of points that are not refused: at most three times (10^11)².
 fn sum_of_squares(satellite: Point, antenna: Point) -> Wide
     requires { ⌜ pathNumber satellite antenna ≡ 0 ⌝ }
-    ensures { λ r. ⌜ Stands r (sumOfSquares satellite antenna) × (number r ≤ 30000000000000000000000) ⌝ }
+    ensures { λ r. ⌜ Stands r (sumOfSquares satellite antenna) × (wideValue r ≤ 30000000000000000000000) ⌝ }
 {
     let dx = apart(satellite.x, antenna.x);
     let dy = apart(satellite.y, antenna.y);

@@ -3,7 +3,7 @@
 ghost use mathlib.Core.Path.{_≡_};
 ghost use Prim.Native.Nat.{_+_, _*_, _≤_, _<_};
 ghost use lib.Dec.{leb};
-ghost use Rattle.path.specs.Wide.{number, Stands, Part};
+ghost use Rattle.path.specs.Wide.{wideValue, Stands, Part};
 
 // high * 2^20 + low
 pub struct Wide {
@@ -24,7 +24,7 @@ pub fn product(a: u64, b: u64) -> Wide
 
 pub fn sum(a: Wide, b: Wide, c: Wide) -> Wide
     requires { ⌜ Part a × Part b × Part c ⌝ }
-    ensures { λ r. ⌜ Stands r (number a + number b + number c) ⌝ }
+    ensures { λ r. ⌜ Stands r (wideValue a + wideValue b + wideValue c) ⌝ }
 {
     let low = a.low + b.low + c.low;
     Wide {
@@ -33,10 +33,10 @@ pub fn sum(a: Wide, b: Wide, c: Wide) -> Wide
     }
 }
 
-// Whether a * b is not above w's number.
+// Whether a * b is not above what w stands for.
 pub fn at_most(a: u64, b: u64, w: Wide) -> bool
     requires { ⌜ (a ≤ 274877906944) × (b ≤ 274877906944) × (w .low < 1048576) ⌝ }
-    ensures { λ r. ⌜ r ≡ leb (a * b) (number w) ⌝ }
+    ensures { λ r. ⌜ r ≡ leb (a * b) (wideValue w) ⌝ }
 {
     let p = product(a, b);
     (p.high < w.high) | (p.high == w.high) & (p.low <= w.low)

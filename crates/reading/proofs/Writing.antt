@@ -5,25 +5,24 @@ use mathlib.Core.Bool.{Bool, true, false, _&&_, _||_, or-true}
 use mathlib.Core.List.{List, [], _∷_, _++_, append-assoc}
 use Prim.Native.Nat.{ℕ, zero, suc, _+_, _-_, _/_, _%_, _≤_, _<_}
 use native.Mathlib.Omega.{arith}
-use lib.Dec.{ltb, leb, eqb}
+use lib.Dec.{ltb}
 use lib.IntN.{ℤ, pos, negsuc, natAbs}
 use lib.ListN.{length, length-replicate, replicate-append-replicate}
-use borrow.Author.Tests.{ltb-true, ltb-false, leb-true, le-leb}
+use borrow.Author.Tests.{ltb-true, ltb-false, le-leb}
 use Rattle.fields.specs.Text.{decimal, sign, signed, hexDigit, hexadecimal}
 use Rattle.fields.proofs.Laws.{length-decimal, length-signed, length-hexadecimal}
 use Rattle.labels.specs.declared.Labels.{Labels}
 use Rattle.limits.specs.declared.Numbers.{Numbers}
-use Rattle.labels.specs.Labels.{constellationFits, codeFits, labelsFit}
+use Rattle.labels.specs.Labels.{labelsFit}
+use Rattle.labels.proofs.Digits.{ranged}
 use Rattle.columns.specs.Text.{timeOfDay, trackColumns, clockColumns, delayColumns, columns, spaced}
 use Rattle.columns.proofs.Widths.{length-time}
-use Rattle.characters.specs.Kinds.{within, letterFits, allows, kinds, allowed}
+use Rattle.characters.specs.Kinds.{within, allows, kinds, allowed}
 use Rattle.reading.specs.Fields.{digits, hexDigits}
-use Rattle.limits.proofs.Laws.{both, either}
+use Rattle.limits.proofs.Laws.{and-true-both}
 use Rattle.characters.proofs.Allowed.{letter-is, digit-is, hexadecimal-is, code-is, space-is, allowed-append}
+use Rattle.characters.proofs.Picture.{letter-fits}
 use Rattle.reading.proofs.AcceptedLine.{fieldKinds, kinds-spaced}
-
-pub and-true-both : {a b : Bool} → a ≡ true → b ≡ true → a && b ≡ true
-and-true-both p q = ap₂ _&&_ p q
 
 digit-allowed : (n : ℕ) → allows 57 (48 + n % 10) ≡ true
 digit-allowed n = digit-is (48 + n % 10) ∙ ap₂ _&&_ (le-leb 48 (48 + n % 10) (omega arith)) (le-leb (48 + n % 10) 57 (omega arith))
@@ -80,49 +79,6 @@ time-allowed second =
     allowed-append (digits 2) (digits 4) (decimal 2 _) _ (sym (length-decimal 2 _)) (decimal-allowed 2 _)
     (allowed-append (digits 2) (digits 2) (decimal 2 _) _ (sym (length-decimal 2 _)) (decimal-allowed 2 _) (decimal-allowed 2 _))
 
--- the letter and the code are those of labels that fit
-either-of : {a b c d : Bool} → (a ≡ true → c ≡ true) → (b ≡ true → d ≡ true) → a || b ≡ true → c || d ≡ true
-either-of {a} {b} {c} {d} f g e =
-    either a b e (λ t. ap (λ (x : Bool). x || d) (f t)) (λ t. ap (λ (x : Bool). c || x) (g t) ∙ or-true c)
-
-letter-fits : (letter ioe fr : ℕ) → constellationFits letter ioe fr ≡ true → letterFits letter ≡ true
-unfolding constellationFits letterFits
-letter-fits letter ioe fr =
-    either-of (either-of (either-of (either-of (other 71 255) glonass) (other 69 999)) (other 67 23)) (other 74 255)
-  where
-    other : (c most : ℕ) → eqb letter c && leb ioe most && eqb fr 0 ≡ true → eqb letter c ≡ true
-    other c most e = both (eqb letter c) _ (both (eqb letter c && leb ioe most) _ e .0) .0
-
-    glonass : eqb letter 82 && leb 1 ioe && leb ioe 96 && leb 1 fr && leb fr 24 ≡ true → eqb letter 82 ≡ true
-    glonass e =
-        both (eqb letter 82) _
-        (both (eqb letter 82 && leb 1 ioe) _
-        (both (eqb letter 82 && leb 1 ioe && leb ioe 96) _
-        (both (eqb letter 82 && leb 1 ioe && leb ioe 96 && leb 1 fr) _ e .0) .0) .0) .0
-
--- what labels that fit tell of the letter, FRC and HC
-pub code-fits : (l : Labels) → labelsFit l ≡ true → (constellationFits (l .constellation) (l .ioe) (l .fr) ≡ true)
-    × (codeFits (l .frc1) ≡ true)
-    × (codeFits (l .frc2) ≡ true)
-    × (codeFits (l .frc3) ≡ true)
-    × (l .hc ≤ 99)
-unfolding labelsFit
-code-fits l e =
-    let elv = both (letter && leb 1 (l .satellite) && leb (l .satellite) 99 && leb (l .hc) 99 && codes && leb (l .elv) 900) (leb (l .azth) 3599) e in
-    let code = both (letter && leb 1 (l .satellite) && leb (l .satellite) 99 && leb (l .hc) 99 && codes) (leb (l .elv) 900) (elv .0) in
-    let hc = both (letter && leb 1 (l .satellite) && leb (l .satellite) 99 && leb (l .hc) 99) codes (code .0) in
-    let most = both (letter && leb 1 (l .satellite) && leb (l .satellite) 99) (leb (l .hc) 99) (hc .0) in
-    let least = both (letter && leb 1 (l .satellite)) (leb (l .satellite) 99) (most .0) in
-    let third = both (codeFits (l .frc1) && codeFits (l .frc2)) (codeFits (l .frc3)) (hc .1) in
-    let second = both (codeFits (l .frc1)) (codeFits (l .frc2)) (third .0) in
-    (both letter (leb 1 (l .satellite)) (least .0) .0, second .0, second .1, third .1, leb-true (l .hc) 99 (most .1))
-  where
-    letter : Bool
-    letter = constellationFits (l .constellation) (l .ioe) (l .fr)
-
-    codes : Bool
-    codes = codeFits (l .frc1) && codeFits (l .frc2) && codeFits (l .frc3)
-
 -- ---- all columns
 
 -- Columns that may stand in fields of these kinds.
@@ -143,8 +99,8 @@ spaced-allowed (one {k} {c} {ks} {cs} l e f) rest =
 fitting : (l : Labels) (n : Numbers) → labelsFit l ≡ true → Fitting fieldKinds (columns l n)
 unfolding columns trackColumns clockColumns delayColumns allowed
 fitting l n e =
-    let f = code-fits l e in
-    one (ap suc (sym (length-decimal 2 _))) (and-true-both (letter-is _ ∙ letter-fits (l .constellation) (l .ioe) (l .fr) (f .0)) (decimal-allowed 2 _))
+    let f = ranged l e in
+    one (ap suc (sym (length-decimal 2 _))) (and-true-both (letter-is _ ∙ letter-fits (l .constellation) (l .ioe) (l .fr) (f .letter)) (decimal-allowed 2 _))
     (one (sym (length-hexadecimal _)) (hexadecimal-allowed _)
     (one (sym (length-decimal 5 _)) (decimal-allowed 5 _)
     (one (sym (length-time _)) (time-allowed _)
@@ -163,7 +119,7 @@ fitting l n e =
     (one (sym (length-signed 4 _)) (signed-allowed 3 _)
     (one (sym (length-decimal 2 _)) (decimal-allowed 2 _)
     (one (sym (length-decimal 2 _)) (decimal-allowed 2 _)
-    (one refl (and-true-both (code-is _ ∙ f .1) (and-true-both (code-is _ ∙ f .2) (and-true-both (code-is _ ∙ f .3) refl))) none)))))))))))))))))))
+    (one refl (and-true-both (code-is _ ∙ f .codes .0) (and-true-both (code-is _ ∙ f .codes .1) (and-true-both (code-is _ ∙ f .codes .2) refl))) none)))))))))))))))))))
 
 pub columns-allowed : (l : Labels) (n : Numbers) (rest : List ℕ) → labelsFit l ≡ true → allowed kinds (spaced (columns l n) ++ rest) ≡ true
 columns-allowed l n rest e =

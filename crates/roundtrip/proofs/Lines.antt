@@ -32,7 +32,7 @@ pub sample-reads : readRule (bytesOf "G05 FF 50722 000200 0780 450 1800 +0000000
 unfolding printable
 sample-reads =
     ap readRule (sym (append-nil (lineText sample.labels sample.numbers) ∙ sample.sample))
-    ∙ text-reads-back sample.labels sample.numbers [] (content-accepted sample.labels sample.numbers 113 sample.sample-accepted) (lit< tt) refl zero-le
+    ∙ text-reads-back sample.labels sample.numbers [] (content-accepted sample.labels sample.numbers lineLength sample.sample-accepted) (lit< tt) refl zero-le
 
 -- Of a line that is read, lent a line with room, Line answers 0 and writes the same columns again.
 pub accepted-written-again : (line lent : List ℕ) → readNumber line ≡ 0 → lineLength ≤ length lent

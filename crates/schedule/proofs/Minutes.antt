@@ -25,7 +25,7 @@ sub-above a b h = simp (le-ltb a b h)
 sub-below : (a b : ℕ) → a < b → subℕ a b ≡ negsuc (b - suc a)
 sub-below a b h = simp (lt-ltb a b h)
 
--- ---- a difference brought in: days of 1436 minutes are added or taken
+-- ---- a difference brought in: repeat periods are added or taken
 
 brought-above : (x : ℕ) → broughtIn (pos x) ≡ x % repeatPeriod
 unfolding broughtIn

@@ -17,8 +17,8 @@ const REPEAT_PERIOD: u32 = 1436;
 // The minutes by which the tracks of a day start earlier than those of the day before.
 const EARLIER: u32 = 4;
 
-// Whether a track starts at that second, n days after the first date. since_first is the time since the first track, in minutes of
-// a day that begins there.
+// Whether a track starts at that second, n days after the first date. since_first is the time since the first track in minutes, less whole
+// repeats.
 fn is_start(n: u32, second: u32) -> bool
     requires { ⌜ n ≤ lastDate - firstDate ⌝ }
     ensures { λ r. ⌜ r ≡ isStart n second ⌝ }

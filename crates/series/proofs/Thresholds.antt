@@ -12,16 +12,13 @@ use native.Mathlib.Nat.{le-trans, lt-of-not-le, mul-le-mul, mul-le-mul-left, mul
 use native.Mathlib.Decide.{decLe}
 use native.Mathlib.Omega.{arith}
 use lib.Dec.{T, lit<}
-use borrow.Author.Tests.{lt-ltb, le-ltb}
 use lib.IntN.{ℤ, pos, natAbs, _-ℤ_, _*ℤ_}
 use lib.Signed.{leZ, ltZ}
 use Rattle.whole.specs.Square.{squared}
 use Rattle.whole.specs.Identity.{identity, quote}
-use Rattle.whole.specs.Linear.{eq-by}
-use Rattle.whole.specs.Order.{_⩽_, _⋖_, le-lt-trans, lt-le-trans, lt-irrefl, le-trans as chain, le-or-lt, pos-le, pos-lt}
+use Rattle.whole.specs.Order.{_⩽_, _⋖_, le-lt-trans, lt-le-trans, lt-irrefl, le-trans as chain, le-or-lt, pos-le, pos-lt, pos-sub}
 use Rattle.whole.specs.Magnitude.{le-magnitude}
-use Rattle.limits.specs.Refusal.{_when_}
-use Rattle.limits.specs.Limits.{outside, dsgNumber}
+use Rattle.limits.specs.Limits.{dsgNumber}
 use Rattle.whole.specs.Table.{at}
 use Rattle.exact.specs.Corrected.{steps}
 use Rattle.limits.specs.Lists.{anyBeyond}
@@ -73,9 +70,6 @@ module _ (e : ℕ → ℤ) (q : ℤ) where
       go false t up = from-not-le (e (suc d)) q t
 
 -- ---- thresholds
-
-pos-sub : (a b : ℕ) → b ≤ a → pos a -ℤ pos b ≡ pos (a - b)
-pos-sub a b h = eq-by (pos a ∷ pos b ∷ pos (a - b) ∷ []) (search quote depth 12) (omega arith)
 
 -- the threshold of d, as a natural number
 abbrev pub thresholdOf : ℕ → ℕ → ℕ → ℕ
@@ -182,14 +176,6 @@ module _ (s n : ℕ) (s-pos : 0 < s) (n-pos : 0 < n) where
 -- the reply with a DSG, or with its refusal
 abbrev pub sigmaReply : ℕ → Reply ℤ
 sigmaReply d = reply (pos 0) (dsgNumber (pos d)) (pos d)
-
-pub sigma-refused : (d : ℕ) → 9999 < d → dsgNumber (pos d) ≡ 6
-unfolding dsgNumber outside _when_
-sigma-refused d h = rw (le-ltb d 0 zero-le, lt-ltb 9999 d h)
-
-pub sigma-accepted : (d : ℕ) → d ≤ 9999 → dsgNumber (pos d) ≡ 0
-unfolding dsgNumber outside _when_
-sigma-accepted d h = rw (le-ltb d 0 zero-le, le-ltb 9999 d h)
 
 -- Scatter's reply to values that are not refused before their DSG is known
 scatter-passed : (l : List ℤ) → 4 ≤ length l → length l ≤ 52 → anyBeyond valueLimit l ≡ false

@@ -29,6 +29,10 @@ gain : sum 15 (λ i. magnitude (at weights i)) ≡ pos 1469
 unfolding sum weights
 gain = refl
 
+-- so a smoothed value is at most this, in tenths, where no measurement is beyond its limit (law `smoothed-bound`)
+abbrev pub mostSmoothed : ℕ
+mostSmoothed = 13294117647059
+
 -- a product with one, and the sum of fifteen
 module _ (m : ℕ → ℤ) (h : (i : ℕ) → natAbs (m i) ≤ measurementLimit) where
   product-bound : (i : ℕ) → i < 15 → natAbs (at weights i *ℤ m i) ≤ 167 * measurementLimit
@@ -51,8 +55,8 @@ module _ (m : ℕ → ℤ) (h : (i : ℕ) → natAbs (m i) ≤ measurementLimit)
           (le-trans (le-of-eq (natAbs-mul (at weights i) (m i) ∙ mul-comm (natAbs (at weights i)) (natAbs (m i))))
           (mul-le-mul-right (natAbs (at weights i)) (h i)))
 
-  pub smoothed-bound : natAbs (smoothed m) ≤ 13294117647059
+  pub smoothed-bound : natAbs (smoothed m) ≤ mostSmoothed
   unfolding smoothed
   smoothed-bound =
-      nearest-bound (pos steps *ℤ sum 15 (λ i. at weights i *ℤ m i)) 1105 13294117647059 (lit< tt)
+      nearest-bound (pos steps *ℤ sum 15 (λ i. at weights i *ℤ m i)) 1105 mostSmoothed (lit< tt)
       (le-trans (le-of-eq (natAbs-mul (pos steps) (sum 15 (λ i. at weights i *ℤ m i)))) (le-trans (mul-le-mul-left steps products-bound) (lit≤ tt)))

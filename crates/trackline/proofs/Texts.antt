@@ -16,7 +16,7 @@ use Rattle.columns.specs.Text.{lineLength, lineEnd}
 use Rattle.hire.specs.Hire.{blockLabels}
 use Rattle.line.specs.Block.{blockNumbers, blockLine, blockAnswer, blockAfter, blockNumber}
 use Rattle.columns.proofs.Widths.{line-width}
-use Rattle.trackline.specs.Printed.{refusal, answer, printed}
+use Rattle.trackline.specs.Printed.{refusalText, answer, printed}
 use Rattle.trackline.specs.Buffer.{Text, Pushed, outputLength}
 
 -- ---- texts
@@ -51,24 +51,24 @@ retext {out} {end = end} t e = subst (λ (x : List ℕ). Text out end x) e t
 abbrev pub refusedText : List ℕ
 refusedText = 114 ∷ 101 ∷ 102 ∷ 117 ∷ 115 ∷ 101 ∷ 100 ∷ 32 ∷ []
 
-pub one-digit : (number : ℕ) → number < 10 → refusedText ++ (48 + number % 10) ∷ [] ≡ refusal number
-unfolding refusal decimal
+pub one-digit : (number : ℕ) → number < 10 → refusedText ++ (48 + number % 10) ∷ [] ≡ refusalText number
+unfolding refusalText decimal
 one-digit number h = rw (lt-ltb number 10 h)
 
-pub two-digits : (number : ℕ) → 10 ≤ number → (refusedText ++ (48 + number / 10 % 10) ∷ []) ++ (48 + number % 10) ∷ [] ≡ refusal number
-unfolding refusal decimal
+pub two-digits : (number : ℕ) → 10 ≤ number → (refusedText ++ (48 + number / 10 % 10) ∷ []) ++ (48 + number % 10) ∷ [] ≡ refusalText number
+unfolding refusalText decimal
 two-digits number h = rw (le-ltb number 10 h)
 
-refusal-length : (number : ℕ) → length (refusal number) ≤ 10
+refusal-length : (number : ℕ) → length (refusalText number) ≤ 10
 refusal-length number = go (decLt number 10)
   where
-    go : Dec (number < 10) → length (refusal number) ≤ 10
+    go : Dec (number < 10) → length (refusalText number) ≤ 10
     go (yes h) = subst (λ (x : List ℕ). length x ≤ 10) (one-digit number h) (lit≤ tt)
     go (no h) = subst (λ (x : List ℕ). length x ≤ 10) (two-digits number (omega arith)) (lit≤ tt)
 
 -- ---- the answer
 
-pub refused-answer : (b : List ℕ) (number : ℕ) → number ≡ blockNumber b → (number ≡ 0 → ⊥) → refusal number ≡ answer b
+pub refused-answer : (b : List ℕ) (number : ℕ) → number ≡ blockNumber b → (number ≡ 0 → ⊥) → refusalText number ≡ answer b
 unfolding answer
 refused-answer b number e h = rw (← e, ne-eqb number 0 h)
 

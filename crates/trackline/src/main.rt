@@ -4,7 +4,7 @@
 ghost use mathlib.Core.Path.{_≡_};
 ghost use Prim.Native.Nat.{_+_, _≤_, _<_};
 ghost use lib.ListN.{length, take};
-ghost use Rattle.trackline.specs.Printed.{refusal, answer, printed};
+ghost use Rattle.trackline.specs.Printed.{refusalText, answer, printed};
 ghost use Rattle.trackline.specs.Buffer.{outputLength, Text, Pushed};
 use columns::LINE_LENGTH;
 use libc::STDIN_FILENO;
@@ -28,7 +28,7 @@ fn push(out: &mut [u8], at: usize, byte: u8) -> usize
 // `refused`, a space and the number, which has one or two digits.
 fn put_refusal(out: &mut [u8], number: u32) -> usize
     requires { ⌜ length (now out) ≡ outputLength ⌝ }
-    ensures { λ r. ⌜ Text (now (out .exit)) r (refusal number) ⌝ }
+    ensures { λ r. ⌜ Text (now (out .exit)) r (refusalText number) ⌝ }
 {
     let at = bytes::copy(b"refused ", out);
     if number < 10 {

@@ -8,10 +8,11 @@ use native.Mathlib.Nat.{le-refl}
 use native.Mathlib.Omega.{arith}
 use lib.ListN.{length, drop}
 use lib.Seq.{drop-length}
+use Rattle.limits.proofs.Laws.{and-true-both}
 use Rattle.fields.specs.Text.{bytesOf, decimal, hexadecimal, checksum}
 use Rattle.fields.proofs.Laws.{length-decimal}
 use Rattle.labels.specs.Labels.{codeFits}
-use Rattle.columns.specs.Text.{spaced}
+use Rattle.columns.specs.Text.{spaced, lineLength}
 use Rattle.columns.specs.Columns.{field}
 use Rattle.characters.specs.Kinds.{letterFits, allows, kinds, sharedKinds, oldKinds, allowed, printable}
 use Rattle.characters.proofs.Allowed.{code-is, letter-is, space-is, allowed-append, allowed-cut}
@@ -19,8 +20,8 @@ use Rattle.characters.proofs.Spelled.{SpelledAs, Spelled}
 use Rattle.characters.proofs.Check.{check-closes}
 use Rattle.reading.specs.Fields.{digits, Shared}
 use Rattle.reading.proofs.Columns.{shared, old-shared}
-use Rattle.reading.proofs.Writing.{and-true-both, decimal-allowed, Fitting, spaced-allowed}
-use Rattle.version01.specs.Convert.{formText, downText, supplied, upText}
+use Rattle.reading.proofs.Writing.{decimal-allowed, Fitting, spaced-allowed}
+use Rattle.version01.specs.Convert.{formText, downText, supplied, upText, oldLength}
 use Rattle.version01.proofs.Forms.{shared-length, columnsOf, columns-length, form-length}
 
 -- ---- the columns
@@ -61,7 +62,7 @@ old-spelled line s =
       most = omega (arith, n);
       check = check-closes 101 (columnsOf 32 line [] [] long) [] (columns-length 32 line [] [] long);
       columns = ap (λ (k : List ℕ). allowed (32 ∷ k) (downText line)) (sym (append-nil sharedKinds)) ∙ form-allowed 32 line [] 32 [] long (space-is 32) (shared line (s .columns)) none-allowed;
-      comment = nothing-behind (downText line) 103 n;
+      comment = nothing-behind (downText line) oldLength n;
     }
 
 -- the columns that are supplied
@@ -96,7 +97,7 @@ our-spelled hc frc1 frc2 frc3 old s a b c =
     let long : 101 ≤ length old = omega (arith, s .least) in
     let behind = supplied hc frc1 frc2 frc3 in
     let k = supplied-length hc frc1 frc2 frc3 in
-    let n : length (upText hc frc1 frc2 frc3 old) ≡ 113 = form-length 71 old behind [] long ∙ ap (λ (m : ℕ). 103 + m) k in
+    let n : length (upText hc frc1 frc2 frc3 old) ≡ lineLength = form-length 71 old behind [] long ∙ ap (λ (m : ℕ). oldLength + m) k in
     record {
       least = omega (arith, n);
       most = omega (arith, n);
@@ -104,5 +105,5 @@ our-spelled hc frc1 frc2 frc3 old s a b c =
       columns =
           ap (λ (ks : List ℕ). allowed ks (upText hc frc1 frc2 frc3 old)) kinds-are
           ∙ form-allowed 71 old behind 76 supplied-kinds long letter-allowed (old-shared old (s .columns)) (supplied-allowed hc frc1 frc2 frc3 a b c);
-      comment = nothing-behind (upText hc frc1 frc2 frc3 old) 113 n;
+      comment = nothing-behind (upText hc frc1 frc2 frc3 old) lineLength n;
     }

@@ -4,18 +4,14 @@ use mathlib.Core.Path.{_≡_, refl, ap, _∙_}
 use mathlib.Core.List.{List, [], _∷_, _++_}
 use Prim.Native.Nat.{ℕ, suc, _+_, _-_, _≤_}
 use native.Mathlib.Omega.{arith}
-use lib.Dec.{ltb}
 use lib.ListN.{length, take, drop, length-append, length-drop}
 use lib.Seq.{length-take-le}
-use borrow.Author.Tests.{ltb-false}
-use Rattle.limits.specs.Refusal.{_when_}
-use Rattle.limits.proofs.Laws.{when-zero}
 use Rattle.lent.specs.Placed.{placed, placedWithin}
 use Rattle.lent.proofs.Placing.{within, placed-behind, placed-first, placed-front, length-placed}
 use Rattle.fields.specs.Text.{hexadecimal, checksum}
 use Rattle.fields.proofs.Laws.{length-hexadecimal}
 use Rattle.columns.specs.Columns.{field}
-use Rattle.version01.specs.Convert.{formText}
+use Rattle.version01.specs.Convert.{formText, oldLength}
 
 pub shared-length : (line : List ℕ) → 101 ≤ length line → length (field 2 101 line) ≡ 100
 unfolding field
@@ -43,15 +39,15 @@ module _ (first : ℕ) (line behind lent : List ℕ) (long : 101 ≤ length line
       count : (n m : ℕ) → n ≡ 100 → m ≡ n + length behind → suc m ≡ 101 + length behind
       count n m e f = omega arith
 
-  pub form-length : length (formText first line behind) ≡ 103 + length behind
+  pub form-length : length (formText first line behind) ≡ oldLength + length behind
   unfolding formText
   form-length =
       count (length columnsOf) columns-length (length-append columnsOf (hexadecimal (checksum columnsOf)) ∙ ap (λ (n : ℕ). length columnsOf + n) (length-hexadecimal (checksum columnsOf)))
     where
-      count : (n : ℕ) {m : ℕ} → n ≡ 101 + length behind → m ≡ n + 2 → m ≡ 103 + length behind
+      count : (n : ℕ) {m : ℕ} → n ≡ 101 + length behind → m ≡ n + 2 → m ≡ oldLength + length behind
       count n e f = omega arith
 
-  module _ (room : 103 + length behind ≤ length lent) where
+  module _ (room : oldLength + length behind ≤ length lent) where
     pub columns-put : {d₁ d₂ d₃ : List ℕ} → d₁ ≡ placedWithin lent 0 (first ∷ []) → d₂ ≡ placedWithin d₁ 1 (field 2 101 line) → d₃ ≡ placedWithin d₂ 101 behind
         → d₃ ≡ placed lent 0 columnsOf
     columns-put {d₁} {d₂} e f g =
@@ -61,13 +57,9 @@ module _ (first : ℕ) (line behind lent : List ℕ) (long : 101 ≤ length line
         put-behind lent (first ∷ field 2 101 line) behind (ap suc n) (omega arith) two g
 
     pub all-put : {d₃ d₄ : List ℕ} {sum : ℕ} → d₃ ≡ placed lent 0 columnsOf → sum ≡ checksum (take (101 + length behind) d₃)
-        → d₄ ≡ placedWithin d₃ (101 + length behind) (hexadecimal sum) → d₄ ≡ formText first line behind ++ drop (103 + length behind) lent
+        → d₄ ≡ placedWithin d₃ (101 + length behind) (hexadecimal sum) → d₄ ≡ formText first line behind ++ drop (oldLength + length behind) lent
     unfolding formText
     all-put {d₃} {d₄} {sum} e s f =
         put-behind lent columnsOf (hexadecimal sum) columns-length (omega (arith, length-hexadecimal sum)) e f
         ∙ ap (λ (n : ℕ). placed lent 0 (columnsOf ++ hexadecimal n)) (s ∙ ap checksum (ap (take (101 + length behind)) e ∙ placed-front lent columnsOf (101 + length behind) columns-length))
         ∙ placed-first lent (formText first line behind) form-length
-
--- there is room where the last test is passed
-pub room-enough : (room least : ℕ) → 9 when ltb room least ≡ 0 → least ≤ room
-room-enough room least e = ltb-false room least (when-zero 8 _ e)

@@ -19,6 +19,7 @@ use Rattle.fields.specs.Read.{readDecimal, digitsFrom}
 use Rattle.fields.proofs.Laws.{read-decimal}
 use Rattle.labels.specs.declared.Labels.{Labels}
 use Rattle.labels.specs.Labels.{constellationFits, labelsFit}
+use Rattle.labels.proofs.Digits.{ranged}
 use Rattle.columns.specs.Text.{lineLength, timeOfDay, trackColumns, clockColumns, delayColumns, columns, spaced, withCheck, lineText}
 use Rattle.columns.specs.Columns.{byteIn, field, labelsWith, readLabels, readNumbers}
 use Rattle.characters.specs.Kinds.{kinds, oldKinds}
@@ -29,7 +30,6 @@ use Rattle.reading.specs.Read.{valuesNumber, readNumber, readRule}
 use Rattle.reading.specs.Old.{oldLabels, oldNumber}
 use Rattle.reading.proofs.Refusals.{Valued, valued, accepted, reply-line}
 use Rattle.reading.proofs.AcceptedLine.{accepted-columns}
-use Rattle.reading.proofs.Writing.{code-fits}
 use Rattle.version01.specs.Convert.{oldLength, formText, downText, supplied, upText, downAnswer, downAfter, upAnswer, upAfter}
 use Rattle.version01.proofs.Forms.{shared-length, form-length}
 use Rattle.version01.proofs.Alike.{same-numbers, same-labels, same-values}
@@ -53,7 +53,7 @@ labels-own line = refl
 
 shared-first : (line : List ℕ) → field 2 101 (take lineLength line) ≡ field 2 101 line
 unfolding field
-shared-first line = piece-of 1 100 113 line (lit≤ tt)
+shared-first line = piece-of 1 100 lineLength line (lit≤ tt)
 
 gps-fits : (ioe fr : ℕ) → constellationFits 71 ioe fr ≡ leb ioe 255 && eqb fr 0
 unfolding constellationFits
@@ -65,7 +65,7 @@ fr-zero : (ioe fr : ℕ) → constellationFits 71 ioe fr ≡ true → fr ≡ 0
 fr-zero ioe fr e = eqb-true fr 0 (both (leb ioe 255) (eqb fr 0) (sym (gps-fits ioe fr) ∙ e) .1)
 
 hc-fits : (l : Labels) → labelsFit l ≡ true → l .hc < 100
-hc-fits l e = let f = code-fits l e in omega (arith, f .4)
+hc-fits l e = let f = ranged l e in omega (arith, f .hc)
 
 -- ---- down and then up
 
@@ -90,7 +90,7 @@ module _ (line : List ℕ) (e : readNumber line ≡ 0) (g : byteIn 1 line ≡ 71
   constellation-is = g
 
   fr-is : l .fr ≡ 0
-  fr-is = fr-zero (l .ioe) (l .fr) (ap (λ (c : ℕ). constellationFits c (l .ioe) (l .fr)) (sym constellation-is) ∙ code-fits l (valued-so .labels) .0)
+  fr-is = fr-zero (l .ioe) (l .fr) (ap (λ (c : ℕ). constellationFits c (l .ioe) (l .fr)) (sym constellation-is) ∙ ranged l (valued-so .labels) .letter)
 
   labels-kept : oldLabels (l .hc) (l .frc1) (l .frc2) (l .frc3) (downText line) ≡ l
   labels-kept = same-labels (downText line) line alike 71 0 (l .hc) (l .frc1) (l .frc2) (l .frc3) ∙ own
@@ -138,7 +138,7 @@ module _ (hc frc1 frc2 frc3 : ℕ) (old : List ℕ) (e : oldNumber hc frc1 frc2 
 
   our-columns : Spelled our
   unfolding labelsWith
-  our-columns = let c = code-fits (oldLabels hc frc1 frc2 frc3 old) fit in our-spelled hc frc1 frc2 frc3 old (rows .0) (c .1) (c .2) (c .3)
+  our-columns = let c = ranged (oldLabels hc frc1 frc2 frc3 old) fit .codes in our-spelled hc frc1 frc2 frc3 old (rows .0) (c .0) (c .1) (c .2)
 
   abbrev check : List ℕ
   check = hexadecimal (checksum (71 ∷ (field 2 101 old ++ supplied hc frc1 frc2 frc3)))
@@ -286,7 +286,7 @@ up-line hc frc1 frc2 frc3 old lent e =
     let w = up-written hc frc1 frc2 frc3 old lent e (old-long hc frc1 frc2 frc3 old z) in
     let n = form-length 71 old (supplied hc frc1 frc2 frc3) [] (old-long hc frc1 frc2 frc3 old z) in
     w
-    ∙ sym (take-all lineLength (our hc frc1 frc2 frc3 old z) (le-of-eq (n ∙ ap (λ (k : ℕ). 103 + k) (supplied-length hc frc1 frc2 frc3))))
+    ∙ sym (take-all lineLength (our hc frc1 frc2 frc3 old z) (le-of-eq (n ∙ ap (λ (k : ℕ). oldLength + k) (supplied-length hc frc1 frc2 frc3))))
     ∙ accepted-columns (our hc frc1 frc2 frc3 old z) (is-read hc frc1 frc2 frc3 old z)
     ∙ ap₂ lineText (labels-there hc frc1 frc2 frc3 old z) (numbers-there hc frc1 frc2 frc3 old z)
 

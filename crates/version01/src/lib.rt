@@ -5,7 +5,7 @@ ghost use mathlib.Core.Path.{_≡_};
 ghost use mathlib.Core.List.{_++_};
 ghost use Prim.Native.Nat.{_+_, _≤_};
 ghost use lib.ListN.{length, drop};
-ghost use Rattle.version01.specs.Convert.{formText, downAnswer, downAfter, upAnswer, upAfter};
+ghost use Rattle.version01.specs.Convert.{formText, downAnswer, downAfter, upAnswer, upAfter, oldLength};
 use columns::LINE_LENGTH;
 use lent::put;
 use limits::then;
@@ -20,8 +20,8 @@ const SHARED: usize = 101;
 // Writes a first column, columns 2 to 101 of a line, the columns behind them, and CK.
 fn write(first: u8, line: &[u8], behind: &[u8], lent: &mut [u8])
     requires { ⌜ 101 ≤ length (now line) ⌝ }
-    requires { ⌜ 103 + length (now behind) ≤ length (now lent) ⌝ }
-    ensures { λ _. ⌜ now (lent .exit) ≡ formText first (now (line .entry)) (now (behind .entry)) ++ drop (103 + length (now (behind .entry))) (now (lent .entry)) ⌝ }
+    requires { ⌜ oldLength + length (now behind) ≤ length (now lent) ⌝ }
+    ensures { λ _. ⌜ now (lent .exit) ≡ formText first (now (line .entry)) (now (behind .entry)) ++ drop (oldLength + length (now (behind .entry))) (now (lent .entry)) ⌝ }
 {
     let letter = [first];
     put(&letter, lent, 0);

@@ -20,7 +20,7 @@ use Rattle.viewing.specs.View.{sameTrkl, pairsOf, differences, viewed, s
 use Rattle.linefile.proofs.Lines.{line-file}
 use Rattle.linefile.proofs.Ascending.{All}
 use Rattle.linefile.proofs.Holding.{times}
-use Rattle.viewing.proofs.Extremes.{Among, smallest-is, largest-is, smallest-sum, largest-sum, total-turned, smallest-turned, largest-turned}
+use Rattle.viewing.proofs.Extremes.{Among, smallest-is, largest-is, smallest-sum, largest-sum, sum-turned, smallest-turned, largest-turned}
 use Rattle.viewing.proofs.Pairing.{exchanged, partners-exchanged, trkl-exchanged, differences-exchanged, partners-itself, differences-itself, firsts, seconds, firsts-once, seconds-once}
 
 -- ---- the figures of any differences
@@ -65,7 +65,7 @@ unfolding figures
 figures-turned ds es e =
     record {
       pairs = ap (λ (l : List ℤ). pos (length l)) e ∙ ap pos (length-map ds negℤ);
-      sum = ap sumOf e ∙ total-turned ds;
+      sum = ap sumOf e ∙ sum-turned ds;
       smallest = ap (extreme smaller) e ∙ smallest-turned ds;
       largest = ap (extreme larger) e ∙ largest-turned ds;
     }

@@ -9,7 +9,7 @@ use Prim.Native.Nat.{ℕ, suc}
 use native.Mathlib.Numerals.{one-add}
 use native.Mathlib.Omega.{arith}
 use lib.Dec.{T}
-use lib.IntN.{ℤ, pos, negℤ, _+ℤ_, _*ℤ_, pos-+ℤ-pos}
+use lib.IntN.{ℤ, pos, negℤ, _+ℤ_, _*ℤ_, negℤ-+ℤ, pos-+ℤ-pos}
 use lib.Signed.{_≤ℤ_, _<ℤ_, ltZ, ltZ-yes, ltZ-no, clashℤ}
 use lib.ListN.{length}
 use Rattle.whole.specs.Order.{le-refl, le-trans, le-of-lt, add-le}
@@ -156,13 +156,10 @@ less-turned d e = by-tests (ltZ (negℤ d) (negℤ e)) (ltZ e d) refl refl
     by-tests true false p q = clashℤ (less (negℤ d) (negℤ e) p) (back (not-less e d q))
     by-tests false true p q = clashℤ (less e d q) (forth (not-less (negℤ d) (negℤ e) p))
 
-pub total-turned : (ds : List ℤ) → sumOf (map negℤ ds) ≡ negℤ (sumOf ds)
+pub sum-turned : (ds : List ℤ) → sumOf (map negℤ ds) ≡ negℤ (sumOf ds)
 unfolding sumOf
-total-turned [] = refl
-total-turned (d ∷ ds) = ap (λ (z : ℤ). negℤ d +ℤ z) (total-turned ds) ∙ both d (sumOf ds)
-  where
-    both : (x y : ℤ) → negℤ x +ℤ negℤ y ≡ negℤ (x +ℤ y)
-    both x y = identity (x ∷ y ∷ []) (search quote depth 20) tt
+sum-turned [] = refl
+sum-turned (d ∷ ds) = ap (λ (z : ℤ). negℤ d +ℤ z) (sum-turned ds) ∙ sym (negℤ-+ℤ d (sumOf ds))
 
 module _ (choose turned : ℤ → ℤ → ℤ) (turns : (d e : ℤ) → choose (negℤ d) (negℤ e) ≡ negℤ (turned d e)) where
   chosen-turned : (d : ℤ) (ds : List ℤ) → chosen choose (negℤ d) (map negℤ ds) ≡ negℤ (chosen turned d ds)

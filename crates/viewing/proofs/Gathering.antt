@@ -24,14 +24,14 @@ use Rattle.linefile.proofs.Steps.{Stepped, end-pairs}
 
 -- ---- one difference more
 
-pub total-append : (ds es : List ℤ) → sumOf (ds ++ es) ≡ sumOf ds +ℤ sumOf es
+pub sum-append : (ds es : List ℤ) → sumOf (ds ++ es) ≡ sumOf ds +ℤ sumOf es
 unfolding sumOf
-total-append [] es = sym (+ℤ-idl (sumOf es))
-total-append (d ∷ ds) es = ap (λ (z : ℤ). d +ℤ z) (total-append ds es) ∙ sym (+ℤ-assoc d (sumOf ds) (sumOf es))
+sum-append [] es = sym (+ℤ-idl (sumOf es))
+sum-append (d ∷ ds) es = ap (λ (z : ℤ). d +ℤ z) (sum-append ds es) ∙ sym (+ℤ-assoc d (sumOf ds) (sumOf es))
 
-total-one : (ds : List ℤ) (d : ℤ) → sumOf ds +ℤ d ≡ sumOf (ds ++ d ∷ [])
+sum-one : (ds : List ℤ) (d : ℤ) → sumOf ds +ℤ d ≡ sumOf (ds ++ d ∷ [])
 unfolding sumOf
-total-one ds d = ap (λ (z : ℤ). sumOf ds +ℤ z) (sym (+ℤ-idr d)) ∙ sym (total-append ds (d ∷ []))
+sum-one ds d = ap (λ (z : ℤ). sumOf ds +ℤ z) (sym (+ℤ-idr d)) ∙ sym (sum-append ds (d ∷ []))
 
 chosen-one : (choose : ℤ → ℤ → ℤ) (d : ℤ) (ds : List ℤ) (e : ℤ) → chosen choose d (ds ++ e ∷ []) ≡ choose (chosen choose d ds) e
 unfolding chosen
@@ -60,7 +60,7 @@ pub counted-figures : (ds : List ℤ) (d : ℤ) → counted (figures ds) d ≡ f
 unfolding counted figures
 counted-figures ds d =
     let p : pos (length ds) +ℤ pos 1 ≡ pos (length (ds ++ d ∷ [])) = pos-+ℤ-pos (length ds) 1 ∙ ap pos (sym (length-append ds (d ∷ []))) in
-    let s = total-one ds d in
+    let s = sum-one ds d in
     let a = extreme-one smaller (λ x y. ltZ y x) smaller-is ds d in
     let b = extreme-one larger ltZ larger-is ds d in
     λ i. record { pairs = p i; sum = s i; smallest = a i; largest = b i }

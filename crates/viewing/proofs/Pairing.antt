@@ -9,8 +9,9 @@ use native.Mathlib.Omega.{arith}
 use lib.Dec.{eqb}
 use lib.IntN.{ℤ, pos, negℤ, _-ℤ_, +ℤ-invr}
 use lib.ListN.{length, replicate}
-use borrow.Author.Tests.{eqb-true, eqb-false, eq-eqb, ne-eqb}
-use Rattle.whole.specs.Identity.{identity, quote}
+use borrow.Author.Tests.{eq-eqb}
+use Rattle.whole.specs.Ring.{sub-turned}
+use Rattle.limits.proofs.Laws.{eqb-turned}
 use Rattle.linefile.specs.Files.{keys, same}
 use Rattle.linefile.specs.Partners.{partnersOf, partners}
 use Rattle.viewing.specs.View.{trklOf, refsysOf, sameTrkl, differences}
@@ -75,18 +76,11 @@ exchanged-in (suc most) j k (x ∷ xs) (y ∷ ys) h a b =
 pub partners-exchanged : (j k : List ℕ) (xs ys : List (List ℕ)) → Ascending j xs → Ascending k ys → partners ys xs ≡ map exchanged (partners xs ys)
 partners-exchanged j k xs ys a b = exchanged-in (length xs + length ys) j k xs ys (le-refl _) a b
 
-eqb-turned : (m n : ℕ) → eqb n m ≡ eqb m n
-eqb-turned m n = by-test (eqb m n) refl
-  where
-    by-test : (b : Bool) → eqb m n ≡ b → eqb n m ≡ b
-    by-test true e = eq-eqb n m (sym (eqb-true m n e))
-    by-test false e = ne-eqb n m (λ h. eqb-false m n e (sym h))
-
 pub trkl-exchanged : (ps : List (List ℕ × List ℕ)) → sameTrkl (map exchanged ps) ≡ map exchanged (sameTrkl ps)
 unfolding sameTrkl
 trkl-exchanged [] = refl
 trkl-exchanged ((x, y) ∷ ps) =
-    ap₂ (λ (b : Bool) (t : List (List ℕ × List ℕ)). cond b ((y, x) ∷ []) [] ++ t) (eqb-turned (trklOf x) (trklOf y)) (trkl-exchanged ps)
+    ap₂ (λ (b : Bool) (t : List (List ℕ × List ℕ)). cond b ((y, x) ∷ []) [] ++ t) (eqb-turned (trklOf y) (trklOf x)) (trkl-exchanged ps)
     ∙ by-test (eqb (trklOf x) (trklOf y))
   where
     by-test : (b : Bool) → cond b ((y, x) ∷ []) [] ++ map exchanged (sameTrkl ps) ≡ map exchanged (cond b ((x, y) ∷ []) [] ++ sameTrkl ps)
@@ -96,10 +90,7 @@ trkl-exchanged ((x, y) ∷ ps) =
 pub differences-exchanged : (ps : List (List ℕ × List ℕ)) → differences (map exchanged ps) ≡ map negℤ (differences ps)
 unfolding differences
 differences-exchanged [] = refl
-differences-exchanged ((x, y) ∷ ps) = ap₂ _∷_ (turned (refsysOf x) (refsysOf y)) (differences-exchanged ps)
-  where
-    turned : (a b : ℤ) → b -ℤ a ≡ negℤ (a -ℤ b)
-    turned a b = identity (a ∷ b ∷ []) (search quote depth 20) tt
+differences-exchanged ((x, y) ∷ ps) = ap₂ _∷_ (sub-turned (refsysOf y) (refsysOf x)) (differences-exchanged ps)
 
 -- ---- a file with itself
 

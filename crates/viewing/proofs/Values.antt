@@ -43,7 +43,7 @@ module _ (line : List ℕ) (e : Accepted line) where
   unfolding refsysOf readNumbers
   refsys-text =
       ap readSigned (signed-field (columns line e .refsys))
-      ∙ ap (λ (b : ℕ). readSigned (b ∷ field 55 64 (columnsOf line))) (getD-take 113 line 53 0 (lit< tt))
+      ∙ ap (λ (b : ℕ). readSigned (b ∷ field 55 64 (columnsOf line))) (getD-take lineLength line 53 0 (lit< tt))
 
   pub refsys-minus : getD line 53 0 ≡ 45 → refsysOf line ≡ negℤ (pos (readDecimal (field 55 64 (columnsOf line))))
   refsys-minus m = refsys-text ∙ minus-read _ _ m

@@ -4,7 +4,7 @@
 use mathlib.Core.Path.{_≡_, sym, ap, _∙_, subst, subst₂}
 use mathlib.Core.List.{List, [], _∷_}
 use mathlib.Core.Logic.{_⊎_, inl, inr}
-use Prim.Native.Nat.{ℕ, zero, suc, _+_, _*_, _≤_, _<_, zero-le}
+use Prim.Native.Nat.{ℕ, zero, suc, _+_, _*_, _-_, _≤_, _<_, zero-le}
 use native.Mathlib.Decide.{decLe}
 use native.Mathlib.Omega.{arith}
 use lib.Dec.{leb→le, le→leb, lt→ltb}
@@ -75,6 +75,10 @@ pos-lt {m} {n} h = record { lt = lt→ltb m n h }
 
 pub zero-le-pos : (n : ℕ) → pos 0 ⩽ pos n
 zero-le-pos n = pos-le zero-le
+
+-- natural numbers taken off as whole ones
+pub pos-sub : (a b : ℕ) → b ≤ a → pos a -ℤ pos b ≡ pos (a - b)
+pos-sub a b h = eq-by (pos a ∷ pos b ∷ pos (a - b) ∷ []) (search quote depth 12) (omega arith)
 
 -- a number that is not below 0 is a natural number
 pub as-pos : {x : ℤ} → pos 0 ⩽ x → x ≡ pos (natAbs x)

@@ -3,7 +3,7 @@
 -- Assumes nothing.
 use mathlib.Core.Path.{_≡_, sym, ap, ap₂, _∙_}
 use native.Mathlib.Omega.{arith}
-use lib.IntN.{ℤ, pos, negsuc, negℤ, _+ℤ_, _*ℤ_, +ℤ-idl, *ℤ-comm}
+use lib.IntN.{ℤ, pos, negsuc, negℤ, _+ℤ_, _-ℤ_, _*ℤ_, +ℤ-idl, +ℤ-comm, *ℤ-comm, negℤ-negℤ, negℤ-+ℤ}
 use Rattle.whole.specs.Differences.{dif-eq, dif-eq-is, Dif, of, view, difs}
 
 pub *ℤ-assoc : (x y z : ℤ) → (x *ℤ y) *ℤ z ≡ x *ℤ (y *ℤ z)
@@ -61,6 +61,10 @@ horner-scale m a x p =
 -- a negation is a product by -1
 pub negℤ-is : (x : ℤ) → negℤ x ≡ negsuc 0 *ℤ x
 negℤ-is x = ap negℤ (sym (one-*ℤ x)) ∙ sym (negℤ-*ℤ (pos 1) x)
+
+-- a difference taken the other way round
+pub sub-turned : (x y : ℤ) → x -ℤ y ≡ negℤ (y -ℤ x)
+sub-turned x y = sym (negℤ-+ℤ y (negℤ x) ∙ ap (λ (z : ℤ). negℤ y +ℤ z) (negℤ-negℤ x) ∙ +ℤ-comm (negℤ y) x)
 
 -- x - y is 0 only at equal numbers
 pub eq-of-sub : (x y : ℤ) → x +ℤ negℤ y ≡ pos 0 → x ≡ y

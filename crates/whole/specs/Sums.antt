@@ -5,8 +5,7 @@
 pub mod Examples
 use mathlib.Core.Path.{_≡_, refl, sym, ap, ap₂, _∙_, subst, subst₂}
 use Prim.Native.Nat.{ℕ, zero, suc, _+_, _*_, _≤_, _<_}
-use native.Mathlib.Nat.{add-zero, add-suc}
-use native.Mathlib.Omega.{arith}
+use native.Mathlib.Nat.{add-zero, add-suc, le-step, lt-suc-self}
 use lib.IntN.{ℤ, pos, negℤ, natAbs, _+ℤ_, _*ℤ_, +ℤ-idl, +ℤ-idr, +ℤ-assoc, *ℤ-zero, zero-*ℤ, negℤ-+ℤ, sucℤ-*ℤ, *ℤ-comm}
 use Rattle.whole.specs.Square.{squared, magnitude}
 use Rattle.whole.specs.Sum.{sum}
@@ -16,16 +15,10 @@ use Rattle.whole.specs.Magnitude.{magnitude-add}
 
 -- ---- terms
 
-below-suc : {i n : ℕ} → i < n → i < suc n
-below-suc h = omega arith
-
-self : (n : ℕ) → n < suc n
-self n = omega arith
-
 pub sum-cong : (n : ℕ) {f g : ℕ → ℤ} → ((i : ℕ) → i < n → f i ≡ g i) → sum n f ≡ sum n g
 unfolding sum
 sum-cong zero h = refl
-sum-cong (suc n) h = ap₂ _+ℤ_ (sum-cong n (λ i k. h i (below-suc k))) (h n (self n))
+sum-cong (suc n) h = ap₂ _+ℤ_ (sum-cong n (λ i k. h i (le-step k))) (h n (lt-suc-self n))
 
 -- one term more
 pub sum-suc : (n : ℕ) (f : ℕ → ℤ) → sum (suc n) f ≡ sum n f +ℤ f n
@@ -65,7 +58,7 @@ sum-constant (suc n) c = sucℤ-*ℤ (pos n) c ∙ ap (λ (z : ℤ). z +ℤ c) (
 pub sum-le : (n : ℕ) {f g : ℕ → ℤ} → ((i : ℕ) → i < n → f i ⩽ g i) → sum n f ⩽ sum n g
 unfolding sum
 sum-le zero h = le-refl (pos 0)
-sum-le (suc n) h = add-le (sum-le n (λ i k. h i (below-suc k))) (h n (self n))
+sum-le (suc n) h = add-le (sum-le n (λ i k. h i (le-step k))) (h n (lt-suc-self n))
 
 pub sum-nonneg : (n : ℕ) {f : ℕ → ℤ} → ((i : ℕ) → i < n → pos 0 ⩽ f i) → pos 0 ⩽ sum n f
 sum-nonneg n {f} h = subst (λ (z : ℤ). z ⩽ sum n f) (sum-zero n) (sum-le n h)

@@ -6,6 +6,7 @@ use native.Mathlib.Omega.{arith}
 use lib.Seq.{length-take-le}
 use Rattle.columns.specs.Columns.{byteIn}
 use Rattle.characters.specs.Kinds.{checked}
+use Rattle.characters.proofs.Check.{next}
 use borrow.Author.Needs.{needs}
 use Rattle.characters.proofs.checked.Statement.{statement}
 use Rattle.characters.proofs.checked.Tie as tie
@@ -34,9 +35,6 @@ hex-digit-requires-2 c κs = search needs
 -- a column's place, counted from 0
 place : (n : ℕ) → n + 1 - 1 ≡ n
 place n = omega arith
-
-next : (n : ℕ) → n + 2 - 1 ≡ n + 1
-next n = omega arith
 
 returns : tie.Need-returns
 unfolding checked byteIn

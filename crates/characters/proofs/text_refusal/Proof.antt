@@ -1,12 +1,10 @@
 -- `characters::text_refusal` meets its contract: the comment is all that stands behind CK.
 -- Assumes nothing.
-use mathlib.Core.Path.{_≡_, ap, ap₂, _∙_}
+use mathlib.Core.Path.{ap, ap₂, _∙_}
 use mathlib.Core.Bool.{Bool, not}
-use Prim.Native.Nat.{_+_, _-_}
-use native.Mathlib.Nat.{le-of-eq}
-use lib.ListN.{length, take, drop, length-drop}
-use lib.Seq.{take-all}
+use Prim.Native.Nat.{_+_}
 use Rattle.limits.specs.Refusal.{_when_, _then_}
+use Rattle.limits.proofs.Parts.{rest-part}
 use Rattle.characters.specs.Kinds.{printable}
 use borrow.Author.Needs.{needs}
 use Rattle.characters.proofs.text_refusal.Statement.{statement}
@@ -41,9 +39,8 @@ returns c =
     let comment = c .before in
     let fits = comment .before in
     let a = fits .before .before .before .before .args in
-    let behind : take (length (a .line .now) - (a .columns + 2)) (drop (a .columns + 2) (a .line .now)) ≡ drop (a .columns + 2) (a .line .now) = take-all _ _ (le-of-eq (length-drop (a .columns + 2) (a .line .now))) in
     c .then .ensures
-    ∙ ap₂ _then_ (fits .when .ensures) (comment .when2 .ensures ∙ ap (λ (t : Bool). 13 when not t) (fits .before .comment-fits .ensures ∙ ap printable behind))
+    ∙ ap₂ _then_ (fits .when .ensures) (comment .when2 .ensures ∙ ap (λ (t : Bool). 13 when not t) (fits .before .comment-fits .ensures ∙ ap printable (rest-part (a .line .now) (a .columns + 2))))
 
 pub text-refusal-spec : {M : Type 1} → statement M
 text-refusal-spec =

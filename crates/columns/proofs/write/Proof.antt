@@ -24,10 +24,10 @@ slice-relend-prefix-put-line : tie.Need-slice-relend-prefix-put-line
 slice-relend-prefix-put-line c = search needs
 
 slice-aggregate-put-line : tie.Need-slice-aggregate-put-line
-slice-aggregate-put-line c = sym (length-take-le 113 (c .before .before .before .args .lent .now) (c .before .if1 .taken))
+slice-aggregate-put-line c = sym (length-take-le lineLength (c .before .before .before .args .lent .now) (c .before .if1 .taken))
 
 put-line-requires : tie.Need-put-line-requires
-put-line-requires c κs = length-take-le 113 (c .before .before .before .args .lent .now) (c .before .if1 .taken)
+put-line-requires c κs = length-take-le lineLength (c .before .before .before .args .lent .now) (c .before .if1 .taken)
 
 same-length : tie.Need-same-length
 same-length c = search needs

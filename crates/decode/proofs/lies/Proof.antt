@@ -1,6 +1,7 @@
 -- `decode::lies` meets its contract: a difference is compared, which does not wrap.
 -- Assumes nothing.
-use Rattle.decode.proofs.Little.{lies-at, lies-not}
+use Rattle.whole.proofs.Offsets.{lies-at}
+use Rattle.decode.proofs.Little.{lies-not}
 use borrow.Author.Needs.{needs}
 use Rattle.decode.proofs.lies.Statement.{statement}
 use Rattle.decode.proofs.lies.Tie as tie

@@ -17,17 +17,17 @@ use borrow.Author.Needs.{needs}
 use Rattle.delays.proofs.append.Statement.{statement}
 use Rattle.delays.proofs.append.Tie as tie
 
-append-number-requires : tie.Need-append-number-requires
-append-number-requires c κs = search needs
+append-refusal-requires : tie.Need-append-refusal-requires
+append-refusal-requires c κs = search needs
 
 -- the number, on the delays themselves
-number : (c : tie.After-append-number)
+number : (c : tie.After-append-refusal)
     → let a = c .before .before .before .args in
-    c .append-number .result ≡ appendNumber (a .store .now) (a .mjd) (a .int) (a .cab) (a .refdly) (a .gd) (length (a .longer .now))
+    c .append-refusal .result ≡ appendNumber (a .store .now) (a .mjd) (a .int) (a .cab) (a .refdly) (a .gd) (length (a .longer .now))
 number c =
     let a = c .before .before .before in
     let f = a .fits in
-    c .append-number .ensures
+    c .append-refusal .ensures
     ∙ (λ i. appendNumber (a .args .store .now) (a .args .mjd) (toZ-ofZ (f .int) i) (toZ-ofZ (f .cab) i) (toZ-ofZ (f .refdly) i) (toZ-ofZ (f .gd) i) (length (a .args .longer .now)))
 
 fits : (c : tie.Else1) → let a = c .before .before .before .before .args in Fitting (a .store .now) (a .longer .now)
@@ -89,7 +89,7 @@ pub append-spec : {M : Type 1} → statement M
 append-spec =
     tie.close
     (tie.spec
-    append-number-requires
+    append-refusal-requires
     returns
     unsigned16-requires
     count-requires

@@ -12,20 +12,20 @@ use borrow.Author.Needs.{needs}
 use Rattle.delays.proofs.lookup.Statement.{statement}
 use Rattle.delays.proofs.lookup.Tie as tie
 
-store-number-requires : tie.Need-store-number-requires
-store-number-requires c κs = search needs
+store-refusal-requires : tie.Need-store-refusal-requires
+store-refusal-requires c κs = search needs
 
 returns : tie.Need-returns
 returns c =
     let a = c .before .before .before .args in
-    (lookup-bad (a .store .now) (a .mjd) (c .before .store-number .ensures) (pos-of-ne-zero (c .if1 .taken)), pos-of-ne-zero (c .if1 .taken))
+    (lookup-bad (a .store .now) (a .mjd) (c .before .store-refusal .ensures) (pos-of-ne-zero (c .if1 .taken)), pos-of-ne-zero (c .if1 .taken))
 
 count-requires : tie.Need-count-requires
 count-requires c κs = search needs
 
 -- the store is one
 judged : (c : tie.Else1) → storeNumber (c .before .before .before .args .store .now) ≡ 0
-judged c = sym (c .before .store-number .ensures) ∙ c .if1 .left
+judged c = sym (c .before .store-refusal .ensures) ∙ c .if1 .left
 
 -- so all its dates lie within the bytes
 dates-in : (c : tie.After-count) → 4 + 4 * c .count .result ≤ length (c .before .before .before .before .args .store .now)
@@ -74,7 +74,7 @@ pub lookup-spec : {M : Type 1} → statement M
 lookup-spec =
     tie.close
     (tie.spec
-    store-number-requires
+    store-refusal-requires
     returns
     count-requires
     in-force-requires

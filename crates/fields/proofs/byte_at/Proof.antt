@@ -7,17 +7,17 @@ use borrow.Author.Needs.{needs}
 use Rattle.fields.proofs.byte_at.Statement.{statement}
 use Rattle.fields.proofs.byte_at.Tie as tie
 
-returns : tie.Need-returns
-returns c = (sym (List·getD-eq-default (c .before .args .text .now) 0 {n = c .before .args .at} (c .if1 .taken)), omega arith)
-
 shared-slice-read-result : tie.Need-shared-slice-read-result
 shared-slice-read-result c = search needs
 
 cast-result : tie.Need-cast-result
 cast-result c = omega (arith, c .shared-slice-known .given (c .before .before .args .at))
 
+returns : tie.Need-returns
+returns c = (refl, omega (arith, c .shared-slice-known .given (c .before .before .args .at)))
+
 returns-2 : tie.Need-returns-2
-returns-2 c = (refl, omega (arith, c .shared-slice-known .given (c .before .before .args .at)))
+returns-2 c = (sym (List·getD-eq-default (c .before .args .text .now) 0 {n = c .before .args .at} (c .if1 .left)), omega arith)
 
 pub byte-at-spec : {M : Type 1} → statement M
-byte-at-spec = tie.close (tie.spec returns shared-slice-read-result cast-result returns-2)
+byte-at-spec = tie.close (tie.spec shared-slice-read-result cast-result returns returns-2)

@@ -20,7 +20,7 @@ use Rattle.correcting.proofs.Refusals.{sized, corrected-refused, corrected-valu
 use Rattle.correcting.proofs.Largest.{Inside, corrected-within}
 use Rattle.fit.specs.declared.Tracked.{Tracked}
 use Rattle.fit.specs.Track.{trackRule, zeros, recordOf, results}
-use Rattle.fit.specs.Found.{foundNumber, judgedOf}
+use Rattle.fit.specs.Found.{foundNumber, judgedRule}
 use Rattle.fit.proofs.Accuracy.{tracked-accurate}
 use Rattle.fit.proofs.Tracks.{track-refused, track-judged, found-refused, found-ten}
 use Rattle.fit.proofs.track.Statement.{statement}
@@ -101,8 +101,8 @@ unfolding results
 record-is c = λ z. recordOf (blocks (g (start (made c)))) (a-is c z) (b-is c z) (c-is c z) (d-is c z)
 
 -- what is found of it
-found-is : (c : tie.After-ten-numbers) → c .ten-numbers .result ≡ judgedOf (results (g (start (made (c .before .before .before .before .before)))))
-found-is c = c .ten-numbers .ensures ∙ ap judgedOf (record-is (c .before .before .before .before .before))
+found-is : (c : tie.After-ten-numbers) → c .ten-numbers .result ≡ judgedRule (results (g (start (made (c .before .before .before .before .before)))))
+found-is c = c .ten-numbers .ensures ∙ ap judgedRule (record-is (c .before .before .before .before .before))
 
 -- an accepted record is put together with its numbers
 whole : (t : Given) (a b c d : List ℤ) (n : Numbers) → a ≡ places (blocks t) (valueA t) → b ≡ places (blocks t) (valueB t)

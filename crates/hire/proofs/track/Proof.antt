@@ -1,19 +1,18 @@
 -- `hire::track` meets its contract: the two parts of a whole block are its packed lists.
 -- Assumes nothing.
 use borrow.Author.Needs.{needs}
-use mathlib.Core.Path.{_≡_, refl, sym, ap, _∙_, subst}
+use mathlib.Core.Path.{_≡_, sym, ap, _∙_, subst}
 use mathlib.Core.List.{List}
 use Prim.Native.Nat.{ℕ, _+_, _*_, _-_, _/_}
-use native.Mathlib.Nat.{le-of-eq}
 use native.Mathlib.Omega.{arith}
-use lib.ListN.{length, take, drop, length-drop}
-use lib.Seq.{take-all}
+use lib.ListN.{length, take, drop}
 use mir.Syntax.{w64}
 use mir.Val.{toZ, ofZ}
 use Rattle.whole.specs.Words.{back-of}
+use Rattle.limits.proofs.Parts.{rest-part}
 use Rattle.exact.specs.Accurate.{AccurateTrack}
 use Rattle.exact.specs.Corrected.{Given, steps}
-use Rattle.fit.specs.Found.{foundNumbers, foundIn}
+use Rattle.fit.specs.Found.{foundNumbers, foundRule}
 use Rattle.fit.specs.Packed.{packed}
 use Rattle.hire.specs.Hire.{blocksIn, blockLength, givenIn, blockGiven}
 use Rattle.hire.proofs.Lists.{groups-are, packed-is, whole-found, other-found}
@@ -37,10 +36,6 @@ n-is c = c .unsigned16 .ensures
 
 sized : (c : tie.After-unsigned16) → length (bytes (c .before .before)) ≡ blockLength (n c)
 sized c = whole (c .before) ∙ ap blockLength (sym (n-is c))
-
--- the part that is lent up to the end
-all-left : (b : List ℕ) (k m : ℕ) → length b ≡ m → take (m - k) (drop k b) ≡ drop k b
-all-left b k m e = take-all (m - k) (drop k b) (le-of-eq (length-drop k b ∙ ap (λ (i : ℕ). i - k) e))
 
 -- what Track is given is what the block has
 abbrev began : tie.After-track-packed → tie.After-unsigned16
@@ -74,12 +69,12 @@ module _ (c : tie.After-track-packed) where
       let i2 = back-of (d2 .signed642 .ok) ∙ d2 .signed642 .ensures in
       let i3 = back-of (d3 .signed643 .ok) ∙ d3 .signed643 .ensures in
       let i4 = back-of (d4 .signed644 .ok) ∙ d4 .signed644 .ensures in
-      (λ z. packed (take (e z) (drop 58 b)) (i1 z) (i2 z) (i3 z) (i4 z) (all-left b from (length b) refl z))
+      (λ z. packed (take (e z) (drop 58 b)) (i1 z) (i2 z) (i3 z) (i4 z) (rest-part b from z))
       ∙ packed-is b (n u) (sized u)
       ∙ ap (λ (k : ℕ). givenIn k b) (n-is u)
 
   count-is : length (take (length b - from) (drop from b)) / 40 ≡ blocksIn b
-  count-is = ap (λ (l : List ℕ). length l / 40) (all-left b from (length b) refl) ∙ groups-are b (n u) (sized u) ∙ n-is u
+  count-is = ap (λ (l : List ℕ). length l / 40) (rest-part b from) ∙ groups-are b (n u) (sized u) ∙ n-is u
 
 length-requires : tie.Need-length-requires
 length-requires c κs = search needs
@@ -136,7 +131,7 @@ returns-2 : tie.Need-returns-2
 returns-2 c =
     let x = c .track-packed .result in
     let t = c .track-packed .ensures in (
-      t .0 ∙ ap foundIn (given-is c) ∙ whole-found (b c) (whole (u c .before)),
+      t .0 ∙ ap foundRule (given-is c) ∙ whole-found (b c) (whole (u c .before)),
       λ z. subst (λ (G : Given). AccurateTrack steps (blocksIn (b c)) G (foundNumbers x)) (given-is c)
           (subst (λ (k : ℕ). AccurateTrack steps k (lent c) (foundNumbers x)) (count-is c) (t .1 z)),
     )

@@ -7,7 +7,7 @@ use Prim.Native.Nat.{_<_}
 use lib.ListN.{length}
 use Rattle.labels.specs.declared.Labels.{Labels}
 use Rattle.limits.specs.declared.Numbers.{Numbers}
-use Rattle.fit.specs.Found.{foundNumber, foundNumbers, foundIn}
+use Rattle.fit.specs.Found.{foundNumber, foundNumbers, foundRule}
 use Rattle.hire.specs.Hire.{blockGiven}
 use Rattle.fit.proofs.Tracks.{found-number, found-some}
 use Rattle.line.specs.Line.{lineAnswer, lineAfter}
@@ -33,7 +33,7 @@ passed : (c : tie.Else1) → sizesNumber (c .before .before .before .before .arg
 passed c = sym (c .before .sizes-refusal .ensures) ∙ c .if1 .left
 
 -- what Track finds of it
-found-is : (c : tie.After-track) → c .track .result ≡ foundIn (blockGiven (c .before .before .before .before .before .args .block .now))
+found-is : (c : tie.After-track) → c .track .result ≡ foundRule (blockGiven (c .before .before .before .before .before .args .block .now))
 found-is c = c .track .ensures .0 ∙ sizes-found _ (passed (c .before))
 
 track-requires : tie.Need-track-requires

@@ -1,20 +1,20 @@
 -- `reader::comment` meets its contract: the case of the reading tells where the comment begins.
 -- Assumes nothing.
 use mathlib.Core.Path.{_≡_, sym, ap, _∙_}
-use native.Mathlib.Nat.{le-of-eq}
 use native.Mathlib.Omega.{arith}
 use mathlib.Core.List.{List}
 use Prim.Native.Nat.{ℕ, _+_, _-_, _≤_, _<_}
-use lib.ListN.{length, take, drop, length-drop}
-use lib.Seq.{take-all}
+use lib.ListN.{length, take, drop}
 use base.Fml.{GName}
 use denote.Ref.{RefT}
+use Rattle.limits.proofs.Parts.{rest-part}
 use Rattle.reader.specs.Part.{PartFrom}
 use Rattle.reader.specs.Comment.{commentOffset}
 use Rattle.reading.specs.Read.{readNumber}
 use Rattle.reading.proofs.Refusals.{accepted}
 use Rattle.reading.proofs.Readings.{accepted-case, refused-case}
 use Rattle.reader.proofs.Comments.{offset-accepted, offset-refused}
+use Rattle.columns.specs.Text.{lineLength}
 use borrow.Author.Needs.{needs}
 use Rattle.reader.proofs.comment.Statement.{statement}
 use Rattle.reader.proofs.comment.Tie as tie
@@ -44,7 +44,7 @@ refused c = let r = c .before .before .read in refused-case _ (c .enum-told2 .gi
 read-line : (c : tie.After-enum-told) → readNumber (c .before .before .before .before .args .line .now) ≡ 0
 read-line c = accepted-case _ (c .enum-told .given .1) (c .before .before .read .ensures .0)
 
-long : (c : tie.After-enum-told) → 113 ≤ length (c .before .before .before .before .args .line .now)
+long : (c : tie.After-enum-told) → lineLength ≤ length (c .before .before .before .before .args .line .now)
 long c = accepted _ (read-line c) .0 .least
 
 -- the part that is lent from an offset on
@@ -54,7 +54,7 @@ part-at : (line : RefT (List ℕ)) (at : ℕ) (name : GName) → commentOffset (
 part-at line at name e =
     record {
       place = ap (λ (k : ℕ). (line .ptr .0, k + line .ptr .1)) (sym e);
-      bytes = take-all _ _ (le-of-eq (length-drop at (line .now))) ∙ ap (λ (k : ℕ). drop k (line .now)) (sym e);
+      bytes = rest-part (line .now) at ∙ ap (λ (k : ℕ). drop k (line .now)) (sym e);
     }
 
 returns : tie.Need-returns

@@ -2,11 +2,11 @@
 -- Assumes nothing.
 use mathlib.Core.Path.{_≡_, sym, ap, ap₂, _∙_}
 use mathlib.Core.List.{List}
-use Prim.Native.Nat.{ℕ, _-_, _≤_, _<_}
+use Prim.Native.Nat.{ℕ, _-_, _<_}
 use native.Mathlib.Omega.{arith}
 use lib.ListN.{length, take}
-use lib.Seq.{take-all}
 use Rattle.limits.proofs.Laws.{then-passed}
+use Rattle.limits.proofs.Parts.{rest-part}
 use Rattle.characters.specs.Kinds.{kinds}
 use Rattle.characters.specs.Characters.{charactersNumber}
 use Rattle.characters.proofs.Spelled.{spelled}
@@ -34,10 +34,7 @@ abbrev anew : List ℕ → List ℕ
 anew line = take (length line - 0) line
 
 same : (line : List ℕ) → anew line ≡ line
-same line = take-all _ _ (all (length line))
-  where
-    all : (n : ℕ) → n ≤ n - 0
-    all n = omega arith
+same line = rest-part line 0
 
 refusal-requires : tie.Need-refusal-requires
 refusal-requires c κs = search needs

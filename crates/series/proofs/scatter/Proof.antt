@@ -20,8 +20,8 @@ use Rattle.series.specs.Scatter.{squares, threshold, dsg, scatterRule, s
 use Rattle.series.specs.Fit.{total, moment, seriesNumber, valueLimit}
 use Rattle.series.proofs.Fitting.{values-inside, values-miscounted, values-beyond, values-pass, total-word, moment-word}
 use Rattle.series.proofs.Residuals.{squares-pos}
-use Rattle.series.proofs.Thresholds.{cap-is, dsg-greatest, greatest, dsg-below, sigma-refused, sigma-accepted}
-use Rattle.limits.proofs.Laws.{then-refused, then-passed}
+use Rattle.series.proofs.Thresholds.{cap-is, dsg-greatest, greatest, dsg-below}
+use Rattle.limits.proofs.Laws.{then-refused, then-passed, dsg-refused, dsg-accepted}
 use Rattle.limits.specs.Blocks.{blocksFit}
 use Rattle.limits.specs.Refusal.{_then_}
 use Rattle.limits.proofs.Blocks.{blocks-within}
@@ -108,7 +108,7 @@ returns-3 c =
     let least : squaresCap * n ≤ natAbs q = omega (arith, c .before .squares .ensures, c .if3 .taken) in
     let reached : threshold steps n 10000 ⩽ q = subst₂ (λ (x y : ℤ). x ⩽ y) (sym (cap-is n)) (sym (squares-pos n _)) (pos-le least) in
     let top : 9999 < dsg steps n q = greatest steps n (dsg-greatest steps n (lit< tt) (some (passed (c .before))) q) (lit< tt) reached in (
-      sym (ap (λ (k : ℕ). reply (pos 0) k (pos (dsg steps n q))) (then-passed _ _ (accepted (passed (c .before))) ∙ sigma-refused _ top)),
+      sym (ap (λ (k : ℕ). reply (pos 0) k (pos (dsg steps n q))) (then-passed _ _ (accepted (passed (c .before))) ∙ dsg-refused _ top)),
       lit< tt,
     )
 
@@ -135,7 +135,7 @@ unfolding scatterRule
 returns-4 c =
     let under : dsg steps (N (c .before .before)) (Q (c .before .before)) ≤ 9999 = rw (sigma-is c .0) at (sigma-is c .1) in (
       rw (plain-is (count-read {b = 9999} (sigma-is c .1)) tt, sigma-is c .0)
-          (sym (reply-accepted _ _ (then-passed _ _ (accepted (passed (c .before .before))) ∙ sigma-accepted _ under))),
+          (sym (reply-accepted _ _ (then-passed _ _ (accepted (passed (c .before .before))) ∙ dsg-accepted _ under))),
       tt,
     )
 

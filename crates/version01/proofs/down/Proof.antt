@@ -8,7 +8,7 @@ use native.Mathlib.Omega.{arith}
 use lib.Dec.{eqb}
 use lib.ListN.{length}
 use Rattle.limits.specs.Refusal.{_when_, _then_}
-use Rattle.limits.proofs.Laws.{then-zero, then-refused, then-passed, after-accepted, after-refused}
+use Rattle.limits.proofs.Laws.{then-zero, then-refused, then-passed, after-accepted, after-refused, room-passed}
 use Rattle.labels.specs.declared.Labels.{Labels}
 use Rattle.columns.specs.Columns.{labelsWith, readLabels}
 use Rattle.reading.specs.declared.Reading.{Reading}
@@ -16,8 +16,8 @@ use Rattle.reading.specs.Answers.{readReply}
 use Rattle.reading.specs.Read.{readNumber}
 use Rattle.reading.proofs.Readings.{accepted-case, accepted-values, refused-case, refused-number}
 use Rattle.reading.proofs.Refusals.{accepted}
-use Rattle.version01.specs.Convert.{downAnswer, downAfter}
-use Rattle.version01.proofs.Forms.{room-enough}
+use Rattle.version01.specs.Convert.{downAnswer, downAfter, oldLength}
+use Rattle.columns.specs.Text.{lineLength}
 use borrow.Author.Needs.{needs}
 use Rattle.version01.proofs.down.Statement.{statement}
 use Rattle.version01.proofs.down.Tie as tie
@@ -78,11 +78,11 @@ answer-is c =
     ∙ sym (then-passed _ _ (accepted-case line e (read .read .ensures .0)))
 
 -- an accepted line has all columns, and there is room
-accepted-is : (line : List ℕ) (room : ℕ) → downAnswer line room ≡ 0 → (113 ≤ length line) × (103 ≤ room)
+accepted-is : (line : List ℕ) (room : ℕ) → downAnswer line room ≡ 0 → (lineLength ≤ length line) × (oldLength ≤ room)
 unfolding downAnswer
 accepted-is line room e =
     let read = then-zero _ _ e in
-    (accepted line (read .0) .0 .least, room-enough room 103 (then-zero _ _ (read .1) .1))
+    (accepted line (read .0) .0 .least, room-passed room oldLength (then-zero _ _ (read .1) .1))
 
 passed : (c : tie.Then1) → let a = c .before .before .before .before .before .before .before .before .before .before .before .args in
     downAnswer (a .line .now) (length (a .old .now)) ≡ 0

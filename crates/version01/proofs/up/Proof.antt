@@ -6,13 +6,12 @@ use Prim.Native.Nat.{ℕ, _+_, _≤_}
 use native.Mathlib.Omega.{arith}
 use lib.ListN.{length, drop}
 use Rattle.limits.specs.Refusal.{_then_}
-use Rattle.limits.proofs.Laws.{then-zero, after-accepted, after-refused}
+use Rattle.limits.proofs.Laws.{then-zero, after-accepted, after-refused, room-passed}
 use Rattle.fields.specs.Text.{decimal}
-use Rattle.columns.specs.Text.{spaced}
+use Rattle.columns.specs.Text.{spaced, lineLength}
 use Rattle.characters.proofs.Spelled.{spelled}
 use Rattle.reading.specs.Old.{oldNumber}
-use Rattle.version01.specs.Convert.{formText, supplied, upText, upAnswer, upAfter}
-use Rattle.version01.proofs.Forms.{room-enough}
+use Rattle.version01.specs.Convert.{formText, supplied, upText, upAnswer, upAfter, oldLength}
 use Rattle.version01.proofs.Characters.{supplied-length}
 use borrow.Author.Needs.{needs}
 use Rattle.version01.proofs.up.Statement.{statement}
@@ -58,11 +57,11 @@ slice-aggregate-write : tie.Need-slice-aggregate-write
 slice-aggregate-write c = sym (ap length (put-behind (c .before .before)) ∙ supplied-length _ _ _ _)
 
 -- an accepted line has all columns, and there is room
-accepted-is : (hc frc1 frc2 frc3 : ℕ) (old : List ℕ) (room : ℕ) → upAnswer hc frc1 frc2 frc3 old room ≡ 0 → (101 ≤ length old) × (113 ≤ room)
+accepted-is : (hc frc1 frc2 frc3 : ℕ) (old : List ℕ) (room : ℕ) → upAnswer hc frc1 frc2 frc3 old room ≡ 0 → (101 ≤ length old) × (lineLength ≤ room)
 unfolding upAnswer oldNumber
 accepted-is hc frc1 frc2 frc3 old room e =
     let read = then-zero _ _ e in
-    (omega (arith, spelled old (then-zero _ _ (read .0) .0) .least), room-enough room 113 (read .1))
+    (omega (arith, spelled old (then-zero _ _ (read .0) .0) .least), room-passed room lineLength (read .1))
 
 passed : (c : tie.Then1) → let a = c .before .before .before .before .before .before .args in
     upAnswer (a .hc) (a .frc1) (a .frc2) (a .frc3) (a .old .now) (length (a .line .now)) ≡ 0
@@ -85,8 +84,8 @@ returns c =
     let a = t .before .before .before .before .before .before .args in (
       answer-is (t .before),
       c .before .before .write .ensures
-          ∙ ap (λ (b : List ℕ). formText 71 (a .old .now) b ++ drop (103 + length b) (a .line .now)) (put-behind put)
-          ∙ ap (λ (n : ℕ). upText (a .hc) (a .frc1) (a .frc2) (a .frc3) (a .old .now) ++ drop (103 + n) (a .line .now)) (supplied-length (a .hc) (a .frc1) (a .frc2) (a .frc3))
+          ∙ ap (λ (b : List ℕ). formText 71 (a .old .now) b ++ drop (oldLength + length b) (a .line .now)) (put-behind put)
+          ∙ ap (λ (n : ℕ). upText (a .hc) (a .frc1) (a .frc2) (a .frc3) (a .old .now) ++ drop (oldLength + n) (a .line .now)) (supplied-length (a .hc) (a .frc1) (a .frc2) (a .frc3))
           ∙ sym (after-accepted _ _ (passed t)),
     )
 

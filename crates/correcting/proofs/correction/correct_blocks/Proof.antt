@@ -22,6 +22,7 @@ use Rattle.series.specs.declared.Smoothed.{Smoothed}
 use Rattle.series.specs.Answers.{smoothReply}
 use Rattle.series.specs.Smooth.{smoothed, smoothRule}
 use Rattle.series.proofs.Replies.{smooth-cases}
+use Rattle.series.proofs.Weights.{mostSmoothed}
 use Rattle.whole.specs.Table.{at}
 use Rattle.exact.specs.Corrected.{Given, steps, block, toA, toB}
 use Rattle.correcting.specs.declared.Corrected.{Corrected}
@@ -153,7 +154,7 @@ read-most c =
 abbrev value-at : tie.At-loop Inv-loop μ-loop → ℤ
 value-at n = smoothed (λ i. at (n .before .args .measurements .now) (15 * n .loop .j + i))
 
-value-bound : (c : tie.Else1 Inv-loop μ-loop) → natAbs (value-at (c .before .before .before .before .before)) ≤ 13294117647059
+value-bound : (c : tie.Else1 Inv-loop μ-loop) → natAbs (value-at (c .before .before .before .before .before)) ≤ mostSmoothed
 value-bound c =
     let n = c .before .before .before .before .before in
     part-bound (n .before .args .measurements .now) (15 * n .loop .j) (room (c .before .before .before .before)) (inside c)

@@ -2,17 +2,17 @@
 -- Assumes nothing.
 use borrow.Author.Needs.{needs}
 use mathlib.Core.Path.{_≡_, ap, _∙_}
-use mathlib.Core.List.{[], _∷_}
 use lib.IntN.{ℤ, pos, _*ℤ_}
 use mir.Syntax.{w64}
 use mir.Val.{toZ, ofZ}
 use mir.Facts.{toZ-ofZ}
 use Rattle.whole.specs.Words.{Word, known, read, back, bound}
 use Rattle.whole.specs.Table.{at}
-use Rattle.exact.specs.Corrected.{Given, steps, toA, toB}
+use Rattle.exact.specs.Corrected.{steps, toA, toB}
 use Rattle.limits.specs.Limits.{delayLimit}
 use Rattle.limits.proofs.Lists.{within-limit}
-use Rattle.correcting.specs.Correct.{given, geometryLimit}
+use Rattle.correcting.specs.Correct.{geometryLimit}
+use Rattle.correcting.proofs.Groups.{alone}
 use Rattle.correcting.proofs.correction.corrected_at.Statement.{statement}
 use Rattle.correcting.proofs.correction.corrected_at.Tie as tie
 
@@ -75,17 +75,14 @@ corrected-requires c κs =
     )
 
 -- the equations of one block are those of its place in the columns
-abbrev one : (int cab refdly gd g r i t k : ℤ) → Given
-one int cab refdly gd g r i t k = given [] int cab refdly gd (g ∷ []) (r ∷ []) (i ∷ []) (t ∷ []) (k ∷ [])
-
 returns : tie.Need-returns
 unfolding toA toB
 returns c =
     let s = c .before .before .before .before .before .before in
     let w = words s in
     let e = c .corrected .ensures in (
-      e .0 ∙ (λ z. toA (one (back (w .1) tt z) (back (w .2) tt z) (back (w .3) tt z) (back (w .4) tt z) (back (w .5) tt z) (back (w .6) tt z) (back (w .7) tt z) (back (w .8) tt z) (back (w .9) tt z)) (pos steps) 0 (back (w .0) tt z)),
-      e .1 ∙ (λ z. toB (one (back (w .1) tt z) (back (w .2) tt z) (back (w .3) tt z) (back (w .4) tt z) (back (w .5) tt z) (back (w .6) tt z) (back (w .7) tt z) (back (w .8) tt z) (back (w .9) tt z)) (pos steps) 0 (back (w .0) tt z)),
+      e .0 ∙ (λ z. toA (alone (back (w .1) tt z) (back (w .2) tt z) (back (w .3) tt z) (back (w .4) tt z) (back (w .5) tt z) (back (w .6) tt z) (back (w .7) tt z) (back (w .8) tt z) (back (w .9) tt z)) (pos steps) 0 (back (w .0) tt z)),
+      e .1 ∙ (λ z. toB (alone (back (w .1) tt z) (back (w .2) tt z) (back (w .3) tt z) (back (w .4) tt z) (back (w .5) tt z) (back (w .6) tt z) (back (w .7) tt z) (back (w .8) tt z) (back (w .9) tt z)) (pos steps) 0 (back (w .0) tt z)),
       e .2 ∙ ap (λ (x : ℤ). pos steps *ℤ x) (back (w .8) tt),
       e .3 ∙ ap (λ (x : ℤ). pos steps *ℤ x) (back (w .7) tt),
     )

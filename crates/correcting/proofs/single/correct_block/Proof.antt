@@ -2,7 +2,6 @@
 -- Assumes nothing.
 use borrow.Author.Needs.{needs}
 use mathlib.Core.Bool.{true, false, _||_}
-use mathlib.Core.List.{[], _∷_}
 use mathlib.Core.Path.{_≡_, sym, ap, ap₂, _∙_}
 use Prim.Native.Nat.{_≤_}
 use lib.IntN.{ℤ, pos, natAbs, _*ℤ_}
@@ -14,10 +13,11 @@ use Rattle.limits.specs.Refusal.{_when_}
 use Rattle.limits.specs.Limits.{beyond, delaysBeyond, delayLimit}
 use Rattle.limits.proofs.Laws.{or-false, magnitude-within}
 use Rattle.series.specs.Fit.{valueLimit}
-use Rattle.exact.specs.Corrected.{Given, steps, toA, toB}
+use Rattle.exact.specs.Corrected.{steps, toA, toB}
 use Rattle.correcting.specs.declared.BlockValues.{BlockValues}
-use Rattle.correcting.specs.Correct.{given, geometryLimit}
+use Rattle.correcting.specs.Correct.{geometryLimit}
 use Rattle.correcting.specs.Block.{blockValues, groupBeyond, blockValuesRule}
+use Rattle.correcting.proofs.Groups.{alone}
 use Rattle.correcting.proofs.single.correct_block.Statement.{statement}
 use Rattle.correcting.proofs.single.correct_block.Tie as tie
 
@@ -62,7 +62,7 @@ unfolding blockValuesRule blockValues _when_
 others-refused y p q r s g k i t c e f = rw (e, f)
 
 accepted-is : (y p q r s g k i t c : ℤ) → groupBeyond g k i t c ≡ false → beyond valueLimit y || delaysBeyond p q r s ≡ false
-    → let G = given [] p q r s (g ∷ []) (k ∷ []) (i ∷ []) (t ∷ []) (c ∷ []) in
+    → let G = alone p q r s g k i t c in
     BlockValues.Values (toA G (pos steps) 0 y) (toB G (pos steps) 0 y) (pos steps *ℤ t) (pos steps *ℤ i) ≡ blockValuesRule y p q r s g k i t c
 unfolding blockValuesRule blockValues _when_
 accepted-is y p q r s g k i t c e f = rw (e, f)
@@ -144,9 +144,6 @@ values-fit : (c : tie.After-struct-told)
     → let v = c .before .corrected .result in SFits w64 (v .a) × SFits w64 (v .b) × SFits w64 (v .c) × SFits w64 (v .d)
 values-fit c = (search needs, search needs, search needs, search needs)
 
-abbrev one : (int cab refdly gd g r i t k : ℤ) → Given
-one int cab refdly gd g r i t k = given [] int cab refdly gd (g ∷ []) (r ∷ []) (i ∷ []) (t ∷ []) (k ∷ [])
-
 returns-3 : tie.Need-returns-3
 unfolding toA toB
 returns-3 c =
@@ -156,8 +153,8 @@ returns-3 c =
     let g = group-words l in
     let f = values-fit c in
     let e = v .corrected .ensures in
-    let a = toZ-ofZ (f .0) ∙ e .0 ∙ (λ z. toA (one (back (o .1) tt z) (back (o .2) tt z) (back (o .3) tt z) (back (o .4) tt z) (back (g .0) tt z) (back (g .1) tt z) (back (g .2) tt z) (back (g .3) tt z) (back (g .4) tt z)) (pos steps) 0 (back (o .0) tt z)) in
-    let b = toZ-ofZ (f .1) ∙ e .1 ∙ (λ z. toB (one (back (o .1) tt z) (back (o .2) tt z) (back (o .3) tt z) (back (o .4) tt z) (back (g .0) tt z) (back (g .1) tt z) (back (g .2) tt z) (back (g .3) tt z) (back (g .4) tt z)) (pos steps) 0 (back (o .0) tt z)) in
+    let a = toZ-ofZ (f .0) ∙ e .0 ∙ (λ z. toA (alone (back (o .1) tt z) (back (o .2) tt z) (back (o .3) tt z) (back (o .4) tt z) (back (g .0) tt z) (back (g .1) tt z) (back (g .2) tt z) (back (g .3) tt z) (back (g .4) tt z)) (pos steps) 0 (back (o .0) tt z)) in
+    let b = toZ-ofZ (f .1) ∙ e .1 ∙ (λ z. toB (alone (back (o .1) tt z) (back (o .2) tt z) (back (o .3) tt z) (back (o .4) tt z) (back (g .0) tt z) (back (g .1) tt z) (back (g .2) tt z) (back (g .3) tt z) (back (g .4) tt z)) (pos steps) 0 (back (o .0) tt z)) in
     let t = toZ-ofZ (f .2) ∙ e .2 ∙ ap (λ (x : ℤ). pos steps *ℤ x) (back (g .3) tt) in
     let i = toZ-ofZ (f .3) ∙ e .3 ∙ ap (λ (x : ℤ). pos steps *ℤ x) (back (g .2) tt) in
     (λ z. BlockValues.Values (a z) (b z) (t z) (i z))

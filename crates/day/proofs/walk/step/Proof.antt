@@ -8,8 +8,8 @@ use lib.Seq.{length-take-le}
 use Rattle.columns.specs.Text.{lineLength}
 use Rattle.hire.specs.Hire.{blockLabels}
 use Rattle.line.specs.Block.{blockLine}
-use Rattle.lent.proofs.Placing.{rest-part}
-use Rattle.day.specs.Day.{ownLength, numberBehind}
+use Rattle.limits.proofs.Parts.{rest-part}
+use Rattle.day.specs.Day.{ownLength, behindNumber}
 use Rattle.day.specs.Walk.{lastKeys, nextBlock}
 use Rattle.day.proofs.Walking.{next-passed, next-refused}
 use borrow.Author.Needs.{needs}
@@ -50,7 +50,7 @@ returns c =
     let j = c .before .before .before in
     let n = j .before .before .before in
     let a = n .before .before .before .before .before .args in
-    let number = j .judge-block .ensures .0 ∙ ap (numberBehind (lastKeys (a .from .count) (a .from .last))) (part-is n) in (
+    let number = j .judge-block .ensures .0 ∙ ap (behindNumber (lastKeys (a .from .count) (a .from .last))) (part-is n) in (
       ap (λ (k : ℕ). record { at = a .from .at; count = a .from .count; refusal = k; last = a .from .last }) number
           ∙ sym (next-refused (a .blocks .now) (a .from) (λ z. c .if1 .taken (number ∙ z))),
       (λ z. absurd (c .if1 .taken z), j .judge-block .ensures .1 .1),
@@ -73,7 +73,7 @@ returns-2 c =
     let j = c .before .before .before .before in
     let n = j .before .before .before in
     let a = n .before .before .before .before .before .args in
-    let number = j .judge-block .ensures .0 ∙ ap (numberBehind (lastKeys (a .from .count) (a .from .last))) (part-is n) in
+    let number = j .judge-block .ensures .0 ∙ ap (behindNumber (lastKeys (a .from .count) (a .from .last))) (part-is n) in
     let long : n .own-length .result ≡ length (nextBlock (a .blocks .now) (a .from)) =
     sym (length-take-le (n .own-length .result) (take (length (a .blocks .now) - a .from .at) (drop (a .from .at) (a .blocks .now))) (n .own-length .ensures .0))
     ∙ ap length (part-is n) in

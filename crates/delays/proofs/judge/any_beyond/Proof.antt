@@ -2,8 +2,9 @@
 -- Assumes nothing.
 use Rattle.limits.specs.Limits.{beyond, delayLimit}
 use Rattle.whole.specs.Words.{back-of}
-use Rattle.delays.proofs.Stores.{beyond-turn, beyond-done, signed-part}
+use Rattle.delays.proofs.Stores.{beyond-turn, beyond-done}
 use Rattle.decode.specs.Number.{signedAt, signedsAt}
+use Rattle.decode.proofs.Pieces.{signed-part}
 use Rattle.limits.specs.Lists.{anyBeyond}
 use native.Mathlib.Omega.{arith}
 use lib.ListN.{length}

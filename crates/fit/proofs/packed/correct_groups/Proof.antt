@@ -2,7 +2,7 @@
 -- Assumes nothing.
 use borrow.Author.Needs.{needs}
 use mathlib.Core.Path.{_≡_, refl, sym, ap, ap₂, _∙_, subst}
-use mathlib.Core.Bool.{Bool, true, false, _||_}
+use mathlib.Core.Bool.{Bool, true, false, _||_, or-true}
 use mathlib.Core.List.{List, []}
 use Prim.Native.Nat.{ℕ, _+_, _*_, _-_, _≤_, _<_}
 use native.Mathlib.Nat.{le-antisymm}
@@ -107,10 +107,6 @@ delays-left c = sym (delays-are (c .before)) ∙ c .if1 .left
 others-by : (t : Given) (p q : Bool) → Left t 0 ≡ p → delaysBeyond (t .int) (t .cab) (t .refdly) (t .gd) ≡ q → othersBeyond t ≡ p || q
 unfolding othersBeyond
 others-by t p q e f = ap₂ _||_ e f
-
-or-true : (b : Bool) → b || true ≡ true
-or-true true = refl
-or-true false = refl
 
 two : {b : Bool} → b ≡ true → 2 ≡ 2 when b
 unfolding _when_

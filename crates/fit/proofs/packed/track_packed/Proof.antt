@@ -17,7 +17,7 @@ use Rattle.limits.specs.Blocks.{blocksFit}
 use Rattle.limits.specs.Lists.{anyBeyond}
 use Rattle.limits.specs.Refusal.{_when_}
 use Rattle.limits.proofs.Blocks.{blocks-within}
-use Rattle.limits.proofs.Laws.{when-zero}
+use Rattle.limits.proofs.Laws.{when-zero, when-some}
 use Rattle.series.specs.Fit.{valueLimit}
 use Rattle.decode.specs.Number.{signedsAt}
 use Rattle.decode.proofs.Signeds.{length-signeds}
@@ -28,10 +28,11 @@ use Rattle.correcting.specs.Correct.{places, valueA, valueB, valueC, valueD, wr
 use Rattle.correcting.specs.Answer.{correctedNumber, filled, othersBeyond}
 use Rattle.correcting.proofs.Arrays.{places-length}
 use Rattle.correcting.proofs.Largest.{Inside, corrected-within}
+use Rattle.correcting.proofs.Refusals.{blocks-refused, blocks-values}
 use Rattle.fit.specs.declared.Found.{Found}
-use Rattle.fit.specs.Found.{foundNumber, foundNumbers, judgedOf, foundIn}
+use Rattle.fit.specs.Found.{foundNumber, foundNumbers, judgedRule, foundRule}
 use Rattle.fit.specs.Packed.{grouped, packed, smoothedOf}
-use Rattle.fit.proofs.Unpacked.{blocks-refused, blocks-values, smoothed-at, smoothed-inside, found-accurate, sizes-found, limits-found, judged-found, packed-blocks, unfit-sizes, miscounted-sizes, sizes-right, limits-are, a-row, b-row, c-row, d-row, packed-results}
+use Rattle.fit.proofs.Unpacked.{smoothed-at, smoothed-inside, found-accurate, sizes-found, limits-found, judged-found, packed-blocks, unfit-sizes, miscounted-sizes, sizes-right, limits-are, a-row, b-row, c-row, d-row, packed-results}
 use Rattle.fit.proofs.packed.track_packed.Statement.{statement}
 use Rattle.fit.proofs.packed.track_packed.Tie as tie
 
@@ -43,7 +44,7 @@ abbrev n : tie.Start → ℕ
 n c = length (c .args .corrections .now) / 40
 
 -- both clauses, from the answer
-both : (s : tie.Start) (x : Found) → x ≡ foundIn (g s) → (x ≡ foundIn (g s)) × (foundNumber x ≡ 0 → AccurateTrack steps (n s) (g s) (foundNumbers x))
+both : (s : tie.Start) (x : Found) → x ≡ foundRule (g s) → (x ≡ foundRule (g s)) × (foundNumber x ≡ 0 → AccurateTrack steps (n s) (g s) (foundNumbers x))
 both s x e =
     let a = s .args in (
       e,
@@ -124,15 +125,6 @@ groups-else c = smoothed-told (groups-told c) .before .before
 
 number-is : (c : tie.After-correct-groups) → c .correct-groups .result ≡ 2 when othersBeyond (others (start (groups-else c)))
 number-is c = c .correct-groups .ensures .0 ∙ ap (λ (t : Given). 2 when othersBeyond t) (same (start (groups-else c)))
-
-some : (b : Bool) {k : ℕ} → k ≡ 2 when b → (k ≡ 0 → ⊥) → (k ≡ 2) × (b ≡ true)
-unfolding _when_
-some true e h = (e, refl)
-some false e h = absurd (h e)
-
-or-true : (b : Bool) → b || true ≡ true
-or-true true = refl
-or-true false = refl
 
 -- where nothing is refused, the rows have the places of the record
 module _ (c : tie.Else3) where
@@ -242,7 +234,7 @@ returns-4 c =
     let t = groups-told w in
     let e = groups-else w in
     let s = start e in
-    let r = some (othersBeyond (others s)) (number-is w) (c .if3 .taken) in
+    let r = when-some 2 (othersBeyond (others s)) (number-is w) (c .if3 .taken) in
     both s _ (ap Found.Refused (r .0) ∙ limits-found (g s) (sizes e) (limits-by e false true (inside t) (r .1)))
 
 slice-aggregate-ten-numbers : tie.Need-slice-aggregate-ten-numbers
@@ -279,7 +271,7 @@ returns-5 c =
     let x = s t .args in
     both (s t) _
     (c .ten-numbers .ensures
-    ∙ ap judgedOf (packed-results (x .measurements .now) (x .corrections .now) (x .int) (x .cab) (x .refdly) (x .gd) (fit (e t .before)) (count (e t)) (a-is t) (b-is t) (c-is t) (d-is t))
+    ∙ ap judgedRule (packed-results (x .measurements .now) (x .corrections .now) (x .int) (x .cab) (x .refdly) (x .gd) (fit (e t .before)) (count (e t)) (a-is t) (b-is t) (c-is t) (d-is t))
     ∙ judged-found (g (s t)) (sizes (e t)) (limits-left t))
 
 pub track-packed-spec : {M : Type 1} → statement M

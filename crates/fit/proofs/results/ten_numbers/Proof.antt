@@ -19,7 +19,7 @@ use Rattle.series.specs.Answers.{scatterReply, scatterNumbered}
 use Rattle.fit.specs.declared.Found.{Found}
 use Rattle.fit.specs.declared.TrackRecord.{TrackRecord}
 use Rattle.fit.specs.Track.{recordOf, numbersWith, recordNumber}
-use Rattle.fit.specs.Found.{found, judgedOf}
+use Rattle.fit.specs.Found.{found, judgedRule}
 use Rattle.fit.proofs.Tracks.{fit-never, line-numbers}
 use Rattle.fit.proofs.results.ten_numbers.Statement.{statement}
 use Rattle.fit.proofs.results.ten_numbers.Tie as tie
@@ -44,13 +44,13 @@ start-d c = start-c (c .before .before .before .before)
 abbrev start : tie.After-known-told4 → tie.Start
 start c = start-d (c .before .before .before)
 
-refuse : (r : TrackRecord) (number : ℕ) → 0 < number → recordNumber r ≡ number → Found.Refused number ≡ judgedOf r
-unfolding judgedOf found
+refuse : (r : TrackRecord) (number : ℕ) → 0 < number → recordNumber r ≡ number → Found.Refused number ≡ judgedRule r
+unfolding judgedRule found
 refuse r zero h e = absurd (omega (arith, h))
 refuse r (suc number) h e = sym (ap (λ (k : ℕ). found k (r .numbers)) e)
 
-accept : (r : TrackRecord) → recordNumber r ≡ 0 → Found.Ten (r .numbers) ≡ judgedOf r
-unfolding judgedOf found
+accept : (r : TrackRecord) → recordNumber r ≡ 0 → Found.Ten (r .numbers) ≡ judgedRule r
+unfolding judgedRule found
 accept r e = sym (ap (λ (k : ℕ). found k (r .numbers)) e)
 
 -- the track length

@@ -8,12 +8,13 @@ use Rattle.reading.specs.Answers.{readReply}
 use Rattle.reading.proofs.Readings.{accepted-case, refused-case, refused-number}
 use Rattle.linefile.specs.Files.{columnsOf}
 use Rattle.linefile.proofs.Judging.{refused-line, read-line}
+use Rattle.columns.specs.Text.{lineLength}
 use borrow.Author.Needs.{needs}
 use Rattle.linefile.proofs.judge.line_refusal.Statement.{statement}
 use Rattle.linefile.proofs.judge.line_refusal.Tie as tie
 
 slice-aggregate-read : tie.Need-slice-aggregate-read
-slice-aggregate-read c = sym (length-take-le 113 (c .before .before .args .line .now) (omega arith))
+slice-aggregate-read c = sym (length-take-le lineLength (c .before .before .args .line .now) (omega arith))
 
 read-requires : tie.Need-read-requires
 read-requires c κs = search needs

@@ -4,7 +4,8 @@ use mathlib.Core.Path.{ap, _∙_}
 use Prim.Native.Nat.{_*_}
 use lib.ListN.{drop}
 use Rattle.lent.specs.Placed.{placedWithin}
-use Rattle.lent.proofs.Placing.{within, rest-part}
+use Rattle.limits.proofs.Parts.{rest-part}
+use Rattle.lent.proofs.Placing.{within}
 use Rattle.linefile.specs.Files.{endedLength}
 use borrow.Author.Needs.{needs}
 use Rattle.merging.proofs.walk.put_rest.Statement.{statement}

@@ -7,6 +7,7 @@ use lib.IntN.{pos}
 use lib.Ieee.{ofBits, ofInt}
 use Rattle.path.proofs.Ranges.{cast-is, within-limit, limited}
 use Rattle.path.proofs.WholeFloats.{right-of, castable}
+use Rattle.path.specs.Coordinate.{coordinateLimit}
 use Rattle.path.proofs.coordinate.millimetres.Statement.{statement}
 use Rattle.path.proofs.coordinate.millimetres.Tie as tie
 
@@ -23,7 +24,7 @@ float-to-int-result c =
 returns-2 : tie.Need-returns-2
 returns-2 c =
     let s = c .before .before in
-    limited (s .args .x) (s .pre .1) (cast-is 50000000000 (lit< tt) (s .args .x) (within-limit (s .args .x) (s .pre .1)) .0)
+    limited (s .args .x) (s .pre .1) (cast-is coordinateLimit (lit< tt) (s .args .x) (within-limit (s .args .x) (s .pre .1)) .0)
 
 pub millimetres-spec : {M : Type 1} → statement M
 millimetres-spec = tie.close (tie.spec returns float-to-int-result returns-2)

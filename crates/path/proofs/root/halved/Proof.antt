@@ -4,14 +4,14 @@ use mathlib.Core.Path.{_≡_, sym, subst, _∙_}
 use Prim.Native.Nat.{ℕ, suc, _+_, _*_, _-_, _/_, _≤_, _<_}
 use native.Mathlib.Omega.{arith}
 use borrow.Author.Tests.{leb-true, leb-false}
-use Rattle.path.specs.Wide.{number}
+use Rattle.path.specs.Wide.{wideValue}
 use Rattle.path.proofs.Roots.{square-lt, root-only}
 use Rattle.path.proofs.root.halved.Statement.{statement}
 use Rattle.path.proofs.root.halved.Tie as tie
 
 abbrev Inv-loop : tie.InvT-loop
 Inv-loop w low₀ high₀ low high =
-    (low ≤ high) × (high < 274877906944) × (low * low ≤ number w) × (number w < suc high * suc high) × (w .low < 1048576)
+    (low ≤ high) × (high < 274877906944) × (low * low ≤ wideValue w) × (wideValue w < suc high * suc high) × (w .low < 1048576)
 
 abbrev μ-loop : tie.MeasureT-loop
 μ-loop w low₀ high₀ low high = high - low
@@ -44,7 +44,7 @@ loop-less-2 c = omega arith
 loop-again-2 : tie.Need-loop-again-2 Inv-loop μ-loop
 loop-again-2 c =
     let n = c .before .before .before in
-    let w = number (n .before .args .w) in
+    let w = wideValue (n .before .args .w) in
     let below = (n .loop .low + n .loop .high) / 2 in
     let e : below + 1 ≡ suc below = omega arith in
     let past : w < (below + 1) * (below + 1) = leb-false _ _ (sym (c .before .at-most .ensures) ∙ c .if1 .left) in
@@ -54,8 +54,8 @@ returns : tie.Need-returns Inv-loop μ-loop
 returns c =
     let n = c .before in
     let e : n .loop .high ≡ n .loop .low = omega arith in (
-      root-only (number (n .before .args .w)) (n .loop .low)
-          (record { reached = n .loop .inv .2; next = subst (λ (k : ℕ). number (n .before .args .w) < suc k * suc k) e (n .loop .inv .3) }),
+      root-only (wideValue (n .before .args .w)) (n .loop .low)
+          (record { reached = n .loop .inv .2; next = subst (λ (k : ℕ). wideValue (n .before .args .w) < suc k * suc k) e (n .loop .inv .3) }),
       omega arith,
     )
 

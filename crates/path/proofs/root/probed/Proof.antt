@@ -5,7 +5,7 @@ use Prim.Native.Nat.{ℕ, suc, _*_, _-_, _<_}
 use native.Mathlib.Omega.{arith}
 use borrow.Author.Needs.{needs}
 use borrow.Author.Tests.{leb-true, leb-false}
-use Rattle.path.specs.Wide.{number}
+use Rattle.path.specs.Wide.{wideValue}
 use Rattle.path.proofs.root.probed.Statement.{statement}
 use Rattle.path.proofs.root.probed.Tie as tie
 
@@ -34,7 +34,7 @@ returns-4 c =
     record {
       small = s .pre .small;
       reached = s .pre .reached;
-      next = subst (λ (k : ℕ). number (s .args .w) < k * k) (sym e) (leb-false _ _ (sym (c .before .at-most .ensures) ∙ c .if3 .left));
+      next = subst (λ (k : ℕ). wideValue (s .args .w) < k * k) (sym e) (leb-false _ _ (sym (c .before .at-most .ensures) ∙ c .if3 .left));
       near = omega (arith, s .pre .near);
     }
 

@@ -1,17 +1,17 @@
--- `delays::judge::append_number` meets its contract: the tests are those of the rule, in its order.
+-- `delays::judge::append_refusal` meets its contract: the tests are those of the rule, in its order.
 -- Assumes nothing.
 use native.Mathlib.Numerals.{add-one}
 use Rattle.delays.specs.Append.{appendNumber}
 use mir.Facts.{toZ-ofZ}
 use borrow.Author.Needs.{needs}
-use Rattle.delays.proofs.judge.append_number.Statement.{statement}
-use Rattle.delays.proofs.judge.append_number.Tie as tie
+use Rattle.delays.proofs.judge.append_refusal.Statement.{statement}
+use Rattle.delays.proofs.judge.append_refusal.Tie as tie
 
 count-requires : tie.Need-count-requires
 count-requires c κs = search needs
 
-store-number-requires : tie.Need-store-number-requires
-store-number-requires c κs = search needs
+store-refusal-requires : tie.Need-store-refusal-requires
+store-refusal-requires c κs = search needs
 
 new-beyond-requires : tie.Need-new-beyond-requires
 new-beyond-requires c κs = search needs
@@ -70,7 +70,7 @@ returns c = let t1 = c .before .before in
       k .later .ensures,
       w1 .when .ensures,
       b .new-beyond .ensures,
-      s .store-number .ensures,
+      s .store-refusal .ensures,
       n .count .ensures .0,
       toZ-ofZ (f .int),
       toZ-ofZ (f .cab),
@@ -79,12 +79,12 @@ returns c = let t1 = c .before .before in
       add-one,
     )
 
-pub append-number-spec : {M : Type 1} → statement M
-append-number-spec =
+pub append-refusal-spec : {M : Type 1} → statement M
+append-refusal-spec =
     tie.close
     (tie.spec
     count-requires
-    store-number-requires
+    store-refusal-requires
     new-beyond-requires
     when-requires
     later-requires

@@ -1,4 +1,4 @@
--- `delays::judge::store_number` meets its contract: the tests are those of the rule, and entries are looked at where the head is right.
+-- `delays::judge::store_refusal` meets its contract: the tests are those of the rule, and entries are looked at where the head is right.
 -- Assumes nothing.
 use mathlib.Core.Path.{_≡_, refl, sym, ap, ap₂, _∙_}
 use mathlib.Core.Bool.{Bool, false, not, _||_}
@@ -14,8 +14,8 @@ use Rattle.delays.proofs.Stores.{width-times}
 use Rattle.limits.proofs.Laws.{or-false}
 use borrow.Author.Tests.{eqb-true, not-false}
 use borrow.Author.Needs.{needs}
-use Rattle.delays.proofs.judge.store_number.Statement.{statement}
-use Rattle.delays.proofs.judge.store_number.Tie as tie
+use Rattle.delays.proofs.judge.store_refusal.Statement.{statement}
+use Rattle.delays.proofs.judge.store_refusal.Tie as tie
 
 unsigned16-requires : tie.Need-unsigned16-requires
 unsigned16-requires c κs = search needs
@@ -113,8 +113,8 @@ returns-2 c =
       sym (head (t .before)) ∙ t .if1 .left,
     )
 
-pub store-number-spec : {M : Type 1} → statement M
-store-number-spec =
+pub store-refusal-spec : {M : Type 1} → statement M
+store-refusal-spec =
     tie.close
     (tie.spec
     unsigned16-requires
