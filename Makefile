@@ -103,7 +103,7 @@ beside: side-by-side archive programs cggtts shared
 	rt fmt --check
 	$(MAKE) --no-print-directory -j2 --output-sync=target ROWS=2 compared described
 
-# What is compared with the independent implementation, and what C programs and cggtts do.
+# What is compared with the independent implementation, and what C programs, cggtts and hireblock do. It takes as long as the rest beside it.
 compared:
 	$(CARGO) test --manifest-path tests/reference/Cargo.toml
 	$(CARGO) run --release --manifest-path tests/boundary/Cargo.toml
@@ -146,11 +146,11 @@ compared:
 	python3 tests/cggtts/test_words.py
 	python3 tests/cggtts/test_delays.py
 	python3 tests/cggtts/test_day.py
+	python3 tests/hireblock/test_hireblock.py
 
 # What the tools, the examples and the documents say, and what is installed.
 described:
 	tests/make.sh
-	python3 tests/hireblock/test_hireblock.py
 	python3 tests/lastdigit/test_lastdigit.py
 	python3 tests/refusals/test_refusals.py
 	python3 tests/refusals/test_retired.py

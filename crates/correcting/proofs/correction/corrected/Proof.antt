@@ -1,10 +1,13 @@
 -- `correcting::correction::corrected` meets its contract.
 -- Assumes nothing.
-use mathlib.Core.Path.{_∙_}
+use mathlib.Core.Path.{refl, _∙_}
 use mathlib.Core.List.{[], _∷_}
+use lib.IntN.{ℤ, _+ℤ_}
+use mir.Syntax.{w64}
+use mir.Val.{toZ, ofZ}
 use Rattle.whole.specs.Identity.{identity, quote}
-use Rattle.whole.specs.Words.{Word, known, fits, plain-is, bounds}
-use Rattle.exact.specs.Corrected.{toA, toB}
+use Rattle.whole.specs.Words.{Word, known, literal, read, sum-of, product-of, negation-of, fits, plain-is, bounds}
+use Rattle.exact.specs.Corrected.{toA, toB, steps}
 use Rattle.correcting.proofs.correction.corrected.Statement.{statement}
 use Rattle.correcting.proofs.correction.corrected.Tie as tie
 
@@ -69,27 +72,27 @@ mul-t19 c = let w = words c in fits (search bounds depth 26) tt
 mul-t18 : tie.Need-mul-t18
 mul-t18 c = let w = words c in fits (search bounds depth 26) tt
 
+-- a term added to what was added before
+abbrev added : {x y : ℤ} → Word x → Word y → Word (toZ w64 (ofZ w64 x) +ℤ y)
+added s w = sum-of (read s) w
+
+-- A and B as the machine adds them up; written out, as a search for both takes four seconds
 returns : tie.Need-returns
 unfolding toA toB
 returns c =
-    let p = c .pre in
     let a = c .args in
-    let w0 : Word (a .smoothed) = known (p .0 .0 .within) in
-    let w1 : Word (a .int) = known (p .0 .1 .within) in
-    let w2 : Word (a .cab) = known (p .0 .2 .within) in
-    let w3 : Word (a .refdly) = known (p .0 .3 .within) in
-    let w4 : Word (a .gd) = known (p .0 .4 .within) in
-    let w5 : Word (a .geometry) = known (p .1 .0 .within) in
-    let w6 : Word (a .relativity) = known (p .1 .1 .within) in
-    let w7 : Word (a .ionosphere) = known (p .1 .2 .within) in
-    let w8 : Word (a .troposphere) = known (p .1 .3 .within) in
-    let w9 : Word (a .clock) = known (p .1 .4 .within) in (
-      plain-is (search bounds depth 40 fits 4000) tt
+    let w = words c in
+    let ref = sum-of (literal 0 refl) (negation-of (read (w .3))) in
+    let delays = added (added (sum-of (read (w .1)) (read (w .2))) (read ref)) (read (w .4)) in
+    let off = added (added (added (added delays (read (w .5))) (negation-of (read (w .6)))) (read (w .7))) (read (w .8)) in
+    let A = sum-of (read (w .0)) (negation-of (read (product-of (literal steps refl) (read off)))) in
+    let B = added A (read (product-of (literal steps refl) (read (w .9)))) in (
+      plain-is (read A) tt
           ∙ identity (a .smoothed ∷ a .int ∷ a .cab ∷ a .refdly ∷ a .gd ∷ a .geometry ∷ a .relativity ∷ a .ionosphere ∷ a .troposphere ∷ []) (search quote depth 24 fits 4000) tt,
-      plain-is (search bounds depth 40 fits 4000) tt
+      plain-is (read B) tt
           ∙ identity (a .smoothed ∷ a .int ∷ a .cab ∷ a .refdly ∷ a .gd ∷ a .geometry ∷ a .relativity ∷ a .ionosphere ∷ a .troposphere ∷ a .clock ∷ []) (search quote depth 26 fits 4000) tt,
-      plain-is (search bounds depth 9) tt,
-      plain-is (search bounds depth 9) tt,
+      plain-is (read (product-of (literal steps refl) (read (w .8)))) tt,
+      plain-is (read (product-of (literal steps refl) (read (w .7)))) tt,
     )
 
 pub corrected-spec : {M : Type 1} → statement M
