@@ -31,12 +31,8 @@ CGGTTS=$prefix/bin/cggtts python3 tests/cggtts/test_cggtts.py >"$scratch/log" 2>
     cat "$scratch/log" >&2
     fail 'the installed cggtts'
 }
-for test in merge view words parted convert files offset delays day path version01; do
-    CGGTTS=$prefix/bin/cggtts python3 tests/cggtts/test_$test.py >"$scratch/log" 2>&1 || {
-        cat "$scratch/log" >&2
-        fail "the installed cggtts: test_$test.py"
-    }
-done
+# byte for byte what the other tests of cggtts try
+cmp target/cggtts/cggtts "$prefix/bin/cggtts" || fail 'the installed cggtts is another one'
 
 cmp examples/week.cggtts "$prefix/share/trackline/examples/week.cggtts"
 

@@ -337,7 +337,7 @@ class Refused(Scratch):
                  for satellite in ('G%02d' % number for number in range(1, 16))]
         self.assertGreater(len(lines), 40000)
         begun = time.monotonic()
-        told = 'it has MJD 51110, start %s, G15, and is the line before it once more' % lines[-1][13:19].decode()
+        told = 'it has MJD 51110, start %s, G15, and is the line before it once more' % field(lines[-1], 'STTIME').decode()
         self.refused(16, 'second:%d' % (len(lines) + 1), b''.join(lines), b''.join(lines) + lines[-1], told, advice=IN_ORDER)
         self.assertLess(time.monotonic() - begun, 30)
 

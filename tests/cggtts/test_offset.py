@@ -13,6 +13,7 @@ import sys
 import unittest
 
 from test_cggtts import MEANINGS, PROGRAM, ROOT, Scratch, run
+from papers import PLACES, field
 from test_view import pairs_of, report_of, unnoticed
 
 sys.dont_write_bytecode = True
@@ -49,7 +50,8 @@ def shifted(block, by, delay=None):
 
 def numbers(line):
     """REFSV, REFSYS, and all other columns but CK."""
-    return int(line[34:45]), int(line[53:64]), line[:34] + line[45:53] + line[64:111]
+    refsv, refsys = PLACES['REFSV'], PLACES['REFSYS']
+    return int(line[refsv]), int(line[refsys]), line[:refsv.start] + line[refsv.stop:refsys.start] + line[refsys.stop:111]
 
 
 class Shifts(Scratch):
@@ -137,7 +139,7 @@ class Examples(Shifts):
                 heard = [(10 * value + sign + cable + 5) // 10 for value, sign in zip(whole, signs)]
                 self.assertLessEqual({new - old for new, old in zip(heard, whole)}, {0} if cable == 0 else {100, 101})
                 files.append(self.lines([given[:58] + struct.pack('<60q', *4 * heard) + given[58 + 480:]]))
-            rows[cable] = [int(line[53:64]) for line in files], self.viewed(*files)[0][3]
+            rows[cable] = [int(field(line, 'REFSYS')) for line in files], self.viewed(*files)[0][3]
         self.assertEqual(rows, {0: ([0, 1], -1), 1005: ([2, 1], 1)})
 
     def test_an_offset_of_ones_own(self):

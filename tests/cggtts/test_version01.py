@@ -12,7 +12,7 @@ import re
 import unittest
 
 from publishing import HEADER, columns_of, filled, header, taken
-from papers import FIELDS, checksum, with_check
+from papers import FIELDS, checksum, field, with_check
 from test_cggtts import MEANINGS, ROOT, SAMPLE_COLUMNS, SAMPLE_LINE, Scratch, WORKED_LINE, line_with, run
 from test_convert import counts, expected, named, published
 from test_merge import ended, sorted_lines
@@ -400,7 +400,7 @@ class Converted(Scratch):
         status, output, errors = run('read', path, '--csv')
         self.assertEqual((status, errors, output.count(b'\n')), (0, '', len(lines) + 1))
         self.assertEqual(run('merge', path, '/dev/null'), (0, b''.join(lines), ''))
-        shifted = [with_check(line.decode()[:53] + '%+011d' % (int(line[53:64]) + 7) + line.decode()[64:111]).encode() + b'\r\n' for line in lines]
+        shifted = [with_check(line.decode()[:53] + '%+011d' % (int(field(line, 'REFSYS')) + 7) + line.decode()[64:111]).encode() + b'\r\n' for line in lines]
         status, output, errors = run('view', path, self.kept('shifted', b''.join(shifted)))
         self.assertEqual((status, errors), (0, ''))
         self.assertRegex(output.decode(), r'pairs +%d\n +sum +-%d x 0.1 ns\n +smallest +-7 x .*\n +largest +-7 x ' % (len(lines), 7 * len(lines)))

@@ -19,13 +19,13 @@ import xml.etree.ElementTree as tree
 from fractions import Fraction
 
 from test_cggtts import MEANINGS, PROGRAM, ROOT, SIGNAL_IN_WRITE, Scratch, run
-from papers import field, second_of, starts
+from papers import RANGES, field, second_of, starts
 from test_merge import AS_OURS, IN_ORDER, NO_HEADER, advised, by_keys, ended
 
 FIRST, SECOND = ('examples/roof-%s.cggtts' % name for name in 'ab')
 ROOF = [(ROOT / name).read_bytes() for name in (FIRST, SECOND)]
 SVG = '{http://www.w3.org/2000/svg}'
-MOST = 9999999999
+MOST = RANGES['REFSYS'][1]
 # what plotting programs skip
 HEAD = ('# MJD start satellite difference/0.1ns MJD-with-fraction ELV-1 ELV-2 DSG-1 DSG-2 FRC-1 FRC-2 TRKL REFSYS-1 '
         'REFSYS-2\n')
@@ -226,7 +226,7 @@ class Rows(Scratch):
         times = [float(row[4]) for row in rows]
         self.assertEqual(times, sorted(times))
         for row, time in zip(rows, times):
-            minutes = 60 * int(row[1][:2]) + int(row[1][2:4])
+            minutes = second_of(row[1]) // 60
             self.assertAlmostEqual(time, int(row[0]) + minutes / 1440, delta=6e-7)
 
     def test_the_last_minutes_of_a_date(self):
@@ -283,7 +283,7 @@ class Pictures(Scratch):
             (v1, p1), (v2, p2) = ticks[0], ticks[-1]
             scales.append(lambda value, v1=v1, p1=p1, v2=v2, p2=p2: p1 + float((value - v1) / (v2 - v1)) * (p2 - p1))
         for (x, y), (mjd, clock, _, difference) in zip(self.points(picture), sorted(pairs, key=lambda pair: pair[2][0])):
-            day = Fraction(60 * int(clock[:2]) + int(clock[2:4]), 1440)
+            day = Fraction(second_of(clock) // 60, 1440)
             self.assertAlmostEqual(x, scales[0](mjd + day), delta=0.25)
             self.assertAlmostEqual(y, scales[1](Fraction(difference, 10)), delta=0.25)
 

@@ -69,7 +69,8 @@ class Tables(Scratch):
 
     def row(self, name, number, line, comment=''):
         """By the columns of the line itself."""
-        return [str(name), str(number), line[0], str(int(line[1:3])), str(int(line[4:6], 16)), line[7:12], str(second_of(line[13:19])),
+        return [str(name), str(number), line[0], str(int(field(line, 'SAT'))), str(int(field(line, 'CL'), 16)), field(line, 'MJD'),
+                str(second_of(field(line, 'STTIME'))),
                 *(str(int(field(line, column))) for column, _, _ in FIELDS[4:19]), field(line, 'FRC'), comment]
 
     def test_a_table(self):

@@ -22,7 +22,8 @@ from papers import FIELDS, LENGTHS, checksum, is_start, line_of, ranges_of, seco
 BENCH = HERE.parent.parent / 'crates' / 'bench'
 TESTS = HERE.parent.parent / 'docs' / 'evidence' / 'tests.md'
 NAMES = [name for name, _, _ in FIELDS] + ['CK']
-# what the reader takes columns 1 to 111 for, and what it does not take though each character is allowed
+# what the reader takes columns 1 to 111 for, and what it does not take though each character is allowed;
+# written by hand, so that a wrong papers.py is noticed
 COLUMNS = re.compile('[GRECJ]d{2} [0-9A-F]{2} d{5} d{6} d{4} d{3} d{4} sd{10} sd{5} sd{10} sd{5} d{4} d{3} d{4} sd{3} d{4} '
                      'sd{3} d{2} d{2} [A-Z0-9]{3} '.replace('d', '[0-9]').replace('s', '[+-]'))
 MINUS_ZERO = re.compile('-0+ ')

@@ -17,8 +17,9 @@ PROGRAM = ROOT / 'target' / 'bin' / 'trackline'
 CGGTTS = ROOT / 'target' / 'cggtts' / 'cggtts'
 
 sys.dont_write_bytecode = True
-sys.path.insert(0, str(ROOT / 'tools'))
+sys.path[:0] = [str(ROOT / 'tests'), str(ROOT / 'tools')]
 from loading import loaded  # noqa: E402
+from papers import second_of  # noqa: E402
 
 hireblock = loaded('hireblock')
 
@@ -355,7 +356,7 @@ class Starts(unittest.TestCase):
         """The minutes that cggtts starts prints."""
         rows = subprocess.run([CGGTTS, 'starts', str(mjd)], stdout=subprocess.PIPE, check=True).stdout.decode().split()
         self.assertTrue(all(row[4:] == '00' for row in rows))
-        return [60 * int(row[:2]) + int(row[2:4]) for row in rows]
+        return [second_of(row) // 60 for row in rows]
 
     def test_the_card_s_rule(self):
         self.assertEqual(self.anchor[-1], 23 * 60 + 30)

@@ -16,6 +16,7 @@ import unittest
 ROOT = pathlib.Path(__file__).resolve().parent.parent.parent
 sys.path.insert(0, str(ROOT / 'tests'))
 from blocks import CHANGED_LINE, SAMPLE_LINE, SHORT_LINE, WORKED_LINE, block, line, scattered  # noqa: E402
+from papers import field  # noqa: E402
 
 PROGRAM = os.environ.get('TRACKLINE', str(ROOT / 'target' / 'bin' / 'trackline'))
 
@@ -93,9 +94,9 @@ class Trackline(unittest.TestCase):
             self.refused(5, block(groups=n, troposphere=[-51] * n))
         for n in (4, 48):
             self.refused(6, block(groups=n, clock=scattered(999950, n)))
-            self.assertEqual(printed(block(groups=n, clock=scattered(999949, n)))[72:76], b'9999')
+            self.assertEqual(field(printed(block(groups=n, clock=scattered(999949, n))), 'DSG'), b'9999')
             for size, dsg in ((49, b'0000'), (50, b'0001'), (149, b'0001'), (150, b'0002')):
-                self.assertEqual(printed(block(groups=n, clock=scattered(size, n)))[72:76], dsg)
+                self.assertEqual(field(printed(block(groups=n, clock=scattered(size, n))), 'DSG'), dsg)
 
     def test_limits(self):
         for part, limit in (('INT', 10 ** 10), ('CAB', 10 ** 10), ('REF', 10 ** 10), ('GD', 10 ** 10),
@@ -163,7 +164,7 @@ class Trackline(unittest.TestCase):
         clock = [0] * 52
         clock[25] = 7 * 10 ** 6
         # the line's level takes 1 / 52 of it off, its slope next to nothing: 51 / 52 of 7^2 / 52 us^2 are 961346 ps squared
-        self.assertEqual(printed(block(clock=clock))[72:76], b'9613')
+        self.assertEqual(field(printed(block(clock=clock)), 'DSG'), b'9613')
 
     def test_labels(self):
         for part, value in (('constellation', ord('S')), ('constellation', 0), ('constellation', ord('R')),

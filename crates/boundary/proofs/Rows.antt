@@ -3,36 +3,24 @@
 use mathlib.Core.Path.{_≡_, sym, ap, ap₂, _∙_}
 use mathlib.Core.List.{List}
 use Prim.Native.Nat.{ℕ, _<_}
+use native.Mathlib.Nat.{ne-of-gt}
 use native.Mathlib.Omega.{arith}
 use lib.Dec.{ltb}
 use lib.IntN.{ℤ}
 use lib.ListN.{length}
-use Rattle.limits.specs.Refusal.{_when_, _then_, after}
-use Rattle.limits.proofs.Laws.{then-refused, then-passed, after-refused}
+use Rattle.limits.specs.Refusal.{_when_, _then_}
+use Rattle.limits.proofs.Laws.{then-refused, then-passed, after-refused, lent-kept}
 use Rattle.boundary.specs.Values.{rowAfter, refusedAfter}
 
 -- a refusal leaves the row as it was lent
 pub row-kept : (answer : ℕ) (values lent : List ℤ) → 0 < answer → rowAfter answer values lent ≡ lent
 unfolding rowAfter
-row-kept answer values lent h = after-refused _ lent some
-  where
-    some : answer ≡ 0 → ⊥
-    some e = omega arith
-
--- and a single place too
-pub place-kept : {A : Type 0} (answer : ℕ) (value lent : A) → 0 < answer → lent ≡ after answer value lent
-place-kept answer value lent h = sym (after-refused value lent some)
-  where
-    some : answer ≡ 0 → ⊥
-    some e = omega arith
+row-kept answer values lent h = after-refused _ lent (ne-of-gt h)
 
 -- what a refusal names is put
 pub place-named : (answer lent : ℕ) {value named : ℕ} → named ≡ value → 0 < answer → named ≡ refusedAfter answer value lent
 unfolding refusedAfter
-place-named answer lent e h = e ∙ sym (after-refused lent _ some)
-  where
-    some : answer ≡ 0 → ⊥
-    some e = omega arith
+place-named answer lent e h = e ∙ lent-kept answer lent _ h
 
 -- a refusal is answered before the room is looked at
 pub row-refused : (number : ℕ) (values lent : List ℤ) {answer : ℕ} → answer ≡ number → 0 < answer

@@ -1,4 +1,5 @@
--- The places that a C caller lends for numbers, and what stands in them afterwards (include/trackline.h).
+-- The places that a C caller lends for numbers, and what stands in them afterwards (include/trackline.h). That 9 is answered where they are too few
+-- is ours: the papers name no such row.
 -- Assumes nothing.
 use Prim.Native.Nat.{ℕ}
 use mathlib.Core.Bool.{cond}

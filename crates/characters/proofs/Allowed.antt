@@ -8,10 +8,10 @@ use Prim.Native.Nat.{ℕ, zero, suc, _+_, _≤_, _<_, suc-le-suc}
 use native.Mathlib.Nat.{not-suc-le-zero, le-of-suc-le-suc}
 use native.Mathlib.Numerals.{add-one}
 use native.Mathlib.Omega.{arith}
-use lib.Dec.{leb, eqb}
+use lib.Dec.{leb, eqb, lit<}
 use lib.ListN.{length, take, drop, getD, drop-of-length-le}
 use lib.Seq.{drop-cons}
-use borrow.Author.Tests.{leb-true}
+use borrow.Author.Tests.{leb-true, eqb-true}
 use Rattle.limits.proofs.Laws.{both, either}
 use Rattle.fields.proofs.Decimals.{Digit}
 use Rattle.fields.proofs.Hexadecimals.{HexDigit}
@@ -55,6 +55,21 @@ digit-range b e = within-true 48 57 b (sym (digit-is b) ∙ e)
 pub hex-range : (b : ℕ) → allows 70 b ≡ true → HexDigit b
 hex-range b e =
     either (within 48 57 b) (within 65 70 b) (sym (hexadecimal-is b) ∙ e) (λ t. inl (within-true 48 57 b t)) (λ t. inr (within-true 65 70 b t))
+
+-- the letter is that of a constellation, so it is a byte
+pub letter-bound : (b : ℕ) → letterFits b ≡ true → b < 256
+unfolding letterFits
+letter-bound b e =
+    either _ (eqb b 74) e
+    (λ f. either _ (eqb b 67) f
+    (λ g. either _ (eqb b 69) g
+    (λ h. either (eqb b 71) (eqb b 82) h (is 71 (lit< tt)) (is 82 (lit< tt)))
+    (is 69 (lit< tt)))
+    (is 67 (lit< tt)))
+    (is 74 (lit< tt))
+  where
+    is : (n : ℕ) → n < 256 → eqb b n ≡ true → b < 256
+    is n h e = omega (arith, eqb-true b n e)
 
 -- ---- parts of a line
 

@@ -3,25 +3,18 @@
 use mathlib.Core.Path.{_≡_, sym, ap, ap₂, _∙_}
 use mathlib.Core.Bool.{true, _&&_}
 use mathlib.Core.List.{List, [], _∷_, _++_}
-use Prim.Native.Nat.{ℕ, suc, _+_, _-_, _/_, _≤_, _<_}
+use Prim.Native.Nat.{ℕ, suc, _+_, _-_, _/_, _≤_}
 use native.Mathlib.Omega.{arith}
 use lib.Dec.{eqb}
-use lib.ListN.{length, take, drop, getD}
-use lib.Seq.{take-add, take-at, drop-at, drop-cons, getD-drop}
+use lib.ListN.{length, take, getD}
+use lib.Seq.{take-add, take-at, drop-at, getD-drop}
 use borrow.Author.Tests.{eq-eqb, eqb-true}
 use Rattle.limits.proofs.Laws.{both}
 use Rattle.fields.specs.Text.{hexDigit, hexadecimal, checksum}
+use Rattle.fields.proofs.Lists.{two-bytes}
 use Rattle.columns.specs.Text.{withCheck}
 use Rattle.columns.specs.Columns.{byteIn}
 use Rattle.characters.specs.Kinds.{checked}
-
--- ---- single bytes of a line
-
-pub next-byte : (n at : ℕ) (line : List ℕ) → at < length line → take (suc n) (drop at line) ≡ getD line at 0 ∷ take n (drop (suc at) line)
-next-byte n at line h = ap (take (suc n)) (drop-cons line at 0 h)
-
-pub two-bytes : (at : ℕ) (line : List ℕ) → suc at < length line → take 2 (drop at line) ≡ getD line at 0 ∷ getD line (suc at) 0 ∷ []
-two-bytes at line h = next-byte 1 at line (omega arith) ∙ ap (λ (t : List ℕ). getD line at 0 ∷ t) (next-byte 0 (suc at) line h)
 
 -- the places of CK, counted from 0
 place : (n : ℕ) → n + 1 - 1 ≡ n + 0

@@ -1,17 +1,20 @@
--- The columns of the single spaces and the letters of the constellations, which stand in tables of their own, are those that `kinds` pictures.
+-- The columns of the single spaces and the letters of the constellations, which stand in tables of their own, are those that `kinds` pictures,
+-- and a line of these kinds has as many columns as it pictures.
 -- Assumes nothing.
 use mathlib.Core.Path.{_≡_, refl, sym, ap, _∙_, subst}
 use mathlib.Core.Bool.{Bool, true, cond, _&&_, _||_, or-true}
 use mathlib.Core.List.{List, [], _∷_}
-use Prim.Native.Nat.{ℕ, suc}
+use Prim.Native.Nat.{ℕ, suc, _≤_}
 use Prim.Native.Char.{code}
 use lib.Dec.{leb, eqb}
+use lib.ListN.{length}
 use borrow.Author.Tests.{eqb-true}
 use Rattle.limits.proofs.Laws.{both, either}
 use Rattle.fields.specs.Text.{bytesOf}
 use Rattle.labels.specs.Labels.{constellationFits}
 use Rattle.columns.specs.Columns.{spaceColumns}
-use Rattle.characters.specs.Kinds.{letterFits, kinds}
+use Rattle.characters.specs.Kinds.{letterFits, kinds, allowed}
+use Rattle.characters.proofs.Allowed.{allowed-length}
 
 -- The columns of one kind among some, the first of which is given.
 abbrev pub columnsWith : (kind column : ℕ) → List ℕ → List ℕ
@@ -21,6 +24,11 @@ columnsWith kind column (k ∷ rest) = cond (eqb k kind) (column ∷ columnsWith
 pub spaces-pictured : columnsWith (code " ") 1 kinds ≡ spaceColumns
 unfolding kinds bytesOf spaceColumns
 spaces-pictured = refl
+
+-- each column that is pictured is there
+pub column-count : (line : List ℕ) → allowed kinds line ≡ true → 111 ≤ length line
+unfolding kinds bytesOf
+column-count line e = allowed-length kinds line e
 
 -- Every letter that a column may hold has ranges of IOE and FR: IOE 1 is in all of them, FR is 1 for R and 0 for the others.
 pub letter-has-ranges : (letter : ℕ) → letterFits letter ≡ true → constellationFits letter 1 (cond (eqb letter (code "R")) 1 0) ≡ true

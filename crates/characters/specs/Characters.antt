@@ -6,7 +6,7 @@ use mathlib.Core.List.{List}
 use lib.Dec.{ltb}
 use lib.ListN.{length, drop}
 use Rattle.limits.specs.Refusal.{_when_, _then_}
-use Rattle.characters.specs.Kinds.{allowed, printable, checked}
+use Rattle.characters.specs.Kinds.{kinds, oldKinds, allowed, printable, checked}
 
 -- What the characters are refused for, where so many columns of these kinds stand before CK. 12: the length. 14: CK. 13: a character that is
 -- not allowed in its column, or in the comment behind CK.
@@ -16,3 +16,10 @@ charactersNumber columns longest kinds line =
     then 14 when not (checked columns line)
     then 13 when not (allowed kinds line)
     then 13 when not (printable (drop (columns + 2) line))
+
+-- The same of a line of ours, with 111 columns before CK and a comment up to column 140 (Job 1). Of an old one these are 101 and 128 (Job 12).
+abbrev pub ourCharactersNumber : List ℕ → ℕ
+ourCharactersNumber line = charactersNumber 111 140 kinds line
+
+abbrev pub oldCharactersNumber : List ℕ → ℕ
+oldCharactersNumber old = charactersNumber 101 128 oldKinds old

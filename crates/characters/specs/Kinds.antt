@@ -14,7 +14,8 @@ use Rattle.columns.specs.Columns.{byteIn}
 abbrev pub within : (low high byte : ℕ) → Bool
 within low high byte = leb low byte && leb byte high
 
--- The letters of the constellations. Each has ranges by `constellationFits` (law `letter-has-ranges` of proofs/Picture.antt).
+-- The letters of the constellations. Each has ranges by `constellationFits`, and no other letter has (laws `letter-has-ranges` and `letter-fits` of
+-- proofs/Picture.antt).
 unfoldable pub letterFits : ℕ → Bool
 letterFits b =
     eqb b (code "G") || eqb b (code "R") || eqb b (code "E") || eqb b (code "C") || eqb b (code "J")

@@ -9,7 +9,7 @@ ghost use mathlib.Core.List.{_∷_};
 ghost use lib.ListN.{length, take, drop};
 ghost use Rattle.limits.specs.Refusal.{_when_, _then_};
 ghost use Rattle.characters.specs.Kinds.{within, letterFits, allows, kinds, oldKinds, allowed, printable, checked};
-ghost use Rattle.characters.specs.Characters.{charactersNumber};
+ghost use Rattle.characters.specs.Characters.{ourCharactersNumber, oldCharactersNumber};
 use limits::then;
 use limits::when;
 
@@ -149,7 +149,7 @@ fn kinds_fit(old: bool, line: &[u8]) -> bool
 
 // 12, 14 and 13 of a line of ours.
 pub fn refusal(line: &[u8]) -> u32
-    ensures { λ r. ⌜ r ≡ charactersNumber 111 140 kinds (now (line .entry)) ⌝ }
+    ensures { λ r. ⌜ r ≡ ourCharactersNumber (now (line .entry)) ⌝ }
 {
     let frame = frame_refusal(COLUMNS, LONGEST, line);
     if frame != 0 {
@@ -160,7 +160,7 @@ pub fn refusal(line: &[u8]) -> u32
 
 // The same of an old line, whose first column is blank.
 pub fn old_refusal(old: &[u8]) -> u32
-    ensures { λ r. ⌜ r ≡ charactersNumber 101 128 oldKinds (now (old .entry)) ⌝ }
+    ensures { λ r. ⌜ r ≡ oldCharactersNumber (now (old .entry)) ⌝ }
 {
     let frame = frame_refusal(OLD_COLUMNS, OLD_LONGEST, old);
     if frame != 0 {

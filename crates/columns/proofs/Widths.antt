@@ -1,9 +1,10 @@
--- The columns' widths, and where a column stands in the text.
+-- The columns' widths, where a column stands in the text, and how wide a field is.
 -- Assumes nothing.
 use mathlib.Core.Path.{_≡_, refl, sym, ap, ap₂, _∙_}
 use mathlib.Core.List.{List, [], _∷_, _++_, append-assoc}
-use Prim.Native.Nat.{ℕ, zero, suc, _+_, _/_, _%_, _<_}
+use Prim.Native.Nat.{ℕ, zero, suc, _+_, _-_, _/_, _%_, _≤_, _<_}
 use native.Mathlib.Nat.{not-suc-le-zero, le-of-suc-le-suc}
+use native.Mathlib.Omega.{arith}
 use lib.ListN.{length, take, drop, getD, length-append}
 use lib.Seq.{take-at, drop-append-add}
 use lib.IntN.{ℤ}
@@ -12,6 +13,7 @@ use Rattle.fields.proofs.Laws.{length-decimal, length-signed, length-hexadecima
 use Rattle.labels.specs.declared.Labels.{Labels}
 use Rattle.limits.specs.declared.Numbers.{Numbers}
 use Rattle.columns.specs.Text.{lineLength, timeOfDay, trackColumns, clockColumns, delayColumns, columns, spaced, lineText}
+use Rattle.columns.specs.Columns.{field}
 
 pub length-time : (second : ℕ) → length (timeOfDay second) ≡ 6
 unfolding timeOfDay
@@ -116,3 +118,11 @@ unfolding lineText
 line-width l n =
     length-append (spaced (columns l n)) (hexadecimal (checksum (spaced (columns l n))))
     ∙ ap₂ _+_ (columns-width l n) (length-hexadecimal _)
+
+-- a field has as many columns as its numbers say
+pub field-is : (first last : ℕ) (line : List ℕ) → 1 ≤ first → take (last - (first - 1)) (drop (first - 1) line) ≡ field first last line
+unfolding field
+field-is first last line h = ap (λ (n : ℕ). take n (drop (first - 1) line)) (counted first last h)
+  where
+    counted : (first last : ℕ) → 1 ≤ first → last - (first - 1) ≡ last + 1 - first
+    counted first last h = omega arith

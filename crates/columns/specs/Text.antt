@@ -1,7 +1,7 @@
 -- The text of a line (document 01, "The line's columns"): the columns one after the other, each ended by a single space, and the checksum
 -- of all that in the last two. It is a line only where labels and numbers are accepted.
 -- Assumes nothing.
-use Prim.Native.Nat.{ℕ, _/_, _%_}
+use Prim.Native.Nat.{ℕ, _+_, _/_, _%_}
 use Prim.Native.Char.{code}
 use mathlib.Core.List.{List, [], _∷_, _++_}
 use lib.IntN.{ℤ, natAbs}
@@ -16,6 +16,10 @@ lineLength = 113
 -- What ends a line in a file and in print: carriage return and line feed.
 abbrev pub lineEnd : List ℕ
 lineEnd = 13 ∷ 10 ∷ []
+
+-- A line's length with that: 115 bytes (document 02, Job 5).
+abbrev pub endedLength : ℕ
+endedLength = lineLength + 2
 
 -- A second of the day as hhmmss.
 unfoldable pub timeOfDay : ℕ → List ℕ

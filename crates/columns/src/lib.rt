@@ -11,6 +11,9 @@ mod put;
 // A line's length in bytes.
 pub const LINE_LENGTH: usize = 113;
 
+// The same with carriage return and line feed.
+pub const ENDED_LENGTH: usize = LINE_LENGTH + 2;
+
 // Puts the line into the first 113 of the lent bytes, where there are as many. The columns are written where they stay: made apart and then
 // copied, a line takes longer by a sixth.
 pub fn write(labels: Labels, numbers: Numbers, lent: &mut [u8])

@@ -72,6 +72,13 @@ pub filled-more : (f : ℕ → ℤ) (row l : List ℤ) (j : ℕ) {z : ℤ} → l
 unfolding filled
 filled-more f row l j so-far e = ap₂ (λ (k : List ℤ) (x : ℤ). set k j x) so-far e ∙ ap (λ (k : ℕ). filled k f row) (sym (add-one j))
 
+-- two rows that are filled alike
+pub filled-alike : (n : ℕ) (f f' : ℕ → ℤ) (row : List ℤ) → ((j : ℕ) → j < n → f j ≡ f' j) → filled n f row ≡ filled n f' row
+unfolding filled
+filled-alike zero f f' row h = refl
+filled-alike (suc n) f f' row h =
+    ap₂ (λ (k : List ℤ) (z : ℤ). set k n z) (filled-alike n f f' row (λ j k. h j (omega arith))) (h n (omega arith))
+
 -- a row of 52 that held 0 throughout has the places of a record
 pub filled-places : (n : ℕ) (f : ℕ → ℤ) → n ≤ 52 → filled n f (replicate 52 (pos 0)) ≡ places n f
 unfolding filled

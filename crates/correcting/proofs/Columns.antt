@@ -4,26 +4,20 @@ use mathlib.Core.Path.{_≡_, refl, ap₂, _∙_}
 use mathlib.Core.Bool.{Bool, true, false, _||_}
 use mathlib.Core.List.{List, [], _∷_}
 use Prim.Native.Nat.{ℕ, suc, _+_, _≤_, _<_}
-use native.Mathlib.Numerals.{add-one}
 use native.Mathlib.Omega.{arith}
 use lib.IntN.{ℤ, pos}
 use lib.ListN.{length, drop, getD, drop-of-length-le}
-use lib.Seq.{drop-cons}
 use Rattle.correcting.specs.Correct.{geometryLimit}
 use Rattle.correcting.specs.Block.{groupBeyond}
 use Rattle.limits.specs.Limits.{beyond, delayLimit}
 use Rattle.limits.specs.Lists.{anyOutside, anyBeyond}
+use Rattle.limits.proofs.Lists.{any-from}
 
 -- whether a row from row j on has a correction beyond its limit
 abbrev pub From : (g r i t k : List ℤ) → ℕ → Bool
 From g r i t k j =
     anyBeyond geometryLimit (drop j g) || anyBeyond delayLimit (drop j r) || anyBeyond delayLimit (drop j i) || anyBeyond delayLimit (drop j t)
     || anyBeyond delayLimit (drop j k)
-
--- of one column
-step : (limit : ℕ) (l : List ℤ) (j : ℕ) → j < length l → anyBeyond limit (drop j l) ≡ beyond limit (getD l j (pos 0)) || anyBeyond limit (drop (j + 1) l)
-unfolding anyOutside
-step limit l j h = rw (add-one, drop-cons l j (pos 0) h)
 
 mix : (a x b y : Bool) → (a || x) || (b || y) ≡ (a || b) || (x || y)
 mix true x b y = refl
@@ -45,7 +39,7 @@ module _ (g r i t k : List ℤ) (same : (length r ≡ length g) × (length i ≡
       let t' : j < length t = omega (arith, same) in
       let k' : j < length k = omega (arith, same) in
       ap₂ _||_
-      (ap₂ _||_ (ap₂ _||_ (ap₂ _||_ (step geometryLimit g j h) (step delayLimit r j r')) (step delayLimit i j i')) (step delayLimit t j t')) (step delayLimit k j k')
+      (ap₂ _||_ (ap₂ _||_ (ap₂ _||_ (any-from _ _ g j h) (any-from _ _ r j r')) (any-from _ _ i j i')) (any-from _ _ t j t')) (any-from _ _ k j k')
       ∙ all (beyond geometryLimit (getD g j (pos 0))) (beyond delayLimit (getD r j (pos 0))) (beyond delayLimit (getD i j (pos 0)))
       (beyond delayLimit (getD t j (pos 0))) (beyond delayLimit (getD k j (pos 0))) (anyBeyond geometryLimit (drop (j + 1) g))
       (anyBeyond delayLimit (drop (j + 1) r)) (anyBeyond delayLimit (drop (j + 1) i)) (anyBeyond delayLimit (drop (j + 1) t))

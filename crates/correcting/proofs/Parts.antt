@@ -1,55 +1,25 @@
--- The limit test on a list, part by part (specs/Scan.antt of limits): where the first k numbers are inside, the rest tells; else they do.
+-- The limit test on a track's measurements, block by block (specs/Scan.antt of limits): where the first blocks are inside, the rest tells; else they do.
 -- Assumes nothing.
 use mathlib.Core.Path.{_≡_, refl, sym, ap, _∙_}
-use mathlib.Core.Bool.{Bool, true, false, true≢false, cond, _||_}
+use mathlib.Core.Bool.{true, false}
 use mathlib.Core.List.{List, [], _∷_}
 use Prim.Native.Nat.{ℕ, zero, suc, zero-le, suc-le-suc, _+_, _*_, _/_, _≤_, _<_}
-use native.Mathlib.Nat.{zero-add, le-trans, min-le-right, not-suc-le-zero, le-of-suc-le-suc}
+use native.Mathlib.Nat.{zero-add, le-trans, min-le-right}
 use native.Mathlib.Omega.{arith}
 use lib.IntN.{ℤ}
 use lib.ListN.{length, take, drop, length-drop, drop-of-length-le}
 use lib.Seq.{length-take-le, drop-drop}
-use Rattle.limits.specs.Limits.{outside}
 use Rattle.limits.specs.Lists.{anyOutside}
 use Rattle.limits.specs.Scan.{firstOutside, readTo}
-use Rattle.limits.proofs.Laws.{or-false}
 use Rattle.limits.specs.Refusal.{_when_}
 use Rattle.correcting.specs.declared.Corrected.{Corrected}
-use Rattle.correcting.specs.Answer.{corrected, least, most, wholeBlocks, blocksRule}
-use Rattle.limits.proofs.Scans.{first-outside, read-first, read-all, none-outside}
-
-module _ (low high : ℤ) where
-  -- the first k numbers are inside
-  inside : (k : ℕ) (l : List ℤ) → k ≤ length l → anyOutside low high (take k l) ≡ false
-      → (anyOutside low high l ≡ anyOutside low high (drop k l)) × (firstOutside low high l ≡ k + firstOutside low high (drop k l))
-  unfolding anyOutside firstOutside
-  inside zero l h e = (refl, sym (zero-add _))
-  inside (suc k) [] h e = absurd (not-suc-le-zero h)
-  inside (suc k) (z ∷ l) h e =
-      let o = or-false (outside low high z) (anyOutside low high (take k l)) e in
-      let r = inside k l (le-of-suc-le-suc h) (o .1) in
-      (ap (λ (b : Bool). b || anyOutside low high l) (o .0) ∙ r .0, ap (λ (b : Bool). cond b 0 (suc (firstOutside low high l))) (o .0) ∙ ap suc (r .1) ∙ omega arith)
-
-  -- one of them is outside
-  beyond : (k : ℕ) (l : List ℤ) → anyOutside low high (take k l) ≡ true
-      → (anyOutside low high l ≡ true) × (firstOutside low high l ≡ firstOutside low high (take k l))
-  unfolding anyOutside firstOutside
-  beyond zero l e = absurd (true≢false (sym e))
-  beyond (suc k) [] e = absurd (true≢false (sym e))
-  beyond (suc k) (z ∷ l) e = by (outside low high z) (beyond k l) e
-    where
-      by : (b : Bool) → (anyOutside low high (take k l) ≡ true → (anyOutside low high l ≡ true) × (firstOutside low high l ≡ firstOutside low high (take k l)))
-          → b || anyOutside low high (take k l) ≡ true
-          → (b || anyOutside low high l ≡ true)
-          × (cond b 0 (suc (firstOutside low high l)) ≡ cond b 0 (suc (firstOutside low high (take k l))))
-      by true r e = (refl, refl)
-      by false r e = (r e .0, ap suc (r e .1))
-
--- ---- block by block
+use Rattle.limits.specs.Limits.{measurementLeast, measurementMost}
+use Rattle.correcting.specs.Answer.{corrected, wholeBlocks, measurementsRule}
+use Rattle.limits.proofs.Scans.{first-outside, read-first, read-all, none-outside, inside-front, beyond-front}
 
 -- the first j blocks of fifteen are inside: the rest tells
 abbrev pub Passed : (l : List ℤ) (j : ℕ) → Type 0
-Passed l j = (anyOutside least most l ≡ anyOutside least most (drop (15 * j) l)) × (firstOutside least most l ≡ 15 * j + firstOutside least most (drop (15 * j) l))
+Passed l j = (anyOutside measurementLeast measurementMost l ≡ anyOutside measurementLeast measurementMost (drop (15 * j) l)) × (firstOutside measurementLeast measurementMost l ≡ 15 * j + firstOutside measurementLeast measurementMost (drop (15 * j) l))
 
 pub none-passed : (l : List ℤ) → Passed l 0
 none-passed l = (refl, sym (zero-add _))
@@ -71,41 +41,41 @@ module _ (l : List ℤ) (j : ℕ) (room : 15 * j + 15 ≤ length l) (so-far : Pa
   part-length = length-take-le 15 rest left
 
   -- this block is inside too
-  pub passed : anyOutside least most part ≡ false → Passed l (j + 1)
+  pub passed : anyOutside measurementLeast measurementMost part ≡ false → Passed l (j + 1)
   passed e =
-      let r = inside least most 15 rest left e in (
-        so-far .0 ∙ r .0 ∙ ap (anyOutside least most) shift,
-        so-far .1 ∙ ap (λ (m : ℕ). 15 * j + m) (r .1 ∙ ap (λ (k : List ℤ). 15 + firstOutside least most k) shift) ∙ omega arith,
+      let r = inside-front measurementLeast measurementMost 15 rest left e in (
+        so-far .0 ∙ r .0 ∙ ap (anyOutside measurementLeast measurementMost) shift,
+        so-far .1 ∙ ap (λ (m : ℕ). 15 * j + m) (r .1 ∙ ap (λ (k : List ℤ). 15 + firstOutside measurementLeast measurementMost k) shift) ∙ omega arith,
       )
 
   -- a number of this block is outside
-  module _ (e : anyOutside least most part ≡ true) where
-    any : anyOutside least most l ≡ true
-    any = so-far .0 ∙ beyond least most 15 rest e .0
+  module _ (e : anyOutside measurementLeast measurementMost part ≡ true) where
+    any : anyOutside measurementLeast measurementMost l ≡ true
+    any = so-far .0 ∙ beyond-front measurementLeast measurementMost 15 rest e .0
 
-    first : firstOutside least most l ≡ 15 * j + firstOutside least most part
-    first = so-far .1 ∙ ap (λ (m : ℕ). 15 * j + m) (beyond least most 15 rest e .1)
+    first : firstOutside measurementLeast measurementMost l ≡ 15 * j + firstOutside measurementLeast measurementMost part
+    first = so-far .1 ∙ ap (λ (m : ℕ). 15 * j + m) (beyond-front measurementLeast measurementMost 15 rest e .1)
 
-    pub found : Corrected.Refused 2 (15 * j + readTo least most part) ≡ blocksRule l
-    unfolding blocksRule corrected _when_
+    pub found : Corrected.Refused 2 (15 * j + readTo measurementLeast measurementMost part) ≡ measurementsRule l
+    unfolding measurementsRule corrected _when_
     found =
-        let r = read-first least most l any in
-        let p = read-first least most part e in
-        let count : 15 * j + readTo least most part ≡ readTo least most l = rw (r, p, first) (omega arith) in
-        let is : 2 ≡ 2 when anyOutside least most l = rw any in
+        let r = read-first measurementLeast measurementMost l any in
+        let p = read-first measurementLeast measurementMost part e in
+        let count : 15 * j + readTo measurementLeast measurementMost part ≡ readTo measurementLeast measurementMost l = rw (r, p, first) (omega arith) in
+        let is : 2 ≡ 2 when anyOutside measurementLeast measurementMost l = rw any in
         λ i. corrected (is i) (count i)
 
     pub found-blocks : wholeBlocks l ≡ j
     unfolding wholeBlocks
     found-blocks =
-        let h = first-outside least most part e .0 in
-        rw first (within j (firstOutside least most part) (rw part-length at h))
+        let h = first-outside measurementLeast measurementMost part e .0 in
+        rw first (within j (firstOutside measurementLeast measurementMost part) (rw part-length at h))
       where
         within : (j f : ℕ) → f < 15 → (15 * j + f) / 15 ≡ j
         within j f h = omega arith
 
 -- no more is read of a block than it has
-pub part-most : (l : List ℤ) (j : ℕ) → readTo least most (take 15 (drop (15 * j) l)) ≤ 15
+pub part-most : (l : List ℤ) (j : ℕ) → readTo measurementLeast measurementMost (take 15 (drop (15 * j) l)) ≤ 15
 unfolding readTo
 part-most l j = le-trans (min-le-right _ (length (take 15 (drop (15 * j) l)))) (length-take-most 15 (drop (15 * j) l))
   where
@@ -115,16 +85,16 @@ part-most l j = le-trans (min-le-right _ (length (take 15 (drop (15 * j) l)))) (
     length-take-most (suc n) (z ∷ l) = suc-le-suc (length-take-most n l)
 
 -- where a block is inside, all of it is read
-pub part-read : (l : List ℤ) (j : ℕ) → 15 * j + 15 ≤ length l → anyOutside least most (take 15 (drop (15 * j) l)) ≡ false
-    → readTo least most (take 15 (drop (15 * j) l)) ≡ 15
+pub part-read : (l : List ℤ) (j : ℕ) → 15 * j + 15 ≤ length l → anyOutside measurementLeast measurementMost (take 15 (drop (15 * j) l)) ≡ false
+    → readTo measurementLeast measurementMost (take 15 (drop (15 * j) l)) ≡ 15
 part-read l j room e =
     let h : 15 ≤ length (drop (15 * j) l) = rw (length-drop (15 * j) l) (omega arith) in
-    read-all least most (take 15 (drop (15 * j) l)) e ∙ length-take-le 15 (drop (15 * j) l) h
+    read-all measurementLeast measurementMost (take 15 (drop (15 * j) l)) e ∙ length-take-le 15 (drop (15 * j) l) h
 
 -- where nothing is outside, every block is whole
-pub whole-blocks : (l : List ℤ) (n : ℕ) → length l ≡ 15 * n → anyOutside least most l ≡ false → wholeBlocks l ≡ n
+pub whole-blocks : (l : List ℤ) (n : ℕ) → length l ≡ 15 * n → anyOutside measurementLeast measurementMost l ≡ false → wholeBlocks l ≡ n
 unfolding wholeBlocks
-whole-blocks l n all none = ap (λ (m : ℕ). m / 15) (none-outside least most l none ∙ all) ∙ whole n
+whole-blocks l n all none = ap (λ (m : ℕ). m / 15) (none-outside measurementLeast measurementMost l none ∙ all) ∙ whole n
   where
     whole : (n : ℕ) → 15 * n / 15 ≡ n
     whole n = omega arith
@@ -134,15 +104,15 @@ module _ (l : List ℤ) (n : ℕ) (all : length l ≡ 15 * n) (so-far : Passed l
   nothing : drop (15 * n) l ≡ []
   nothing = let h : length l ≤ 15 * n = omega arith in drop-of-length-le l h
 
-  none : anyOutside least most l ≡ false
+  none : anyOutside measurementLeast measurementMost l ≡ false
   unfolding anyOutside
-  none = so-far .0 ∙ ap (anyOutside least most) nothing
+  none = so-far .0 ∙ ap (anyOutside measurementLeast measurementMost) nothing
 
-  pub done : Corrected.Values (15 * n) ≡ blocksRule l
-  unfolding blocksRule corrected _when_
+  pub done : Corrected.Values (15 * n) ≡ measurementsRule l
+  unfolding measurementsRule corrected _when_
   done =
-      let count : 15 * n ≡ readTo least most l = sym (read-all least most l none ∙ all) in
-      let is : 0 ≡ 2 when anyOutside least most l = rw none in
+      let count : 15 * n ≡ readTo measurementLeast measurementMost l = sym (read-all measurementLeast measurementMost l none ∙ all) in
+      let is : 0 ≡ 2 when anyOutside measurementLeast measurementMost l = rw none in
       λ i. corrected (is i) (count i)
 
   pub done-blocks : wholeBlocks l ≡ n

@@ -18,7 +18,7 @@ use Rattle.limits.proofs.Lists.{counted}
 use Rattle.exact.specs.Corrected.{Given}
 use Rattle.correcting.specs.Correct.{blocks, wrongSizes, outOfLimits, geometryLimit}
 use Rattle.correcting.specs.declared.Corrected.{Corrected}
-use Rattle.correcting.specs.Answer.{correctNumber, corrected, othersBeyond, wholeBlocks, blocksRule, correctedBlocks, correctRule}
+use Rattle.correcting.specs.Answer.{correctNumber, corrected, othersBeyond, wholeBlocks, measurementsRule, correctedBlocks, correctRule}
 use Rattle.correcting.proofs.Parts.{whole-blocks}
 
 -- ---- what it tells that a track's lists and numbers are not refused
@@ -131,8 +131,8 @@ unfolding correctRule corrected correctNumber correctedBlocks _when_ _then_
 others-refused g e h = (rw (limits-parts g, e, h, or-true (anyBeyond measurementLimit (g .measurements))), rw (e, h))
 
 -- and where all but the measurements has passed
-pub by-measurements : (g : Given) → wrongSizes g ≡ false → othersBeyond g ≡ false → Answered g (blocksRule (g .measurements)) (wholeBlocks (g .measurements))
-unfolding correctRule correctNumber correctedBlocks blocksRule _when_ _then_
+pub by-measurements : (g : Given) → wrongSizes g ≡ false → othersBeyond g ≡ false → Answered g (measurementsRule (g .measurements)) (wholeBlocks (g .measurements))
+unfolding correctRule correctNumber correctedBlocks measurementsRule _when_ _then_
 by-measurements g e h = (rw (limits-parts g, e, h, or-none (anyBeyond measurementLimit (g .measurements))), rw (e, h))
 
 -- ---- what the case of an answer tells
@@ -164,17 +164,17 @@ module _ (g : Given) {r : Corrected} (e : r ≡ correctRule g) where
   unfolding correctRule
   corrected-values f = values-by (correctNumber g) _ e f
 
--- the answer to the blocks of a list
-module _ (l : List ℤ) {r : Corrected} (e : r ≡ blocksRule l) where
-  pub blocks-refused : {number read : ℕ} → r ≡ Corrected.Refused number read → (number ≡ 2) × (anyBeyond measurementLimit l ≡ true)
-  unfolding blocksRule
-  blocks-refused f =
+-- the answer to the measurements of a list
+module _ (l : List ℤ) {r : Corrected} (e : r ≡ measurementsRule l) where
+  pub measurements-refused : {number read : ℕ} → r ≡ Corrected.Refused number read → (number ≡ 2) × (anyBeyond measurementLimit l ≡ true)
+  unfolding measurementsRule
+  measurements-refused f =
       let n = refused-by (2 when anyBeyond measurementLimit l) _ e f in
       when-some 2 (anyBeyond measurementLimit l) (n .0) (λ z. omega (arith, n .1, z))
 
-  pub blocks-values : {read : ℕ} → r ≡ Corrected.Values read → anyBeyond measurementLimit l ≡ false
-  unfolding blocksRule
-  blocks-values f = when-zero 1 (anyBeyond measurementLimit l) (values-by (2 when anyBeyond measurementLimit l) _ e f)
+  pub measurements-values : {read : ℕ} → r ≡ Corrected.Values read → anyBeyond measurementLimit l ≡ false
+  unfolding measurementsRule
+  measurements-values f = when-zero 1 (anyBeyond measurementLimit l) (values-by (2 when anyBeyond measurementLimit l) _ e f)
 
 -- ---- what the number of an answer tells
 

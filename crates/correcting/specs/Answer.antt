@@ -1,13 +1,13 @@
--- What `correcting` answers to whoever judges the corrected values: the number of the refusal, how far the limit test on the measurements reads
+-- What `correcting` answers to Track: the number of the refusal, how far the limit test on the measurements reads
 -- (document 02, Job 4), and what the lent rows hold afterwards. Track's own rule does not name it.
 -- Assumes nothing.
 use Prim.Native.Nat.{ℕ, zero, suc, _*_, _/_}
 use mathlib.Core.Bool.{Bool, cond, _||_}
 use mathlib.Core.List.{List}
-use lib.IntN.{ℤ, pos, negℤ}
+use lib.IntN.{ℤ}
 use lib.ListN.{set}
 use Rattle.limits.specs.Refusal.{_when_, _then_}
-use Rattle.limits.specs.Limits.{delaysBeyond, measurementLimit, delayLimit}
+use Rattle.limits.specs.Limits.{delaysBeyond, measurementLimit, measurementLeast, measurementMost, delayLimit}
 use Rattle.limits.specs.Lists.{anyBeyond}
 use Rattle.limits.specs.Scan.{firstOutside, readTo}
 use Rattle.exact.specs.Corrected.{Given}
@@ -38,22 +38,15 @@ othersBeyond g =
 abbrev pub refusedBefore : Given → Bool
 refusedBefore g = wrongSizes g || othersBeyond g
 
--- The limits of a measurement.
-abbrev pub least : ℤ
-least = negℤ (pos measurementLimit)
-
-abbrev pub most : ℤ
-most = pos measurementLimit
-
 -- How many blocks of fifteen there are before the one with the first measurement beyond its limit, or in all.
 unfoldable pub wholeBlocks : List ℤ → ℕ
-wholeBlocks measurements = firstOutside least most measurements / 15
+wholeBlocks measurements = firstOutside measurementLeast measurementMost measurements / 15
 
 -- The answer where the sizes are right and all but the measurements is inside its limits: the measurements are read up to and with the first one
 -- outside, or all of them.
-unfoldable pub blocksRule : List ℤ → Corrected
-blocksRule measurements =
-    corrected (2 when anyBeyond measurementLimit measurements) (readTo least most measurements)
+unfoldable pub measurementsRule : List ℤ → Corrected
+measurementsRule measurements =
+    corrected (2 when anyBeyond measurementLimit measurements) (readTo measurementLeast measurementMost measurements)
 
 -- How many blocks have their values in the lent rows, and how many measurements are read: none where it is refused before.
 unfoldable pub correctedBlocks : Given → ℕ
@@ -62,7 +55,7 @@ correctedBlocks g = cond (refusedBefore g) 0 (wholeBlocks (g .measurements))
 unfoldable pub correctRule : Given → Corrected
 correctRule g =
     corrected (correctNumber g)
-    (cond (refusedBefore g) 0 (readTo least most (g .measurements)))
+    (cond (refusedBefore g) 0 (readTo measurementLeast measurementMost (g .measurements)))
 
 -- A row whose first n places are set, and whose others keep what they hold.
 unfoldable pub filled : (n : ℕ) (value : ℕ → ℤ) (row : List ℤ) → List ℤ

@@ -20,7 +20,7 @@ ghost use Rattle.limits.specs.Lists.{anyBeyond};
 ghost use Rattle.whole.specs.Table.{at};
 ghost use Rattle.exact.specs.Corrected.{steps, toA, toB};
 ghost use Rattle.correcting.specs.Correct.{geometryLimit, given, valueA, valueB, valueC, valueD, wrongSizes};
-ghost use Rattle.correcting.specs.Answer.{othersBeyond, filled, wholeBlocks, blocksRule};
+ghost use Rattle.correcting.specs.Answer.{othersBeyond, filled, wholeBlocks, measurementsRule};
 
 // The corrected values of one block.
 pub struct Values {
@@ -151,7 +151,7 @@ pub fn correct_blocks(
         (now geometry) (now relativity) (now ionosphere) (now troposphere) (now clock)) ≡ false ⌝ }
     requires { ⌜ othersBeyond (given (now measurements) int cab refdly gd
         (now geometry) (now relativity) (now ionosphere) (now troposphere) (now clock)) ≡ false ⌝ }
-    ensures { λ r. ⌜ r ≡ blocksRule (now (measurements .entry)) ⌝ }
+    ensures { λ r. ⌜ r ≡ measurementsRule (now (measurements .entry)) ⌝ }
     ensures { λ _. ⌜ now (a .exit) ≡ filled (wholeBlocks (now (measurements .entry))) (valueA (given (now (measurements .entry)) int cab refdly gd
         (now (geometry .entry)) (now (relativity .entry)) (now (ionosphere .entry)) (now (troposphere .entry))
         (now (clock .entry)))) (now (a .entry)) ⌝ }
@@ -178,13 +178,16 @@ pub fn correct_blocks(
         );
         read += seen.read;
         if seen.outside {
-            return Corrected::Refused { number: 2, read };
+            return Corrected::Refused { refusal: 2, read };
         }
         let answer = smooth(&measurements[from..to]);
         let Smoothed::Value(value) = answer else {
             // Never taken: the scan has found all fifteen inside.
             let number = smoothed_number(answer);
-            return Corrected::Refused { number, read };
+            return Corrected::Refused {
+                refusal: number,
+                read,
+            };
         };
         let values = corrected_at(
             value,

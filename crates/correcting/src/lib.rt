@@ -25,7 +25,7 @@ pub const GEOMETRY_LEAST: i64 = -GEOMETRY_LIMIT;
 // What correct answers: that the rows have their values, or the number of the refusal; and how many measurements the limit test has read.
 pub enum Corrected {
     Values { read: usize },
-    Refused { number: u32, read: usize },
+    Refused { refusal: u32, read: usize },
 }
 
 // The number of the refusal, 0 where there is none.
@@ -34,7 +34,7 @@ pub fn corrected_number(corrected: Corrected) -> u32
 {
     match corrected {
         Corrected::Values { read: _ } => 0,
-        Corrected::Refused { number, read: _ } => number,
+        Corrected::Refused { refusal, read: _ } => refusal,
     }
 }
 
@@ -111,12 +111,18 @@ pub fn correct(
         troposphere,
         clock,
     ) {
-        return Corrected::Refused { number: 1, read: 0 };
+        return Corrected::Refused {
+            refusal: 1,
+            read: 0,
+        };
     }
     if columns_beyond(geometry, relativity, ionosphere, troposphere, clock)
         | delays_beyond(int, cab, refdly, gd)
     {
-        return Corrected::Refused { number: 2, read: 0 };
+        return Corrected::Refused {
+            refusal: 2,
+            read: 0,
+        };
     }
     correct_blocks(
         measurements,

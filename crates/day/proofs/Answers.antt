@@ -4,6 +4,7 @@ use mathlib.Core.Path.{_≡_, refl, sym, ap, _∙_}
 use mathlib.Core.Bool.{Bool, true, false}
 use mathlib.Core.List.{List}
 use Prim.Native.Nat.{ℕ, _<_}
+use native.Mathlib.Nat.{pos-of-ne-zero}
 use native.Mathlib.Omega.{arith}
 use lib.Dec.{eqb}
 use lib.ListN.{length}
@@ -39,9 +40,6 @@ module _ (bytes : List ℕ) (room : ℕ) where
       never : {k i m : ℕ} → _≡_ {A = Written} (Written.Refused k i) (Written.Bytes m) → ⊥
       never h = let z : _≡_ {A = ℕ} 0 1 = cc in omega arith
 
-      some : (dayNumber bytes room ≡ 0 → ⊥) → 0 < dayNumber bytes room
-      some h = omega arith
-
       by-test : (t : Bool) → eqb (dayNumber bytes room) 0 ≡ t → (0 < dayNumber bytes room) × (writtenBlock r ≡ dayBlock bytes)
       by-test true g = absurd (never (sym f ∙ e ∙ rule-written (eqb-true _ 0 g)))
-      by-test false g = (some (eqb-false _ 0 g), ap writtenBlock (e ∙ rule-refused (eqb-false _ 0 g)))
+      by-test false g = (pos-of-ne-zero (eqb-false _ 0 g), ap writtenBlock (e ∙ rule-refused (eqb-false _ 0 g)))

@@ -2,25 +2,26 @@
 -- numbers in each line's columns are accurate.
 -- Assumes nothing.
 use mathlib.Core.Path.{_≡_, refl, sym, ap, ap₂, subst, _∙_}
-use mathlib.Core.List.{List, [], _∷_, _++_, map, append-assoc}
+use mathlib.Core.List.{List, [], _∷_, _++_, map}
 use Prim.Native.Nat.{ℕ, zero, suc, _+_, _*_, _/_, _<_, zero-le}
-use native.Mathlib.Nat.{not-suc-le-zero, le-of-suc-le-suc}
 use native.Mathlib.Omega.{arith}
 use lib.Dec.{lit<}
-use lib.ListN.{length, take, drop, getD, length-append, length-map}
-use lib.Seq.{take-at, drop-append-add, getD-drop}
+use lib.ListN.{length, take, drop, length-append, length-map}
+use lib.Seq.{take-at, getD-drop}
 use borrow.Author.Tests.{le-ltb}
 use Rattle.limits.specs.Refusal.{_when_, _then_}
 use Rattle.limits.proofs.Laws.{then-zero, after-accepted}
+use Rattle.limits.proofs.Parts.{map-at}
 use Rattle.exact.specs.Corrected.{steps}
 use Rattle.exact.specs.Accurate.{AccurateTrack}
-use Rattle.columns.specs.Text.{lineLength, lineEnd}
+use Rattle.columns.specs.Text.{lineLength, endedLength, lineEnd}
 use Rattle.columns.specs.Columns.{readNumbers}
 use Rattle.hire.specs.Hire.{blocksIn, blockLabels, blockGiven}
 use Rattle.line.proofs.AcceptedBlocks.{block-accurate, numbers-in}
-use Rattle.linefile.specs.Files.{endedLength, lines, before, fileNumber, joined, lineAt}
-use Rattle.linefile.proofs.Ascending.{All, Ascending, Accepted, all-map}
-use Rattle.linefile.proofs.Lines.{Long, line-file-zero, line-at, whole-lines}
+use Rattle.linefile.specs.Files.{lines, before, fileNumber, joined, lineAt}
+use Rattle.linefile.proofs.Ascending.{All, Ascending, Accepted, all-map, all-at}
+use Rattle.linefile.proofs.Lines.{line-file-zero, line-at, whole-lines}
+use Rattle.linefile.proofs.Joined.{line-of}
 use Rattle.day.specs.Day.{ownLength, blocksFrom, blocksOf, blockKeys, judged, dayVerdict, endedLine, fileOf, dayFile, dayNumber, dayRule, dayAfter, blockAt, LinesOfDay, AccurateDay, AllBytes}
 use Rattle.day.specs.Answers.{writtenNumber, writtenBytes}
 use Rattle.day.specs.declared.Written.{Written}
@@ -98,28 +99,6 @@ day-file bytes s e =
 
 -- ---- its lines within a longer file
 
-line-of : (ls : List (List ℕ)) → All Long ls → (rest : List ℕ) (i : ℕ) → i < length ls → take endedLength (drop (endedLength * i) (joined ls ++ rest)) ≡ getD ls i []
-unfolding joined
-line-of [] a rest i h = absurd (not-suc-le-zero h)
-line-of (l ∷ ls) a rest zero h = ap (take endedLength) (append-assoc l (joined ls) rest) ∙ take-at l (joined ls ++ rest) endedLength (a .0)
-line-of (l ∷ ls) a rest (suc i) h =
-    ap (take endedLength)
-    (ap₂ drop (further (length l) (a .0)) (append-assoc l (joined ls) rest) ∙ drop-append-add l (joined ls ++ rest) (endedLength * i))
-    ∙ line-of ls (a .1) rest i (le-of-suc-le-suc h)
-  where
-    further : (n : ℕ) → n ≡ endedLength → endedLength * suc i ≡ n + endedLength * i
-    further n e = omega arith
-
-line-map : (bs : List (List ℕ)) (i : ℕ) → i < length bs → getD (map endedLine bs) i [] ≡ endedLine (getD bs i [])
-line-map [] i h = absurd (not-suc-le-zero h)
-line-map (b ∷ bs) zero h = refl
-line-map (b ∷ bs) (suc i) h = line-map bs i (le-of-suc-le-suc h)
-
-all-at : (P : List ℕ → Type 0) (bs : List (List ℕ)) → All P bs → (i : ℕ) → i < length bs → P (getD bs i [])
-all-at P [] a i h = absurd (not-suc-le-zero h)
-all-at P (b ∷ bs) a zero h = a .0
-all-at P (b ∷ bs) a (suc i) h = all-at P bs (a .1) i (le-of-suc-le-suc h)
-
 module _ (bytes lent : List ℕ) (e : dayNumber bytes (length lent) ≡ 0) where
   after-is : dayAfter bytes lent ≡ dayFile bytes ++ drop (length (dayFile bytes)) lent
   unfolding dayAfter
@@ -136,7 +115,7 @@ module _ (bytes lent : List ℕ) (e : dayNumber bytes (length lent) ≡ 0) where
       ap (λ (f : List ℕ). lineAt f i) after-is
       ∙ line-at (dayFile bytes ++ rest) i (enough (length (blocksOf bytes)) (length rest) h (length-append (dayFile bytes) rest) (length-of (blocksOf bytes)))
       ∙ line-of (map endedLine (blocksOf bytes)) (all-long (blocksOf bytes)) rest i (rw (length-map (blocksOf bytes) endedLine) h)
-      ∙ line-map (blocksOf bytes) i h
+      ∙ map-at endedLine (blocksOf bytes) i [] [] h
     where
       rest : List ℕ
       rest = drop (length (dayFile bytes)) lent

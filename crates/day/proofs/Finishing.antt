@@ -13,7 +13,7 @@ use Rattle.limits.specs.Refusal.{_when_, _then_}
 use Rattle.limits.proofs.Laws.{then-zero, then-refused, after-accepted, after-refused, room-passed}
 use Rattle.lent.specs.Placed.{placed}
 use Rattle.lent.proofs.Placing.{placed-onto, placed-front, placed-first}
-use Rattle.linefile.specs.Files.{endedLength}
+use Rattle.columns.specs.Text.{endedLength}
 use Rattle.day.specs.Day.{blocksOf, Verdict, judged, dayVerdict, fileOf, dayFile, dayNumber, dayRule, dayAfter}
 use Rattle.day.specs.Walk.{lastKeys, left, verdict, goesOn, Wrote}
 use Rattle.day.specs.declared.walk.State.{State}

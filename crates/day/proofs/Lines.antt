@@ -13,7 +13,7 @@ use Rattle.limits.proofs.Laws.{then-zero, then-passed}
 use Rattle.limits.proofs.Replies.{reply-values}
 use Rattle.limits.specs.declared.Numbers.{Numbers}
 use Rattle.labels.specs.declared.Labels.{Labels}
-use Rattle.columns.specs.Text.{lineLength, lineEnd}
+use Rattle.columns.specs.Text.{lineLength, endedLength, lineEnd}
 use Rattle.columns.specs.Columns.{readLabels, readNumbers}
 use Rattle.columns.proofs.Widths.{line-width}
 use Rattle.hire.specs.Hire.{blockLabels}
@@ -23,7 +23,7 @@ use Rattle.line.proofs.AcceptedBlocks.{line-accepts}
 use Rattle.characters.specs.Kinds.{printable}
 use Rattle.reading.specs.Read.{readNumber, noLabels, readRule}
 use Rattle.reading.proofs.WrittenLine.{text-reads-back}
-use Rattle.linefile.specs.Files.{endedLength, lines, columnsOf, same, hasLineEnd, keysOf, keys, endedNumber, joined}
+use Rattle.linefile.specs.Files.{lines, columnsOf, same, hasLineEnd, keysOf, keys, endedNumber, joined}
 use Rattle.linefile.proofs.Ascending.{All}
 use Rattle.linefile.proofs.Lines.{Long}
 use Rattle.linefile.proofs.Joined.{lines-joined, length-joined, joined-append}

@@ -6,9 +6,9 @@ use mathlib.Core.List.{List, [], _∷_, _++_}
 use Prim.Native.Nat.{ℕ}
 use lib.ListN.{drop}
 use lib.Seq.{drop-at}
-use Rattle.columns.specs.Text.{lineLength}
+use Rattle.columns.specs.Text.{lineLength, endedLength}
 use Rattle.line.proofs.AcceptedBlocks.{sizes-accepted}
-use Rattle.linefile.specs.Files.{endedLength, joined}
+use Rattle.linefile.specs.Files.{joined}
 use Rattle.linefile.proofs.Ascending.{All, all-map}
 use Rattle.linefile.proofs.Joined.{joined-append}
 use Rattle.day.specs.Day.{blocksOf, judged, dayVerdict, endedLine, fileOf, dayFile}

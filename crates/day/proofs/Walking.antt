@@ -14,9 +14,10 @@ use Rattle.lent.specs.Placed.{placed}
 use Rattle.lent.proofs.Placing.{placed-none, placed-onto}
 use Rattle.labels.specs.declared.Labels.{Labels}
 use Rattle.hire.specs.Hire.{blockLabels}
-use Rattle.linefile.specs.Files.{endedLength, keysOf}
+use Rattle.columns.specs.Text.{endedLength}
+use Rattle.linefile.specs.Files.{keysOf}
 use Rattle.day.specs.Day.{ownLength, blocksOf, judged, endedLine, fileOf}
-use Rattle.day.specs.Walk.{lastKeys, nextBlock, nextNumber, nextState, Within, left, verdict, Walked, goesOn, Wrote}
+use Rattle.day.specs.Walk.{lastKeys, nextBlock, nextNumber, nextState, WithinBytes, left, verdict, Walked, goesOn, Wrote}
 use Rattle.day.specs.declared.walk.State.{State}
 use Rattle.day.proofs.Blocks.{blocks-cut, no-blocks}
 use Rattle.day.proofs.Verdicts.{judged-passed, judged-refused}
@@ -30,7 +31,7 @@ use Rattle.limits.proofs.Laws.{after-accepted, after-refused}
 pub later : {k m n : ℕ} → k < m - n → n < m
 later h = omega arith
 
-pub walked-none : (bytes : List ℕ) (s : State) → Within bytes s → Walked bytes s s []
+pub walked-none : (bytes : List ℕ) (s : State) → WithinBytes bytes s → Walked bytes s s []
 walked-none bytes s w = record { within = w; counted = omega arith; cut = refl; same = refl }
 
 pub walked-on : (bytes : List ℕ) (s t r : State) {seen more : List (List ℕ)} → Walked bytes s t seen → Walked bytes t r more → Walked bytes s r (seen ++ more)
@@ -92,7 +93,7 @@ take-some l n h k = by-test (leb n (length l)) refl
         lower : length l < n → length l ≤ n
         lower h = omega arith
 
-module _ (bytes : List ℕ) (s : State) (w : Within bytes s) (z : s .refusal ≡ 0) (h : s .at < length bytes) where
+module _ (bytes : List ℕ) (s : State) (w : WithinBytes bytes s) (z : s .refusal ≡ 0) (h : s .at < length bytes) where
   -- what is left are the next block and those behind it
   left-cut : left bytes s ≡ nextBlock bytes s ∷ blocksOf (drop (ownLength (drop (s .at) bytes)) (drop (s .at) bytes))
   left-cut = blocks-cut (drop (s .at) bytes) (rw length-drop (omega arith))
@@ -171,7 +172,7 @@ pub record Stepped (bytes : List ℕ) (s r : State) : Type 0 where
       → kept ≡ after (r .refusal) (placed file (endedLength * s .count) line) file
       → kept ≡ placed file (endedLength * s .count) (fileOf seen)
 
-pub stepped : (bytes : List ℕ) (s r : State) → Within bytes s → s .refusal ≡ 0 → s .at < length bytes → r ≡ nextState bytes s → Stepped bytes s r
+pub stepped : (bytes : List ℕ) (s r : State) → WithinBytes bytes s → s .refusal ≡ 0 → s .at < length bytes → r ≡ nextState bytes s → Stepped bytes s r
 stepped bytes s r w z h f = by-test (eqb (nextNumber bytes s) 0) refl
   where
     by-test : (t : Bool) → eqb (nextNumber bytes s) 0 ≡ t → Stepped bytes s r
@@ -208,7 +209,7 @@ stepped bytes s r w z h f = by-test (eqb (nextNumber bytes s) 0) refl
 
 -- ---- lines written
 
-pub wrote-none : (bytes : List ℕ) (s : State) (file : List ℕ) → Within bytes s → endedLength * s .count ≤ length file → Wrote bytes s s file file
+pub wrote-none : (bytes : List ℕ) (s : State) (file : List ℕ) → WithinBytes bytes s → endedLength * s .count ≤ length file → Wrote bytes s s file file
 wrote-none bytes s file w h =
     record { seen = []; walked = walked-none bytes s w; text = nothing file (endedLength * s .count); room = h }
 

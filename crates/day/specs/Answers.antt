@@ -1,4 +1,4 @@
--- What the answer means in the papers' terms: the number of the refusal, the bytes written and the block that a refusal names, each 0 where there
+-- What the answer means (document 02, Job 10): the number of the refusal, the bytes written and the block that a refusal names, each 0 where there
 -- is none.
 -- Assumes nothing.
 use Prim.Native.Nat.{ℕ}

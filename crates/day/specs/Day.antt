@@ -38,7 +38,8 @@ blockKeys b = keysOf (blockLabels b)
 abbrev pub behindNumber : (last block : List ℕ) → ℕ
 behindNumber last b = blockNumber b then 16 when not (before last (blockKeys b))
 
--- The number of the first block that is refused, and its index; 0 and the number of blocks where none is. `index` is that of the first one given.
+-- What the first block that is refused is refused for, and its index; 0 and how many blocks there are where none is. `index` is that of the first
+-- one given.
 pub record Verdict : Type 0 where
   pub refusal : ℕ
   pub block : ℕ

@@ -1,4 +1,4 @@
--- What the functions that walk the blocks promise each other.
+-- What the functions that walk the blocks promise each other (document 02, Job 10).
 -- Assumes nothing.
 use Prim.Native.Nat.{ℕ, _+_, _-_, _*_, _≤_}
 use mathlib.Core.Path.{_≡_}
@@ -9,7 +9,8 @@ use lib.ListN.{length, take, drop}
 use Rattle.labels.specs.declared.Labels.{Labels}
 use Rattle.lent.specs.Placed.{placed}
 use Rattle.hire.specs.Hire.{blockLabels}
-use Rattle.linefile.specs.Files.{endedLength, keysOf}
+use Rattle.columns.specs.Text.{endedLength}
+use Rattle.linefile.specs.Files.{keysOf}
 use Rattle.day.specs.Day.{ownLength, blocksOf, behindNumber, Verdict, judged, fileOf}
 use Rattle.day.specs.declared.walk.State.{State}
 
@@ -31,7 +32,7 @@ nextState bytes s =
     (record { at = s .at; count = s .count; refusal = nextNumber bytes s; last = s .last })
 
 -- A walk is within the bytes, and has passed no more blocks than bytes.
-pub record Within (bytes : List ℕ) (s : State) : Type 0 where
+pub record WithinBytes (bytes : List ℕ) (s : State) : Type 0 where
   pub inside : s .at ≤ length bytes
   pub few : s .count ≤ s .at
 
@@ -47,7 +48,7 @@ verdict bytes s =
 
 -- From one state a walk has come to another: it has seen some blocks, all accepted, and the verdict is the same.
 pub record Walked (bytes : List ℕ) (s r : State) (seen : List (List ℕ)) : Type 0 where
-  pub within : Within bytes r
+  pub within : WithinBytes bytes r
   pub counted : r .count ≡ s .count + length seen
   pub cut : left bytes s ≡ seen ++ left bytes r
   pub same : verdict bytes s ≡ verdict bytes r

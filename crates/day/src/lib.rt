@@ -7,9 +7,9 @@ ghost use lib.ListN.{length, take};
 ghost use Rattle.linefile.specs.Files.{fileNumber};
 ghost use Rattle.day.specs.Day.{dayRule, dayAfter, LinesOfDay, AccurateDay};
 ghost use Rattle.day.specs.Answers.{writtenNumber, writtenBytes, writtenBlock};
+use columns::ENDED_LENGTH;
 use limits::then;
 use limits::when;
-use linefile::LINE;
 
 mod walk;
 
@@ -26,7 +26,7 @@ const SHORTEST: usize = 698;
 // How many bytes are written, or the refusal and the block that it names.
 pub enum Written {
     Bytes(usize),
-    Refused { number: u32, block: usize },
+    Refused { refusal: u32, block: usize },
 }
 
 // The number of the refusal, 0 where there is none.
@@ -35,7 +35,7 @@ pub fn written_number(written: Written) -> u32
 {
     match written {
         Written::Bytes(_) => 0,
-        Written::Refused { number, block: _ } => number,
+        Written::Refused { refusal, block: _ } => refusal,
     }
 }
 
@@ -45,7 +45,7 @@ pub fn written_block(written: Written) -> usize
 {
     match written {
         Written::Bytes(_) => 0,
-        Written::Refused { number: _, block } => block,
+        Written::Refused { refusal: _, block } => block,
     }
 }
 
@@ -57,15 +57,15 @@ fn run(blocks: &[u8], kept: &mut [u8], file: &mut [u8]) -> Written
     let begun = walk::write(blocks, walk::start(blocks), kept);
     let judged = walk::judge(blocks, begun);
     let count = judged.count;
-    let number = then(judged.refusal, when(9, file.len() / LINE < count));
+    let number = then(judged.refusal, when(9, file.len() / ENDED_LENGTH < count));
     if number != 0 {
         return Written::Refused {
-            number,
+            refusal: number,
             block: count,
         };
     }
     walk::finish(blocks, begun, kept, file);
-    Written::Bytes(LINE * count)
+    Written::Bytes(ENDED_LENGTH * count)
 }
 
 // Each number of kept lines has a function of its own, so that few blocks clear few lines. That time alone is spared: the compiler inlines them,
@@ -74,7 +74,7 @@ fn run_few(blocks: &[u8], file: &mut [u8]) -> Written
     ensures answer { λ r. ⌜ r ≡ dayRule (now (blocks .entry)) (length (now (file .entry))) ⌝ }
     ensures written { λ _. ⌜ now (file .exit) ≡ dayAfter (now (blocks .entry)) (now (file .entry)) ⌝ }
 {
-    let mut kept = [0u8; LINE * FEW];
+    let mut kept = [0u8; ENDED_LENGTH * FEW];
     run(blocks, &mut kept, file)
 }
 
@@ -82,7 +82,7 @@ fn run_some(blocks: &[u8], file: &mut [u8]) -> Written
     ensures answer { λ r. ⌜ r ≡ dayRule (now (blocks .entry)) (length (now (file .entry))) ⌝ }
     ensures written { λ _. ⌜ now (file .exit) ≡ dayAfter (now (blocks .entry)) (now (file .entry)) ⌝ }
 {
-    let mut kept = [0u8; LINE * SOME];
+    let mut kept = [0u8; ENDED_LENGTH * SOME];
     run(blocks, &mut kept, file)
 }
 
@@ -90,7 +90,7 @@ fn run_many(blocks: &[u8], file: &mut [u8]) -> Written
     ensures answer { λ r. ⌜ r ≡ dayRule (now (blocks .entry)) (length (now (file .entry))) ⌝ }
     ensures written { λ _. ⌜ now (file .exit) ≡ dayAfter (now (blocks .entry)) (now (file .entry)) ⌝ }
 {
-    let mut kept = [0u8; LINE * MANY];
+    let mut kept = [0u8; ENDED_LENGTH * MANY];
     run(blocks, &mut kept, file)
 }
 
@@ -105,7 +105,7 @@ fn run_sized(blocks: &[u8], file: &mut [u8]) -> Written
     ensures answer { λ r. ⌜ r ≡ dayRule (now (blocks .entry)) (length (now (file .entry))) ⌝ }
     ensures written { λ _. ⌜ now (file .exit) ≡ dayAfter (now (blocks .entry)) (now (file .entry)) ⌝ }
 {
-    let count = most(blocks, file.len() / LINE);
+    let count = most(blocks, file.len() / ENDED_LENGTH);
     if count <= FEW {
         return run_few(blocks, file);
     }

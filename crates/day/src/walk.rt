@@ -5,19 +5,19 @@ ghost use mathlib.Core.List.{_++_};
 ghost use Prim.Native.Nat.{_+_, _*_, _≤_, _<_, _/_};
 ghost use lib.Dec.{ltb};
 ghost use lib.ListN.{length, take, drop};
-ghost use Rattle.columns.specs.Text.{lineLength};
+ghost use Rattle.columns.specs.Text.{lineLength, endedLength};
 ghost use Rattle.lent.specs.Placed.{placed};
 ghost use Rattle.line.specs.Block.{blockLine};
-ghost use Rattle.linefile.specs.Files.{endedLength, keysOf, before};
+ghost use Rattle.linefile.specs.Files.{keysOf, before};
 ghost use Rattle.day.specs.Day.{ownLength, behindNumber, fileOf};
-ghost use Rattle.day.specs.Walk.{lastKeys, nextBlock, nextState, Within, Wrote, goesOn, left, verdict};
+ghost use Rattle.day.specs.Walk.{lastKeys, nextBlock, nextState, WithinBytes, Wrote, goesOn, left, verdict};
 ghost use Rattle.limits.specs.Refusal.{after};
+use columns::ENDED_LENGTH;
 use columns::LINE_LENGTH;
 use labels::Labels;
 use lent::put;
 use limits::then;
 use limits::when;
-use linefile::LINE;
 
 // Where a walk stands: at a byte, behind so many blocks, the last one with these labels; or stopped there by a refusal.
 pub struct State {
@@ -73,7 +73,7 @@ fn judge_block(block: &[u8], count: usize, last: Labels, lent: &mut [u8]) -> u32
 
 // The next block: the walk goes on behind it, its line in the lent one, or stops at it.
 fn step(blocks: &[u8], from: State, lent: &mut [u8]) -> State
-    requires { ⌜ Within (now blocks) from ⌝ }
+    requires { ⌜ WithinBytes (now blocks) from ⌝ }
     requires { ⌜ from .at < length (now blocks) ⌝ }
     requires { ⌜ lineLength ≤ length (now lent) ⌝ }
     ensures { λ r. ⌜ r ≡ nextState (now (blocks .entry)) from ⌝ }
@@ -106,10 +106,10 @@ fn step(blocks: &[u8], from: State, lent: &mut [u8]) -> State
 
 // The rest of the walk, with no line kept.
 pub fn judge(blocks: &[u8], from: State) -> State
-    requires { ⌜ Within (now blocks) from ⌝ }
+    requires { ⌜ WithinBytes (now blocks) from ⌝ }
     ensures { λ r. ⌜ verdict (now (blocks .entry)) from ≡ record { refusal = r .refusal; block = r .count } ⌝ }
 {
-    let mut line = [0u8; LINE];
+    let mut line = [0u8; ENDED_LENGTH];
     let mut state = from;
     while (state.refusal == 0) & (0 < blocks.len() - state.at) {
         state = step(blocks, state, &mut line);
@@ -124,20 +124,20 @@ fn keep(number: u32, line: &[u8], file: &mut [u8], k: usize)
     ensures { λ _. ⌜ now (file .exit) ≡ after number (placed (now (file .entry)) (endedLength * k) (now (line .entry))) (now (file .entry)) ⌝ }
 {
     if number == 0 {
-        put(line, file, LINE * k);
+        put(line, file, ENDED_LENGTH * k);
     }
 }
 
 // The walk with each line put into its place, as far as there is room.
 pub fn write(blocks: &[u8], from: State, file: &mut [u8]) -> State
-    requires { ⌜ Within (now blocks) from ⌝ }
+    requires { ⌜ WithinBytes (now blocks) from ⌝ }
     requires { ⌜ endedLength * from .count ≤ length (now file) ⌝ }
     ensures { λ r. ⌜ Wrote (now (blocks .entry)) from r (now (file .entry)) (now (file .exit)) ⌝ }
     ensures { λ r. ⌜ goesOn (now (blocks .entry)) r && ltb (r .count) (length (now (file .entry)) / endedLength) ≡ false ⌝ }
 {
-    let room = file.len() / LINE;
+    let room = file.len() / ENDED_LENGTH;
     // Block writes the columns alone, so that the line's end behind them stays.
-    let mut line = [b'\n'; LINE];
+    let mut line = [b'\n'; ENDED_LENGTH];
     line[LINE_LENGTH] = b'\r';
     let mut state = from;
     while (state.refusal == 0) & (0 < blocks.len() - state.at) & (state.count < room) {
@@ -151,14 +151,14 @@ pub fn write(blocks: &[u8], from: State, file: &mut [u8]) -> State
 
 // The lines that are kept, then those of the blocks behind them.
 pub fn finish(blocks: &[u8], begun: State, kept: &[u8], file: &mut [u8])
-    requires { ⌜ Within (now blocks) begun ⌝ }
+    requires { ⌜ WithinBytes (now blocks) begun ⌝ }
     requires { ⌜ verdict (now blocks) begun .refusal ≡ 0 ⌝ }
     requires { ⌜ endedLength * begun .count ≤ length (now kept) ⌝ }
     requires { ⌜ endedLength * (begun .count + length (left (now blocks) begun)) ≤ length (now file) ⌝ }
     ensures { λ _. ⌜ now (file .exit) ≡ placed (placed (now (file .entry)) 0 (take (endedLength * begun .count) (now (kept .entry))))
         (endedLength * begun .count) (fileOf (left (now (blocks .entry)) begun)) ⌝ }
 {
-    let n = LINE * begun.count;
+    let n = ENDED_LENGTH * begun.count;
     put(&kept[..n], file, 0);
     // The walk goes on where the kept lines end.
     let last = begun.last;

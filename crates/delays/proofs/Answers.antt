@@ -14,8 +14,8 @@ use Rattle.limits.specs.Refusal.{_when_, _then_}
 use Rattle.limits.specs.Reply.{Reply, reply}
 use Rattle.limits.specs.Limits.{delayLimit}
 use Rattle.limits.specs.Lists.{anyBeyond}
-use Rattle.limits.proofs.Laws.{then-zero, then-refused, when-zero, or-false, after-accepted, after-refused, room-passed}
-use Rattle.limits.proofs.Replies.{reply-refused, reply-number, reply-values}
+use Rattle.limits.proofs.Laws.{then-zero, then-refused, when-zero, or-false, after-accepted, room-passed}
+use Rattle.limits.proofs.Replies.{reply-refused, refused-reply, reply-number, reply-values}
 use Rattle.delays.specs.Store.{version, count, groupWidth, storeLength, start, delays, rising, storeNumber, mostEntries}
 use Rattle.delays.specs.Lookup.{inForce, setInForce, lookupNumber, noSet, lookupRule}
 use Rattle.delays.specs.Append.{longerStore, appendNumber, appendRule, appendAfter}
@@ -83,13 +83,7 @@ module _ (s : List ℕ) (mjd : ℕ) (int cab refdly gd : ℤ) (lent : List ℕ) 
   pub append-refused : {number : ℕ} → number ≡ appendNumber s mjd int cab refdly gd (length lent) → 0 < number
       → (record { number = number; values = 0 } ≡ appendRule s mjd int cab refdly gd (length lent)) × (lent ≡ appendAfter s mjd int cab refdly gd lent)
   unfolding appendRule appendAfter
-  append-refused {number} e h = (
-    sym (ap (λ (n : ℕ). reply 0 n (storeLength (version s) (suc (count s)))) (sym e) ∙ reply-refused 0 (storeLength (version s) (suc (count s))) h),
-    sym (after-refused _ lent (other e h)),
-  )
-    where
-      other : {m n : ℕ} → m ≡ n → 0 < m → n ≡ 0 → ⊥
-      other e h z = omega arith
+  append-refused e h = refused-reply 0 (storeLength (version s) (suc (count s))) _ lent e h
 
   pub append-done : appendNumber s mjd int cab refdly gd (length lent) ≡ 0
       → (record { number = 0; values = storeLength (version s) (suc (count s)) } ≡ appendRule s mjd int cab refdly gd (length lent))

@@ -10,7 +10,7 @@ use lib.ListN.{length, take, drop, length-append, length-drop}
 use lib.Seq.{length-take-le}
 use Rattle.lent.specs.Placed.{placed, placedWithin}
 use Rattle.limits.proofs.Parts.{rest-part}
-use Rattle.lent.proofs.Placing.{within, placed-onto, placed-behind, length-placed}
+use Rattle.lent.proofs.Placing.{within, placed-onto, placed-behind, put-behind}
 use Rattle.encode.specs.Encode.{littleBytes, patternOf}
 use Rattle.encode.proofs.Bytes.{length-bytes}
 use Rattle.delays.specs.Append.{groupBytes, longerDates, longerGroups, longerStore}
@@ -76,10 +76,9 @@ module _ (s : List ℕ) (n : ℕ) (counted : n ≡ count s) (long : 4 + 4 * n �
   unfolding longerDates
   dates-written mjd d room {d₁ = d₁} {d₂ = d₂} e f g h =
       let first : d₂ ≡ placed d 0 (take 2 s ++ b) = placed-behind d (take 2 s) b two (e ∙ within d 0 (take 2 s) (omega (arith, two))) (f ∙ ap (λ (m : ℕ). placed d₁ 2 (littleBytes 2 m)) more) in
-      let long₂ : length d₂ ≡ length d = ap length first ∙ length-placed d 0 (take 2 s ++ b) (omega (arith, two-long)) in
       placed-behind d ((take 2 s ++ b) ++ dates) (littleBytes 4 mjd) three-long
-      (placed-behind d (take 2 s ++ b) dates two-long first
-      (g ∙ ap (λ (m : ℕ). placedWithin d₂ 4 (take m (drop 4 s))) less ∙ within d₂ 4 dates (omega (arith, long₂, dates-long))))
+      (put-behind d (take 2 s ++ b) dates two-long (omega (arith, dates-long)) first
+      (g ∙ ap (λ (m : ℕ). placedWithin d₂ 4 (take m (drop 4 s))) less))
       h
     where
       b : List ℕ
@@ -99,11 +98,9 @@ module _ (s : List ℕ) (n : ℕ) (counted : n ≡ count s) (long : 4 + 4 * n �
       → d₃ ≡ placed d 0 (longerStore s mjd int cab refdly gd)
   unfolding longerStore longerGroups
   store-written mjd int cab refdly gd d v room {d₁} {d₂} e f g =
-      let long₁ : length d₁ ≡ length d = ap length e ∙ length-placed d 0 (longerDates s mjd) (omega (arith, length-dates mjd)) in
       placed-behind d (longerDates s mjd ++ rest) group both-long
-      (placed-behind d (longerDates s mjd) rest (length-dates mjd) e
-      (f ∙ ap (placedWithin d₁ (4 + 4 * n + 4)) (rest-part s (4 + 4 * n) ∙ ap (λ (m : ℕ). drop (4 + 4 * m) s) counted)
-      ∙ within d₁ (4 + 4 * n + 4) rest (omega (arith, long₁, rest-long))))
+      (put-behind d (longerDates s mjd) rest (length-dates mjd) (omega (arith, rest-long)) e
+      (f ∙ ap (placedWithin d₁ (4 + 4 * n + 4)) (rest-part s (4 + 4 * n) ∙ ap (λ (m : ℕ). drop (4 + 4 * m) s) counted)))
       (g ∙ ap (λ (w : ℕ). placed d₂ (length s + 4) (groupBytes (take (groupWidth w) (int ∷ cab ∷ refdly ∷ gd ∷ [])))) v)
       ∙ ap (placed d 0) (append-assoc (longerDates s mjd) rest group)
     where

@@ -1,4 +1,4 @@
--- What the answers mean in the papers' terms: the number of the refusal, 0 where there is none, and the four delays or the bytes written, 0
+-- What the answers mean (document 02, Job 9): the number of the refusal, 0 where there is none, and the four delays or the bytes written, 0
 -- throughout where there is a refusal.
 -- Assumes nothing.
 use Prim.Native.Nat.{ℕ, _<_}

@@ -10,7 +10,7 @@ use Rattle.limits.specs.Reply.{Reply, reply}
 use Rattle.delays.specs.Store.{version, count, start, delay, storeNumber}
 
 -- Of the first n entries, how many there are up to and with the latest one that starts not after the date; 0 where none does. Laws
--- `latest-answered` and `latest-only` of proofs/Promises.antt say that it is the latest, and the only one.
+-- `latest-answered` and `latest-only` of crate `inforce` say that it is the latest, and the only one.
 unfoldable pub inForce : (start : ℕ → ℕ) (mjd n : ℕ) → ℕ
 inForce start mjd zero = 0
 inForce start mjd (suc n) = cond (leb (start n) mjd) (suc n) (inForce start mjd n)

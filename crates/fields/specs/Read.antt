@@ -1,4 +1,4 @@
--- Numbers read from text: what a reader of the columns takes the digits for. Nothing here comes from the writer's definitions.
+-- Numbers read from text (document 02, Job 1): what a reader of the columns takes the digits for. Nothing here comes from the writer's definitions.
 -- Assumes nothing.
 use Prim.Native.Nat.{ℕ, _+_, _*_, _-_}
 use Prim.Native.Char.{code}

@@ -4,15 +4,11 @@
 use mathlib.Core.Path.{_≡_, refl, sym, ap, _∙_}
 use mathlib.Core.Bool.{false}
 use mathlib.Core.List.{List}
-use Prim.Native.Nat.{ℕ, zero, suc, _^_, _≤_, _<_}
+use Prim.Native.Nat.{ℕ, zero, suc, _≤_, _<_}
 use native.Mathlib.Nat.{not-suc-le-zero}
 use native.Mathlib.Omega.{arith}
 use lib.IntN.{ℤ}
-use lib.Signed.{mag}
-use mir.Syntax.{w64}
-use mir.Val.{toZ, ofZ}
 use lib.ListN.{length, take}
-use Rattle.whole.specs.Words.{back-of}
 use Rattle.limits.specs.Refusal.{_when_, _then_}
 use Rattle.limits.proofs.Laws.{then-zero, then-refused, then-passed, then-assoc}
 use Rattle.fit.specs.declared.TrackRecord.{TrackRecord}
@@ -53,7 +49,7 @@ unfolding trackRule tracked
 track-record g t e h =
     ap (λ (t : Tracked). t .«record») e ∙ ap (λ (n : ℕ). tracked n (results g) .«record») (sym (track-number g t e) ∙ h)
 
--- Fit's answer to the first n places where all are inside their limit: the line through them,
+-- Fit's answer to the first n places where all are inside their limit: the line through them
 abbrev lineThrough : ℕ → List ℤ → Fitted
 lineThrough n l = Fitted.Line (midpoint steps n (at l)) (slope steps n (at l))
 
@@ -64,14 +60,6 @@ fit-value n l h k m e (Fitted.Refused i) a f = absurd (never (ap (λ (r : Reply 
   where
     never : i ≡ 0 → 0 < i → ⊥
     never z p = omega arith
-
--- and no refusal, and the line's two numbers read back from their bits
-pub fit-never : {r : Fitted} {m s : ℤ} {n : ℕ} → r ≡ Fitted.Line m s → r ≡ Fitted.Refused n → ⊥
-fit-never {r} {m} {s} {n} p q = let z : _≡_ {A = ℕ} 0 1 = cc in omega arith
-
-pub line-numbers : {r : Fitted} {x y m s : ℤ} → r ≡ Fitted.Line m s → r ≡ Fitted.Line x y → mag x < 2 ^ 63 → mag y < 2 ^ 63
-    → (toZ w64 (ofZ w64 x) ≡ m) × (toZ w64 (ofZ w64 y) ≡ s)
-line-numbers {r} {x} {y} {m} {s} p q h k = let z : x ≡ m = cc in let w : y ≡ s = cc in (back-of h ∙ z, back-of k ∙ w)
 
 -- ---- by the corrected values
 

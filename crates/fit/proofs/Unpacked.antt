@@ -1,15 +1,15 @@
--- Laws of numbers that are still packed in bytes (specs/Packed.antt): a block of measurements is the row of its own piece, and a group of corrections
--- has the numbers of its row.
+-- Laws of numbers that are still packed in bytes (specs/Packed.antt): a block of measurements is the row of its own piece, a correction stands
+-- in its group, and what is found of them.
 -- Assumes nothing.
-use mathlib.Core.Path.{_≡_, refl, sym, ap, ap₂, _∙_, subst}
+use mathlib.Core.Path.{_≡_, sym, ap, _∙_, subst}
 use mathlib.Core.Bool.{true, false, not, _||_}
 use mathlib.Core.List.{List, []}
-use Prim.Native.Nat.{ℕ, zero, suc, _+_, _*_, _/_, _≤_, _<_}
+use Prim.Native.Nat.{ℕ, _+_, _*_, _/_, _≤_, _<_}
 use native.Mathlib.Nat.{le-trans}
 use native.Mathlib.Omega.{arith}
 use lib.Dec.{eqb, lit≤}
 use lib.IntN.{ℤ, pos, natAbs, _*ℤ_}
-use lib.ListN.{length, take, drop, set, replicate}
+use lib.ListN.{length, take, drop, replicate}
 use Rattle.limits.specs.Limits.{measurementLimit}
 use Rattle.limits.specs.Blocks.{blocksFit}
 use Rattle.limits.specs.Lists.{anyBeyond}
@@ -27,7 +27,7 @@ use Rattle.whole.specs.Table.{at}
 use Rattle.exact.specs.Corrected.{Given, steps, block, toA, toB}
 use Rattle.correcting.specs.Correct.{blocks, smoothedAt, valueA, valueB, valueC, valueD, places, wrongSizes, outOfLimits}
 use Rattle.correcting.specs.Answer.{filled, wholeBlocks, othersBeyond}
-use Rattle.correcting.proofs.Arrays.{places-at, places-bound, filled-places}
+use Rattle.correcting.proofs.Arrays.{places-at, places-bound, filled-alike, filled-places}
 use Rattle.correcting.proofs.Parts.{whole-blocks}
 use Rattle.correcting.proofs.Refusals.{limits-parts}
 use Rattle.fit.specs.declared.Found.{Found}
@@ -36,6 +36,13 @@ use Rattle.fit.specs.Found.{foundNumber, foundNumbers, found, judgedRule
 use Rattle.fit.specs.Packed.{grouped, packed, smoothedOf}
 use Rattle.fit.proofs.Accuracy.{results-accurate, enough}
 use Rattle.fit.proofs.Tracks.{found-number, found-numbers}
+
+-- a number of one group of n, each of forty bytes
+pub unpacked-group : (k : List ℕ) (n j from : ℕ) → 40 * n ≤ length k → j < n → from + 8 ≤ 40
+    → signedAt (take 40 (drop (40 * j) k)) from ≡ at (signedsAt k from 40 n) j
+unpacked-group k n j from fits h g =
+    let room : 40 * j + 40 ≤ length k = omega arith in
+    signed-piece k (40 * j) 40 room from g ∙ ap (signedAt k) (omega arith) ∙ sym (signeds-at k from 40 n j h)
 
 -- the measurements of n blocks
 module _ (m : List ℕ) (n : ℕ) (fits : 120 * n ≤ length m) where
@@ -53,21 +60,7 @@ module _ (m : List ℕ) (n : ℕ) (fits : 120 * n ≤ length m) where
       let all : 8 * (15 * n) ≤ length m = omega arith in
       ap (λ (k : ℕ). signedsAt (take 120 (drop k m)) 0 8 15) e ∙ signeds-part m (15 * j) 15 (15 * n) room all
 
--- a number of one group of n
-pub unpacked-group : (k : List ℕ) (n j from : ℕ) → 40 * n ≤ length k → j < n → from + 8 ≤ 40
-    → signedAt (take 40 (drop (40 * j) k)) from ≡ at (signedsAt k from 40 n) j
-unpacked-group k n j from fits h g =
-    let room : 40 * j + 40 ≤ length k = omega arith in
-    signed-piece k (40 * j) 40 room from g ∙ ap (signedAt k) (omega arith) ∙ sym (signeds-at k from 40 n j h)
-
 -- ---- what is found of packed numbers
-
--- two rows that are filled alike
-filled-alike : (n : ℕ) (f f' : ℕ → ℤ) (row : List ℤ) → ((j : ℕ) → j < n → f j ≡ f' j) → filled n f row ≡ filled n f' row
-unfolding filled
-filled-alike zero f f' row h = refl
-filled-alike (suc n) f f' row h =
-    ap₂ (λ (k : List ℤ) (z : ℤ). set k n z) (filled-alike n f f' row (λ j k. h j (omega arith))) (h n (omega arith))
 
 -- where nothing is outside, every block is whole, and the row holds its smoothed values
 module _ (l : List ℤ) (n : ℕ) (all : length l ≡ 15 * n) (most : n ≤ 52) (inside : anyBeyond measurementLimit l ≡ false) {y : List ℤ}

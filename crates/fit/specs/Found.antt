@@ -1,4 +1,4 @@
--- The ten numbers of a track without its corrected values, or the number of the refusal.
+-- The ten numbers of a track without its corrected values, or the number of the refusal (document 01, Track).
 -- Assumes nothing.
 use Prim.Native.Nat.{ℕ, zero, suc}
 use Rattle.limits.specs.Limits.{noNumbers}

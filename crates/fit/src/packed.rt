@@ -30,7 +30,7 @@ ghost use Rattle.decode.specs.Number.{signedAt, signedsAt};
 ghost use Rattle.exact.specs.Accurate.{AccurateTrack};
 ghost use Rattle.whole.specs.Table.{at};
 ghost use Rattle.exact.specs.Corrected.{steps, toA, toB};
-ghost use Rattle.correcting.specs.Answer.{filled, wholeBlocks, blocksRule, othersBeyond};
+ghost use Rattle.correcting.specs.Answer.{filled, wholeBlocks, measurementsRule, othersBeyond};
 ghost use Rattle.correcting.specs.Block.{blockValuesRule};
 ghost use Rattle.fit.specs.Found.{foundNumber, foundNumbers, foundRule};
 ghost use Rattle.fit.specs.Packed.{smoothedOf, grouped, packed};
@@ -48,7 +48,7 @@ fn fifteen(part: &[u8]) -> [i64; 15]
 // measurement beyond its limit: 2 where there is one. It counts the measurements that its limit test reads.
 fn smooth_blocks(measurements: &[u8], n: usize, row: &mut [i64; 52]) -> Corrected
     requires { ⌜ (n ≤ 52) × (120 * n ≤ length (now measurements)) ⌝ }
-    ensures { λ r. ⌜ r ≡ blocksRule (signedsAt (now (measurements .entry)) 0 8 (15 * n)) ⌝ }
+    ensures { λ r. ⌜ r ≡ measurementsRule (signedsAt (now (measurements .entry)) 0 8 (15 * n)) ⌝ }
     ensures { λ _. ⌜ now (row .exit) ≡ filled (wholeBlocks (signedsAt (now (measurements .entry)) 0 8 (15 * n)))
         (smoothedOf (signedsAt (now (measurements .entry)) 0 8 (15 * n))) (now (row .entry)) ⌝ }
 {
@@ -61,13 +61,16 @@ fn smooth_blocks(measurements: &[u8], n: usize, row: &mut [i64; 52]) -> Correcte
         let seen = scan(&numbers, MEASUREMENT_LEAST, MEASUREMENT_LIMIT);
         read += seen.read;
         if seen.outside {
-            return Corrected::Refused { number: 2, read };
+            return Corrected::Refused { refusal: 2, read };
         }
         let answer = smooth(&numbers);
         let Smoothed::Value(value) = answer else {
             // Never taken: the scan has found all fifteen inside.
             let number = smoothed_number(answer);
-            return Corrected::Refused { number, read };
+            return Corrected::Refused {
+                refusal: number,
+                read,
+            };
         };
         row[j] = value;
         j += 1;

@@ -13,7 +13,7 @@ use Rattle.fit.specs.declared.Found.{Found}
 use Rattle.fit.specs.Found.{foundRule}
 use Rattle.fit.specs.Packed.{packed}
 use Rattle.hire.specs.Hire.{blocksIn, blockLength, delayedIn, givenIn, blockGiven}
-use Rattle.hire.specs.Found.{blockRule}
+use Rattle.hire.specs.Found.{blockTrackRule}
 
 -- a block of n that is as long as its sizes make it
 module _ (b : List ℕ) (n : ℕ) (whole : length b ≡ blockLength n) where
@@ -47,10 +47,10 @@ module _ (b : List ℕ) (n : ℕ) (whole : length b ≡ blockLength n) where
       λ z. delayedIn b (measurements-are z) (first z) (column-is 8 z) (column-is 16 z) (column-is 24 z) (column-is 32 z)
 
 -- the answer by the length
-pub whole-found : (b : List ℕ) → length b ≡ blockLength (blocksIn b) → foundRule (blockGiven b) ≡ blockRule b
-unfolding blockRule
+pub whole-found : (b : List ℕ) → length b ≡ blockLength (blocksIn b) → foundRule (blockGiven b) ≡ blockTrackRule b
+unfolding blockTrackRule
 whole-found b e = rw (eq-eqb (length b) (blockLength (blocksIn b)) e)
 
-pub other-found : (b : List ℕ) → (length b ≡ blockLength (blocksIn b) → ⊥) → Found.Refused 11 ≡ blockRule b
-unfolding blockRule
+pub other-found : (b : List ℕ) → (length b ≡ blockLength (blocksIn b) → ⊥) → Found.Refused 11 ≡ blockTrackRule b
+unfolding blockTrackRule
 other-found b h = rw (ne-eqb (length b) (blockLength (blocksIn b)) h)

@@ -5,7 +5,7 @@ ghost use Rattle.exact.specs.Corrected.{steps};
 ghost use Rattle.fit.specs.Found.{foundNumber, foundNumbers};
 ghost use Rattle.exact.specs.Accurate.{AccurateTrack};
 ghost use Rattle.hire.specs.Hire.{blocksIn, sizesFit, blockLength, byteAt, blockLabels, blockGiven};
-ghost use Rattle.hire.specs.Found.{blockRule};
+ghost use Rattle.hire.specs.Found.{blockTrackRule};
 use decode::signed64;
 use decode::unsigned16;
 use decode::unsigned32;
@@ -59,7 +59,7 @@ pub fn length(block: &[u8]) -> usize
 // Track of the block's numbers, which are not copied into lists: it reads them where they stand. 11 where the block is not as long as its sizes make
 // it.
 pub fn track(block: &[u8]) -> Found
-    ensures answer { λ r. ⌜ r ≡ blockRule (now (block .entry)) ⌝ }
+    ensures answer { λ r. ⌜ r ≡ blockTrackRule (now (block .entry)) ⌝ }
     ensures accurate { λ r. ⌜ (foundNumber r ≡ 0 → AccurateTrack steps (blocksIn (now (block .entry))) (blockGiven (now (block .entry)))
         (foundNumbers r)) ⌝ }
 {

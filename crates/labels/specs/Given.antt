@@ -1,4 +1,4 @@
--- Labels and the ten numbers as a caller gives them, one after the other in their fixed orders.
+-- Labels and the ten numbers as a caller gives them, one after the other in their fixed orders (document 01, Line).
 -- Assumes nothing.
 use Prim.Native.Nat.{ℕ}
 use lib.IntN.{ℤ}

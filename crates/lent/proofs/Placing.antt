@@ -100,10 +100,6 @@ put-part d text part at h e =
     width : at + length text - at ≡ length text
     width = omega arith
 
--- the length of a part of some bytes
-pub length-part : (d : List ℕ) (at end : ℕ) → end ≤ length d → length (take (end - at) (drop at d)) ≡ end - at
-length-part d at end h = length-take-le (end - at) (drop at d) (rw length-drop (omega arith))
-
 -- what is placed from the first byte on, and what follows it
 pub placed-first : (d s : List ℕ) {n : ℕ} → length s ≡ n → placed d 0 s ≡ s ++ drop n d
 unfolding placed
@@ -112,3 +108,10 @@ placed-first d s e = ap (λ (m : ℕ). s ++ drop m d) (zero-add (length s) ∙ e
 -- one piece behind another that begins at the first byte
 pub placed-behind : (d : List ℕ) {d₁ d₂ : List ℕ} (s t : List ℕ) {n : ℕ} → length s ≡ n → d₁ ≡ placed d 0 s → d₂ ≡ placed d₁ n t → d₂ ≡ placed d 0 (s ++ t)
 placed-behind d s t l e f = f ∙ ap₂ (λ (x : List ℕ) (k : ℕ). placed x k t) e (sym l ∙ sym (zero-add (length s))) ∙ placed-onto d 0 s t zero-le
+
+-- a piece put behind others that begin at the first byte, where there is room
+pub put-behind : (d : List ℕ) {d₁ d₂ : List ℕ} (s t : List ℕ) {n : ℕ} → length s ≡ n → n + length t ≤ length d → d₁ ≡ placed d 0 s → d₂ ≡ placedWithin d₁ n t
+    → d₂ ≡ placed d 0 (s ++ t)
+put-behind d {d₁} s t {n} l room e f =
+    let long : length d₁ ≡ length d = ap length e ∙ length-placed d 0 s (omega (arith, l)) in
+    placed-behind d s t l e (f ∙ within d₁ n t (omega (arith, long)))

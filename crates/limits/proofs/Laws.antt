@@ -3,7 +3,7 @@
 use mathlib.Core.Path.{_≡_, refl, sym, ap₂, _∙_}
 use mathlib.Core.Bool.{Bool, true, false, not, _&&_, _||_, true≢false, false≢true}
 use Prim.Native.Nat.{ℕ, zero, suc, _≤_, _<_, zero-le, suc-le-suc}
-use native.Mathlib.Nat.{suc-ne-zero, not-suc-le-zero, le-of-suc-le-suc}
+use native.Mathlib.Nat.{suc-ne-zero, ne-of-gt, not-suc-le-zero, le-of-suc-le-suc}
 use lib.IntN.{ℤ, pos, negsuc, natAbs}
 use lib.Dec.{ltb, leb, eqb, eqb·suc-zero}
 use mir.Syntax.{w64}
@@ -71,6 +71,10 @@ pub after-refused : {A : Type 0} {number : ℕ} (written lent : A) → (number �
 after-refused {number = zero} written lent n = absurd (n refl)
 after-refused {number = suc number} written lent n = rw (eqb·suc-zero number)
 
+-- the same of a number above 0
+pub lent-kept : {A : Type 0} (number : ℕ) (written lent : A) → 0 < number → lent ≡ after number written lent
+lent-kept number written lent h = sym (after-refused written lent (ne-of-gt h))
+
 -- what is told by two tests joined
 pub both : (a b : Bool) → a && b ≡ true → (a ≡ true) × (b ≡ true)
 both true b e = (refl, e)
@@ -106,12 +110,17 @@ not-leb m n = by-test (leb m n) refl
     by-test true e = sym (le-ltb n m (leb-true m n e))
     by-test false e = sym (lt-ltb n m (leb-false m n e))
 
-pub eqb-turned : (m n : ℕ) → eqb m n ≡ eqb n m
-eqb-turned m n = by-test (eqb n m) refl
+-- two tests that hold in the same cases
+pub eqb-same : (a b c d : ℕ) → (a ≡ b → c ≡ d) → (c ≡ d → a ≡ b) → eqb a b ≡ eqb c d
+eqb-same a b c d f g = by-test (eqb c d) refl
   where
-    by-test : (t : Bool) → eqb n m ≡ t → eqb m n ≡ t
-    by-test true e = eq-eqb m n (sym (eqb-true n m e))
-    by-test false e = ne-eqb m n (λ h. eqb-false n m e (sym h))
+    by-test : (t : Bool) → eqb c d ≡ t → eqb a b ≡ t
+    by-test true e = eq-eqb a b (g (eqb-true c d e))
+    by-test false e = ne-eqb a b (λ h. eqb-false c d e (f h))
+
+-- so a test holds the other way round
+pub eqb-turned : (m n : ℕ) → eqb m n ≡ eqb n m
+eqb-turned m n = eqb-same m n n m sym sym
 
 -- within plus or minus a limit, the magnitude is at most the limit
 pub magnitude-within : (limit : ℕ) (z : ℤ) → beyond limit z ≡ false → natAbs z ≤ limit

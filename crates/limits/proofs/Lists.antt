@@ -6,7 +6,7 @@ use mathlib.Core.List.{List, [], _∷_}
 use Prim.Native.Nat.{ℕ, zero, suc, _+_, _≤_, _<_, zero-le}
 use native.Mathlib.Numerals.{add-one}
 use lib.IntN.{ℤ, pos, natAbs}
-use lib.ListN.{length, take, drop, getD, drop-of-length-le}
+use lib.ListN.{length, take, drop, getD}
 use lib.Seq.{drop-cons}
 use Rattle.limits.specs.Limits.{outside, beyond}
 use Rattle.limits.proofs.Laws.{or-false, magnitude-within, within-magnitude, then-zero, when-zero}
@@ -47,6 +47,12 @@ counted n l e = eqb-true (length l) n (not-false (eqb (length l) n) e)
 
 pub counts : (n : ℕ) (l : List ℤ) → length l ≡ n → miscounted n l ≡ false
 counts n l e = rw (eq-eqb (length l) n e)
+
+-- a list from a place on: the number there, and those behind it
+pub any-from : (low high : ℤ) (l : List ℤ) (i : ℕ) → i < length l
+    → anyOutside low high (drop i l) ≡ outside low high (getD l i (pos 0)) || anyOutside low high (drop (i + 1) l)
+unfolding anyOutside
+any-from low high l i h = rw (add-one, drop-cons l i (pos 0) h)
 
 -- a part of a list that passed has passed
 pub any-drop : (low high : ℤ) (m : ℕ) (l : List ℤ) → anyOutside low high l ≡ false → anyOutside low high (drop m l) ≡ false

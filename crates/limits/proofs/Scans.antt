@@ -5,13 +5,14 @@ use mathlib.Core.Bool.{Bool, true, false, true≢false, cond, _||_}
 use mathlib.Core.List.{List, [], _∷_}
 use Prim.Native.Nat.{ℕ, zero, suc, min, _+_, _≤_, _<_}
 use native.Mathlib.Numerals.{add-one}
-use native.Mathlib.Nat.{suc-min-suc, zero-min, min-zero, min-eq-left, add-zero, not-suc-le-zero, le-of-suc-le-suc}
+use native.Mathlib.Nat.{suc-min-suc, zero-min, min-zero, min-eq-left, add-zero, zero-add, not-suc-le-zero, le-of-suc-le-suc}
 use native.Mathlib.Omega.{arith}
 use lib.IntN.{ℤ, pos}
-use lib.ListN.{length, drop, getD, drop-of-length-le}
+use lib.ListN.{length, take, drop, getD, drop-of-length-le}
 use lib.Seq.{drop-cons}
 use Rattle.limits.specs.Limits.{outside}
 use Rattle.limits.proofs.Laws.{or-false}
+use Rattle.limits.proofs.Lists.{any-from}
 use Rattle.limits.specs.Lists.{anyOutside}
 use Rattle.limits.specs.Scan.{firstOutside, readTo, scanRule}
 use Rattle.limits.specs.declared.Scanned.{Scanned}
@@ -39,8 +40,7 @@ Left low high l i = (anyOutside low high l ≡ anyOutside low high (drop i l)) �
 
 module _ (low high : ℤ) (l : List ℤ) (i : ℕ) (so-far : Left low high l i) where
   any-step : i < length l → anyOutside low high l ≡ outside low high (getD l i (pos 0)) || anyOutside low high (drop (i + 1) l)
-  unfolding anyOutside
-  any-step h = so-far .0 ∙ rw (add-one, drop-cons l i (pos 0) h)
+  any-step h = so-far .0 ∙ any-from low high l i h
 
   read-step : i < length l
       → readTo low high l ≡ i + suc (cond (outside low high (getD l i (pos 0))) 0 (readTo low high (drop (i + 1) l)))
@@ -102,3 +102,32 @@ none-outside low high [] e = refl
 none-outside low high (z ∷ l) e =
     let o = or-false (outside low high z) (anyOutside low high l) e in
     rw (o .0, none-outside low high l (o .1))
+
+-- ---- part by part: where the first k numbers are inside, the rest tells; else they do
+
+module _ (low high : ℤ) where
+  -- the first k numbers are inside
+  pub inside-front : (k : ℕ) (l : List ℤ) → k ≤ length l → anyOutside low high (take k l) ≡ false
+      → (anyOutside low high l ≡ anyOutside low high (drop k l)) × (firstOutside low high l ≡ k + firstOutside low high (drop k l))
+  unfolding anyOutside firstOutside
+  inside-front zero l h e = (refl, sym (zero-add _))
+  inside-front (suc k) [] h e = absurd (not-suc-le-zero h)
+  inside-front (suc k) (z ∷ l) h e =
+      let o = or-false (outside low high z) (anyOutside low high (take k l)) e in
+      let r = inside-front k l (le-of-suc-le-suc h) (o .1) in
+      (ap (λ (b : Bool). b || anyOutside low high l) (o .0) ∙ r .0, ap (λ (b : Bool). cond b 0 (suc (firstOutside low high l))) (o .0) ∙ ap suc (r .1) ∙ omega arith)
+
+  -- one of them is outside
+  pub beyond-front : (k : ℕ) (l : List ℤ) → anyOutside low high (take k l) ≡ true
+      → (anyOutside low high l ≡ true) × (firstOutside low high l ≡ firstOutside low high (take k l))
+  unfolding anyOutside firstOutside
+  beyond-front zero l e = absurd (true≢false (sym e))
+  beyond-front (suc k) [] e = absurd (true≢false (sym e))
+  beyond-front (suc k) (z ∷ l) e = by (outside low high z) (beyond-front k l) e
+    where
+      by : (b : Bool) → (anyOutside low high (take k l) ≡ true → (anyOutside low high l ≡ true) × (firstOutside low high l ≡ firstOutside low high (take k l)))
+          → b || anyOutside low high (take k l) ≡ true
+          → (b || anyOutside low high l ≡ true)
+          × (cond b 0 (suc (firstOutside low high l)) ≡ cond b 0 (suc (firstOutside low high (take k l))))
+      by true r e = (refl, refl)
+      by false r e = (r e .0, ap suc (r e .1))

@@ -16,9 +16,16 @@ outside low high z = ltZ z low || ltZ high z
 abbrev pub beyond : ℕ → ℤ → Bool
 beyond limit z = outside (negℤ (pos limit)) (pos limit) z
 
--- The limits on what is given, in ps: on a measurement, and on INT, CAB, REF, GD and every correction but the geometry.
+-- The limits on what is given, in ps: on a measurement, with the least and the most that it may be, and on INT, CAB, REF, GD and every correction but
+-- the geometry.
 abbrev pub measurementLimit : ℕ
 measurementLimit = 10 ^ 12
+
+abbrev pub measurementLeast : ℤ
+measurementLeast = negℤ (pos measurementLimit)
+
+abbrev pub measurementMost : ℤ
+measurementMost = pos measurementLimit
 
 abbrev pub delayLimit : ℕ
 delayLimit = 10 ^ 10
@@ -35,7 +42,7 @@ limitsNumber n =
     then 4 when (beyond 99999 (n .srsv) || beyond 99999 (n .srsys) || beyond 999 (n .smdt) || beyond 999 (n .smdi))
     then 5 when (outside (pos 0) (pos 9999) (n .mdtr) || outside (pos 0) (pos 9999) (n .mdio))
 
--- 6 on a DSG that is given.
+-- 6 on a DSG, given or computed.
 unfoldable pub dsgNumber : ℤ → ℕ
 dsgNumber dsg = 6 when outside (pos 0) (pos 9999) dsg
 

@@ -26,6 +26,6 @@ anyBeyond limit l = anyOutside (negℤ (pos limit)) (pos limit) l
 unfoldable pub rangeNumber : (wrong : Bool) → ℤ → ℤ → List ℤ → ℕ
 rangeNumber wrong low high l = 1 when wrong then 2 when anyOutside low high l
 
--- 2: a number is outside plus or minus limit.
+-- The same, with plus or minus limit for low and high.
 abbrev pub listNumber : (wrong : Bool) → ℕ → List ℤ → ℕ
 listNumber wrong limit l = rangeNumber wrong (negℤ (pos limit)) (pos limit) l

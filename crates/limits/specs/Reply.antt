@@ -1,5 +1,5 @@
--- What an answer stands for in the papers' terms: the number of the refusal, 0 where there is none, and the values, 0 throughout where there
--- is a refusal.
+-- What an answer stands for: the number of the refusal, 0 where there is none, and the values, 0 throughout where there is a refusal (document 01,
+-- "Each operation and its refusals, in order").
 -- Assumes nothing.
 use Prim.Native.Nat.{ℕ, zero, suc}
 

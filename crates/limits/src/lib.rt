@@ -122,7 +122,7 @@ pub fn limits(numbers: Numbers) -> u32
     then(when(3, midpoints), then(when(4, slopes), when(5, delays)))
 }
 
-// 6 where a DSG that is given is outside its limits.
+// 6 where a DSG is outside its limits.
 pub fn dsg(dsg: i64) -> u32
     ensures { λ r. ⌜ r ≡ dsgNumber dsg ⌝ }
 {

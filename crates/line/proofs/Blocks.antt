@@ -21,13 +21,13 @@ use Rattle.columns.specs.Text.{lineLength}
 use Rattle.columns.specs.Columns.{readNumbers}
 use Rattle.line.specs.Line.{lineAnswer, lineAfter}
 use Rattle.hire.specs.Hire.{blocksIn, sizesFit, blockLength, blockLabels, blockGiven}
-use Rattle.hire.specs.Found.{blockRule}
+use Rattle.hire.specs.Found.{blockTrackRule}
 use Rattle.hire.proofs.Lists.{whole-found}
 use Rattle.line.specs.Block.{blockNumbers, blockLine, sizesNumber, blockAnswer, blockAfter}
 use Rattle.line.proofs.ReadBack.{numbers-read}
 
 -- a block whose sizes and length pass is given to Track
-pub sizes-found : (b : List ℕ) → sizesNumber b ≡ 0 → blockRule b ≡ foundRule (blockGiven b)
+pub sizes-found : (b : List ℕ) → sizesNumber b ≡ 0 → blockTrackRule b ≡ foundRule (blockGiven b)
 unfolding sizesNumber
 sizes-found b e =
     let sizes = then-zero (11 when ltb (length b) 4) _ e .1 in

@@ -3,8 +3,9 @@
 use mathlib.Core.Path.{_≡_, refl}
 use mathlib.Core.Bool.{true}
 use mathlib.Core.List.{List, [], _∷_}
-use Prim.Native.Nat.{ℕ, zero, suc}
-use lib.ListN.{drop}
+use Prim.Native.Nat.{ℕ, zero, suc, _<_}
+use native.Mathlib.Nat.{not-suc-le-zero, le-of-suc-le-suc}
+use lib.ListN.{length, drop, getD}
 use Rattle.limits.specs.Refusal.{_when_, _then_}
 use Rattle.limits.proofs.Laws.{then-zero, when-zero}
 use borrow.Author.Tests.{not-false}
@@ -33,10 +34,10 @@ pub all-map : (P Q : List ℕ → Type 0) → ((l : List ℕ) → P l → Q l) �
 all-map P Q f [] a = tt
 all-map P Q f (l ∷ ls) a = (f l (a .0), all-map P Q f ls (a .1))
 
-pub all-drop : (P : List ℕ → Type 0) (n : ℕ) (ls : List (List ℕ)) → All P ls → All P (drop n ls)
-all-drop P zero ls a = a
-all-drop P (suc n) [] a = tt
-all-drop P (suc n) (l ∷ ls) a = all-drop P n ls (a .1)
+pub all-at : (P : List ℕ → Type 0) (ls : List (List ℕ)) → All P ls → (i : ℕ) → i < length ls → P (getD ls i [])
+all-at P [] a i h = absurd (not-suc-le-zero h)
+all-at P (l ∷ ls) a zero h = a .0
+all-at P (l ∷ ls) a (suc i) h = all-at P ls (a .1) i (le-of-suc-le-suc h)
 
 -- no keys stand before the keys of any line
 pub before-none : (line : List ℕ) → before [] (keys line) ≡ true

@@ -1,9 +1,10 @@
--- Whether a line is among ascending ones, and how often.
+-- Whether a line is among others, and how often; among ascending ones it is once at most.
 -- Assumes nothing.
 use mathlib.Core.Path.{_≡_, refl, sym, ap, ap₂, subst, _∙_}
 use mathlib.Core.Bool.{Bool, true, false, cond, _||_, false≢true}
-use mathlib.Core.List.{List, [], _∷_}
-use Prim.Native.Nat.{ℕ, _+_}
+use mathlib.Core.List.{List, [], _∷_, _++_}
+use Prim.Native.Nat.{ℕ, _+_, _≤_}
+use native.Mathlib.Nat.{zero-add}
 use native.Mathlib.Omega.{arith}
 use Rattle.limits.proofs.Laws.{either, never}
 use Rattle.linefile.specs.Files.{same, keys, before}
@@ -18,6 +19,11 @@ holds line (other ∷ others) = same line other || holds line others
 unfoldable pub times : (line : List ℕ) → List (List ℕ) → ℕ
 times line [] = 0
 times line (other ∷ others) = cond (same line other) 1 0 + times line others
+
+pub times-append : (l : List ℕ) (xs ys : List (List ℕ)) → times l (xs ++ ys) ≡ times l xs + times l ys
+unfolding times
+times-append l [] ys = sym (zero-add (times l ys))
+times-append l (x ∷ xs) ys = omega (arith, times-append l xs ys)
 
 -- ---- ascending lines
 
@@ -47,6 +53,13 @@ ascending-once l k (o ∷ os) a = by-test (same l o) refl (ascending-once l (key
         let n = subst (λ (t : List ℕ). holds t os ≡ false) (sym (same-eq l o e)) (not-held o os (a .1)) in
         ap (λ (t : ℕ). 1 + t) (h ∙ ap (λ (t : Bool). cond t 1 0) n)
     by-test false e h = omega (arith, h)
+
+pub ascending-few : (l k : List ℕ) (xs : List (List ℕ)) → Ascending k xs → times l xs ≤ 1
+ascending-few l k xs a = rw (ascending-once l k xs a) (by-test (holds l xs))
+  where
+    by-test : (b : Bool) → cond b 1 0 ≤ 1
+    by-test true = omega arith
+    by-test false = omega arith
 
 -- two ascending lists that hold the same lines are the same
 pub ascending-only : (j k : List ℕ) (xs ys : List (List ℕ)) → Ascending j xs → Ascending k ys → ((l : List ℕ) → holds l xs ≡ holds l ys) → xs ≡ ys

@@ -2,13 +2,14 @@
 -- Assumes nothing.
 use mathlib.Core.Path.{_≡_, refl, sym, ap, ap₂, _∙_}
 use mathlib.Core.List.{List, [], _∷_, _++_, append-assoc}
-use Prim.Native.Nat.{ℕ, zero, suc, _+_, _*_, _/_}
-use native.Mathlib.Nat.{mul-div-cancel-left}
+use Prim.Native.Nat.{ℕ, zero, suc, _+_, _*_, _/_, _<_}
+use native.Mathlib.Nat.{not-suc-le-zero, le-of-suc-le-suc, mul-div-cancel-left}
 use native.Mathlib.Omega.{arith}
 use lib.Dec.{lit<}
-use lib.ListN.{length, take, drop, length-append, length-drop, take-append-drop}
+use lib.ListN.{length, take, drop, getD, length-append, length-drop, take-append-drop}
 use lib.Seq.{take-at, drop-at, drop-nil, drop-append-add}
-use Rattle.linefile.specs.Files.{endedLength, linesIn, lines, joined}
+use Rattle.columns.specs.Text.{endedLength}
+use Rattle.linefile.specs.Files.{linesIn, lines, joined}
 use Rattle.linefile.proofs.Ascending.{All}
 use Rattle.linefile.proofs.Lines.{Long, LineFile, lines-long}
 
@@ -59,6 +60,19 @@ pub joined-append : (xs ys : List (List ℕ)) → joined (xs ++ ys) ≡ joined x
 unfolding joined
 joined-append [] ys = refl
 joined-append (x ∷ xs) ys = ap (λ (t : List ℕ). x ++ t) (joined-append xs ys) ∙ sym (append-assoc x (joined xs) (joined ys))
+
+-- one of the lines, with whatever stands behind all of them
+pub line-of : (ls : List (List ℕ)) → All Long ls → (rest : List ℕ) (i : ℕ) → i < length ls → take endedLength (drop (endedLength * i) (joined ls ++ rest)) ≡ getD ls i []
+unfolding joined
+line-of [] a rest i h = absurd (not-suc-le-zero h)
+line-of (l ∷ ls) a rest zero h = ap (take endedLength) (append-assoc l (joined ls) rest) ∙ take-at l (joined ls ++ rest) endedLength (a .0)
+line-of (l ∷ ls) a rest (suc i) h =
+    ap (take endedLength)
+    (ap₂ drop (further (length l) (a .0)) (append-assoc l (joined ls) rest) ∙ drop-append-add l (joined ls ++ rest) (endedLength * i))
+    ∙ line-of ls (a .1) rest i (le-of-suc-le-suc h)
+  where
+    further : (n : ℕ) → n ≡ endedLength → endedLength * suc i ≡ n + endedLength * i
+    further n e = omega arith
 
 -- ---- a line file
 

@@ -4,6 +4,7 @@ use mathlib.Core.Path.{_≡_, refl, sym, ap, ap₂, _∙_}
 use mathlib.Core.Bool.{Bool, true, false, not, _&&_, _||_, and-true}
 use mathlib.Core.List.{List, [], _∷_}
 use Prim.Native.Nat.{ℕ, zero, suc, _+_, _≤_, _<_}
+use native.Mathlib.Nat.{pos-of-ne-zero}
 use native.Mathlib.Numerals.{add-one}
 use native.Mathlib.Omega.{arith}
 use lib.Dec.{ltb, leb, eqb}
@@ -12,12 +13,12 @@ use lib.Seq.{drop-cons}
 use borrow.Author.Tests.{ltb-false, eqb-false, lt-ltb}
 use Rattle.limits.specs.Refusal.{_when_, _then_}
 use Rattle.limits.proofs.Laws.{then-refused, then-passed, then-assoc, then-none, not-ltb}
-use Rattle.linefile.specs.Files.{endedLength, columnsOf, same, hasLineEnd, keys, before, endedNumber, linesNumber}
+use Rattle.linefile.specs.Files.{columnsOf, same, hasLineEnd, keys, before, endedNumber, linesNumber}
 use Rattle.reading.specs.Read.{readNumber}
 use Rattle.linefile.specs.Walk.{rank}
 use Rattle.linefile.proofs.Ascending.{Accepted, before-none}
 use Rattle.linefile.proofs.Ranks.{rank-before, rank-some}
-use Rattle.columns.specs.Text.{lineLength}
+use Rattle.columns.specs.Text.{lineLength, endedLength}
 
 -- Lines behind one of the rank `last`.
 unfoldable pub rankedNumber : (last : ℕ) → List (List ℕ) → ℕ
@@ -101,7 +102,4 @@ judged-all ls i last number {allNumber} e t = by-test (ltb i (length ls)) refl
         t
         ∙ ap (λ (l : List (List ℕ)). number then rankedNumber last l) (drop-of-length-le ls (ltb-false i (length ls) f))
         ∙ then-none number
-    by-test true f = t ∙ then-refused number _ (some (eqb-false number 0 (rw f at e)))
-      where
-        some : (number ≡ 0 → ⊥) → 0 < number
-        some h = omega arith
+    by-test true f = t ∙ then-refused number _ (pos-of-ne-zero (eqb-false number 0 (rw f at e)))

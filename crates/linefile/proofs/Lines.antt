@@ -1,6 +1,6 @@
 -- The lines of a file and its bytes (specs/Files.antt).
 -- Assumes nothing.
-use mathlib.Core.Path.{_≡_, refl, sym, ap, subst, _∙_}
+use mathlib.Core.Path.{_≡_, refl, sym, ap, _∙_}
 use mathlib.Core.Bool.{true, _&&_}
 use mathlib.Core.List.{List, []}
 use Prim.Native.Nat.{ℕ, zero, suc, _+_, _-_, _*_, _/_, _%_, _≤_, _<_}
@@ -8,12 +8,13 @@ use native.Mathlib.Nat.{not-suc-le-zero, le-of-suc-le-suc}
 use native.Mathlib.Omega.{arith}
 use lib.Dec.{ltb}
 use lib.ListN.{length, take, drop, getD, length-drop}
-use lib.Seq.{length-take-le, drop-cons, drop-drop}
+use lib.Seq.{length-take-le, drop-drop}
 use borrow.Author.Tests.{ltb-true, eqb-true, eq-eqb, not-false}
 use Rattle.limits.specs.Refusal.{_when_, _then_}
 use Rattle.limits.proofs.Laws.{then-zero, when-zero, both}
-use Rattle.linefile.specs.Files.{endedLength, linesIn, lines, linesNumber, fileNumber}
-use Rattle.linefile.proofs.Ascending.{Ascending, All, Accepted, all-drop, lines-accepted, accepted-lines}
+use Rattle.columns.specs.Text.{endedLength}
+use Rattle.linefile.specs.Files.{linesIn, lines, linesNumber, fileNumber}
+use Rattle.linefile.proofs.Ascending.{Ascending, All, Accepted, all-at, lines-accepted, accepted-lines}
 
 -- A line with its end.
 abbrev pub Long : List ℕ → Type 0
@@ -113,5 +114,4 @@ empty-file = refl
 
 -- each of its lines is accepted
 pub line-accepted : (file : List ℕ) → LineFile file → (i : ℕ) → i < length file / endedLength → Accepted (getD (lines file) i [])
-line-accepted file f i h =
-    subst (All Accepted) (drop-cons (lines file) i [] (subst (λ (n : ℕ). i < n) (sym (length-lines file)) h)) (all-drop Accepted i (lines file) (f .accepted)) .0
+line-accepted file f i h = all-at Accepted (lines file) (f .accepted) i (rw (length-lines file) h)

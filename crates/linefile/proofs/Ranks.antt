@@ -1,21 +1,18 @@
 -- Accepted lines ascend by their rank (specs/Walk.antt) as they do by their keys.
 -- Assumes nothing.
 use mathlib.Core.Path.{_≡_, sym, ap, ap₂, _∙_}
-use mathlib.Core.Bool.{true}
 use mathlib.Core.List.{List, [], _∷_}
 use Prim.Native.Nat.{ℕ, _+_, _*_, _≤_, _<_}
 use native.Mathlib.Nat.{le-of-lt}
 use native.Mathlib.Omega.{arith}
-use lib.Dec.{ltb, eqb, lit<, lit≤}
+use lib.Dec.{ltb, lit<, lit≤}
 use lib.ListN.{getD}
 use lib.Seq.{getD-take}
-use borrow.Author.Tests.{lt-ltb, le-ltb, eqb-true}
+use borrow.Author.Tests.{lt-ltb, le-ltb}
 use Rattle.fields.specs.Read.{readDecimal}
 use Rattle.fields.specs.Raw.{twoDigits}
 use Rattle.columns.specs.Columns.{byteIn, field, labelsWith, readLabels}
-use Rattle.characters.specs.Kinds.{letterFits}
-use Rattle.limits.proofs.Laws.{either}
-use Rattle.characters.proofs.Allowed.{letter-is}
+use Rattle.characters.proofs.Allowed.{letter-is, letter-bound}
 use Rattle.reading.proofs.Columns.{field-bound, holds-at}
 use Rattle.linefile.specs.Files.{columnsOf, keysOf, keys, before}
 use Rattle.linefile.specs.Walk.{rank}
@@ -23,21 +20,6 @@ use Rattle.linefile.proofs.Keys.{Heads, less, equal, more, heads, befor
 use Rattle.linefile.proofs.Ascending.{Accepted}
 use Rattle.linefile.proofs.Digits.{letter-holds, rawFrom, excess, row, columns, digits-raw}
 use Rattle.columns.specs.Text.{lineLength}
-
--- the letter is that of a constellation
-letter-bound : (b : ℕ) → letterFits b ≡ true → b < 256
-unfolding letterFits
-letter-bound b e =
-    either _ (eqb b 74) e
-    (λ f. either _ (eqb b 67) f
-    (λ g. either _ (eqb b 69) g
-    (λ h. either (eqb b 71) (eqb b 82) h (is 71 (lit< tt)) (is 82 (lit< tt)))
-    (is 69 (lit< tt)))
-    (is 67 (lit< tt)))
-    (is 74 (lit< tt))
-  where
-    is : (n : ℕ) → n < 256 → eqb b n ≡ true → b < 256
-    is n h e = omega (arith, eqb-true b n e)
 
 -- ---- the keys as one number
 

@@ -1,19 +1,15 @@
 -- Line files (document 02, Job 5): their lines, the order in which these ascend, and what a file is refused for.
 -- Assumes nothing.
-use Prim.Native.Nat.{ℕ, zero, suc, _+_, _/_, _%_}
+use Prim.Native.Nat.{ℕ, zero, suc, _/_, _%_}
 use mathlib.Core.Bool.{Bool, true, false, not, _&&_, _||_}
 use mathlib.Core.List.{List, [], _∷_, _++_}
 use lib.Dec.{ltb, eqb}
 use lib.ListN.{length, take, drop, getD}
 use Rattle.limits.specs.Refusal.{_when_, _then_}
 use Rattle.labels.specs.declared.Labels.{Labels}
-use Rattle.columns.specs.Text.{lineLength, lineEnd}
+use Rattle.columns.specs.Text.{lineLength, endedLength, lineEnd}
 use Rattle.columns.specs.Columns.{readLabels}
 use Rattle.reading.specs.Read.{readNumber}
-
--- A line of a file has 115 bytes: 113 columns, carriage return and line feed.
-abbrev pub endedLength : ℕ
-endedLength = lineLength + 2
 
 -- So many lines at the beginning of some bytes, and the lines of a file. A tail too short for a line is none of them.
 unfoldable pub linesIn : ℕ → List ℕ → List (List ℕ)

@@ -1,4 +1,4 @@
--- The lines of two files that share all four keys: what merge compares, and what common view makes its pairs of.
+-- The lines of two files that share all four keys: what merge compares, and what common view makes its pairs of (document 02, Jobs 5 and 6).
 -- Assumes nothing.
 use Prim.Native.Nat.{ℕ}
 use mathlib.Core.Bool.{cond}

@@ -1,4 +1,4 @@
--- What the functions that walk the files promise each other: how lines are ranked by one number, and how a walk goes on by it.
+-- What the functions that walk the files promise each other (document 02, Jobs 5 and 6): how lines are ranked by one number, and how a walk goes on by it.
 -- Assumes nothing.
 use Prim.Native.Nat.{ℕ, _+_, _*_, _/_}
 use mathlib.Core.Bool.{false, cond, _&&_}
@@ -6,7 +6,8 @@ use mathlib.Core.List.{List}
 use lib.Dec.{ltb, leb, eqb}
 use lib.ListN.{length, getD}
 use Rattle.fields.specs.Raw.{twoDigits}
-use Rattle.linefile.specs.Files.{endedLength, lineAt}
+use Rattle.columns.specs.Text.{endedLength}
+use Rattle.linefile.specs.Files.{lineAt}
 use Rattle.linefile.specs.declared.Next.{Next}
 
 -- One number for the four keys of an accepted line, each with a radix beyond what it reaches: so lines ascend by it as they do by their keys.

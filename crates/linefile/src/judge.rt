@@ -1,7 +1,8 @@
 // What a line is refused for by itself.
 ghost use mathlib.Core.Path.{_≡_};
 ghost use lib.ListN.{length};
-ghost use Rattle.linefile.specs.Files.{endedLength, endedNumber};
+ghost use Rattle.columns.specs.Text.{endedLength};
+ghost use Rattle.linefile.specs.Files.{endedNumber};
 use columns::LINE_LENGTH;
 use limits::when;
 use reader::Reading;

@@ -7,27 +7,24 @@ ghost use Prim.Native.Nat.{_≤_};
 ghost use Rattle.limits.specs.Refusal.{_then_};
 ghost use Rattle.linefile.specs.Files.{fileNumber};
 ghost use Rattle.linefile.specs.Walk.{stepOf};
-use columns::LINE_LENGTH;
+use columns::ENDED_LENGTH;
 use limits::then;
 use limits::when;
 
 mod judge;
 mod rank;
 
-// The bytes of a line of a file: its columns, carriage return and line feed.
-pub const LINE: usize = LINE_LENGTH + 2;
-
 // What a file is refused for. The lines are read one by one up to the first that is refused; then the tail is looked at.
 pub fn refusal(file: &[u8]) -> u32
     ensures { λ r. ⌜ r ≡ fileNumber (now (file .entry)) ⌝ }
 {
-    let count = file.len() / LINE;
+    let count = file.len() / ENDED_LENGTH;
     let mut last: u64 = 0;
     let mut number: u32 = 0;
     let mut i = 0;
     while (i < count) & (number == 0) {
-        let at = LINE * i;
-        let line = &file[at..at + LINE];
+        let at = ENDED_LENGTH * i;
+        let line = &file[at..at + ENDED_LENGTH];
         let place = rank::rank(line);
         let own = judge::line_refusal(line);
         let order = when(16, place <= last);
@@ -35,7 +32,7 @@ pub fn refusal(file: &[u8]) -> u32
         last = place;
         i += 1;
     }
-    then(number, when(12, file.len() % LINE != 0))
+    then(number, when(12, file.len() % ENDED_LENGTH != 0))
 }
 
 // What two files are refused for: the first before the second, which is not read where the first is refused.
@@ -70,7 +67,7 @@ fn unit(b: bool) -> usize
 pub fn step(first: &[u8], m: usize, second: &[u8], n: usize) -> Next
     ensures { λ r. ⌜ r ≡ stepOf (now (first .entry)) (now (second .entry)) m n ⌝ }
 {
-    if (m < first.len() / LINE) & (n < second.len() / LINE) {
+    if (m < first.len() / ENDED_LENGTH) & (n < second.len() / ENDED_LENGTH) {
         let p = rank::rank_at(first, m);
         let q = rank::rank_at(second, n);
         return Next {

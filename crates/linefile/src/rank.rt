@@ -2,9 +2,10 @@
 ghost use mathlib.Core.Path.{_≡_};
 ghost use Prim.Native.Nat.{_<_, _/_};
 ghost use lib.ListN.{length};
-ghost use Rattle.linefile.specs.Files.{endedLength, lineAt};
+ghost use Rattle.columns.specs.Text.{endedLength};
+ghost use Rattle.linefile.specs.Files.{lineAt};
 ghost use Rattle.linefile.specs.Walk.{rank};
-use super::LINE;
+use columns::ENDED_LENGTH;
 use fields::byte_at;
 use fields::two_digits;
 
@@ -24,6 +25,6 @@ pub fn rank_at(file: &[u8], i: usize) -> u64
     requires { ⌜ i < length (now file) / endedLength ⌝ }
     ensures { λ r. ⌜ r ≡ rank (lineAt (now (file .entry)) i) ⌝ }
 {
-    let at = LINE * i;
-    rank(&file[at..at + LINE])
+    let at = ENDED_LENGTH * i;
+    rank(&file[at..at + ENDED_LENGTH])
 }

@@ -3,14 +3,12 @@
 use mathlib.Core.Path.{_≡_, sym, ap, _∙_}
 use mathlib.Core.List.{List, _++_}
 use Prim.Native.Nat.{ℕ, _≤_, _<_}
-use native.Mathlib.Omega.{arith}
 use lib.Dec.{ltb}
 use lib.ListN.{length, drop}
 use borrow.Author.Tests.{ltb-false}
 use Rattle.limits.specs.Refusal.{_when_, _then_}
-use Rattle.limits.specs.Reply.{reply}
-use Rattle.limits.proofs.Laws.{then-zero, then-refused, then-passed, then-assoc, when-zero, after-accepted, after-refused}
-use Rattle.limits.proofs.Replies.{reply-accepted, reply-refused}
+use Rattle.limits.proofs.Laws.{then-zero, then-refused, then-passed, then-assoc, when-zero, after-accepted}
+use Rattle.limits.proofs.Replies.{reply-accepted, refused-reply}
 use Rattle.linefile.specs.Files.{lines, fileNumber}
 use Rattle.linefile.specs.Partners.{partners}
 use Rattle.merging.specs.Merge.{anyDiffer, mergedFile, mergeNumber, mergeRule, mergeAfter}
@@ -31,13 +29,7 @@ module _ (first second lent : List ℕ) where
   refused : {number : ℕ} → number ≡ mergeNumber first second (length lent) → 0 < number
       → (record { number = number; values = 0 } ≡ mergeRule first second (length lent)) × (lent ≡ mergeAfter first second lent)
   unfolding mergeRule mergeAfter
-  refused {number} e h = (
-    sym (ap (λ (n : ℕ). reply 0 n (length (mergedFile first second))) (sym e) ∙ reply-refused 0 (length (mergedFile first second)) h),
-    sym (after-refused _ lent (other e h)),
-  )
-    where
-      other : {m n : ℕ} → m ≡ n → 0 < m → n ≡ 0 → ⊥
-      other e h z = omega arith
+  refused e h = refused-reply 0 (length (mergedFile first second)) _ lent e h
 
   pub files-refused : {number : ℕ} → number ≡ fileNumber first then fileNumber second → 0 < number
       → (record { number = number; values = 0 } ≡ mergeRule first second (length lent)) × (lent ≡ mergeAfter first second lent)

@@ -7,14 +7,14 @@ use Prim.Native.Nat.{ℕ, suc, _+_, _-_, _*_, _/_, _≤_, _<_}
 use native.Mathlib.Omega.{arith}
 use lib.Dec.{ltb}
 use lib.ListN.{length, drop, getD, length-append, length-drop, drop-of-length-le}
-use lib.Seq.{drop-cons}
 use borrow.Author.Tests.{ltb-false}
 use Rattle.lent.specs.Placed.{placed}
 use Rattle.linefile.specs.declared.Next.{Next}
-use Rattle.linefile.specs.Files.{endedLength, lines, same, fileNumber, joined, lineAt}
+use Rattle.columns.specs.Text.{endedLength}
+use Rattle.linefile.specs.Files.{lines, same, fileNumber, joined, lineAt}
 use Rattle.linefile.specs.Partners.{partners}
 use Rattle.linefile.specs.Walk.{stepOf}
-use Rattle.linefile.proofs.Ascending.{Ascending, All, all-drop, ascending-drop}
+use Rattle.linefile.proofs.Ascending.{Ascending, All, all-at, ascending-drop}
 use Rattle.linefile.proofs.Lines.{Long, LineFile, length-lines, lines-long, line-file}
 use Rattle.linefile.proofs.Steps.{Stepped, stepped, step-made, end-pairs}
 use Rattle.merging.specs.Merge.{anyDiffer, merged, mergedFile}
@@ -88,12 +88,9 @@ module _ (xs ys : List (List ℕ)) (m n : ℕ) (next : Next) (s : Walked xs ys m
     line-long : length (cond (next .earlier) (getD xs m []) (getD ys n [])) ≡ endedLength
     line-long = by-test (next .earlier)
       where
-        at : (ls : List (List ℕ)) (i : ℕ) → All Long ls → i < length ls → length (getD ls i []) ≡ endedLength
-        at ls i a h = subst (All Long) (drop-cons ls i [] h) (all-drop Long i ls a) .0
-
         by-test : (b : Bool) → length (cond b (getD xs m []) (getD ys n [])) ≡ endedLength
-        by-test true = at xs m lx hm
-        by-test false = at ys n ly hn
+        by-test true = all-at Long xs lx m hm
+        by-test false = all-at Long ys ly n hn
 
     module _ {whole lent file : List ℕ} (k : ℕ) (fits : length whole ≤ length lent)
         (w : Written whole lent file (endedLength * k) (joined (merged (drop m xs) (drop n ys)))) where

@@ -1,4 +1,4 @@
--- What the answer means in the papers' terms: the number of the refusal, 0 where there is none, and the bytes written, 0 where there is a refusal.
+-- What the answer means (document 02, Job 5): the number of the refusal, 0 where there is none, and the bytes written, 0 where there is a refusal.
 -- Assumes nothing.
 use Prim.Native.Nat.{ℕ, _<_}
 use Rattle.limits.specs.Reply.{Reply}

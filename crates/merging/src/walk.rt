@@ -6,11 +6,12 @@ ghost use Prim.Native.Nat.{_+_, _*_, _≤_, _<_, _/_};
 ghost use mathlib.Core.List.{_++_};
 ghost use lib.ListN.{length, drop};
 ghost use Rattle.lent.specs.Placed.{placed};
-ghost use Rattle.linefile.specs.Files.{endedLength, lines, same, fileNumber, lineAt};
+ghost use Rattle.columns.specs.Text.{endedLength};
+ghost use Rattle.linefile.specs.Files.{lines, same, fileNumber, lineAt};
 ghost use Rattle.linefile.specs.Partners.{partners};
 ghost use Rattle.merging.specs.Merge.{anyDiffer, mergedFile};
+use columns::ENDED_LENGTH;
 use lent::put;
-use linefile::LINE;
 use linefile::step;
 
 // What is known of the result before it is written: whether two lines of the same keys differ, and how long it is.
@@ -26,7 +27,7 @@ fn differ(line: &[u8], other: &[u8]) -> bool
     ensures { λ r. ⌜ r ≡ not (same (now (line .entry)) (now (other .entry))) ⌝ }
 {
     let mut equal = true;
-    for i in 0..LINE {
+    for i in 0..ENDED_LENGTH {
         equal = equal & (line[i] == other[i]);
     }
     !equal
@@ -39,9 +40,12 @@ fn partners_differ(first: &[u8], m: usize, second: &[u8], n: usize, level: bool)
     ensures { λ r. ⌜ r ≡ level && not (same (lineAt (now (first .entry)) m) (lineAt (now (second .entry)) n)) ⌝ }
 {
     if level {
-        let at = LINE * m;
-        let to = LINE * n;
-        return differ(&first[at..at + LINE], &second[to..to + LINE]);
+        let at = ENDED_LENGTH * m;
+        let to = ENDED_LENGTH * n;
+        return differ(
+            &first[at..at + ENDED_LENGTH],
+            &second[to..to + ENDED_LENGTH],
+        );
     }
     false
 }
@@ -52,8 +56,8 @@ pub fn measure(first: &[u8], second: &[u8]) -> Measured
     ensures { λ r. ⌜ r .differ ≡ anyDiffer (partners (lines (now (first .entry))) (lines (now (second .entry)))) ⌝ }
     ensures { λ r. ⌜ r .bytes ≡ length (mergedFile (now (first .entry)) (now (second .entry))) ⌝ }
 {
-    let a = first.len() / LINE;
-    let b = second.len() / LINE;
+    let a = first.len() / ENDED_LENGTH;
+    let b = second.len() / ENDED_LENGTH;
     let mut found = false;
     let mut count = 0;
     let mut m = 0;
@@ -67,7 +71,7 @@ pub fn measure(first: &[u8], second: &[u8]) -> Measured
     }
     Measured {
         differ: found,
-        bytes: LINE * (count + (a - m) + (b - n)),
+        bytes: ENDED_LENGTH * (count + (a - m) + (b - n)),
     }
 }
 
@@ -87,11 +91,11 @@ fn put_line(
     ensures { λ _. ⌜ now (file .exit) ≡ placed (now (file .entry)) (endedLength * k) (cond earlier (lineAt (now (first .entry)) m) (lineAt (now (second .entry)) n)) ⌝ }
 {
     if earlier {
-        let at = LINE * m;
-        put(&first[at..at + LINE], file, LINE * k);
+        let at = ENDED_LENGTH * m;
+        put(&first[at..at + ENDED_LENGTH], file, ENDED_LENGTH * k);
     } else {
-        let at = LINE * n;
-        put(&second[at..at + LINE], file, LINE * k);
+        let at = ENDED_LENGTH * n;
+        put(&second[at..at + ENDED_LENGTH], file, ENDED_LENGTH * k);
     }
 }
 
@@ -101,8 +105,8 @@ fn put_rest(source: &[u8], i: usize, file: &mut [u8], k: usize)
     requires { ⌜ endedLength * k + length (drop (endedLength * i) (now source)) ≤ length (now file) ⌝ }
     ensures { λ _. ⌜ now (file .exit) ≡ placed (now (file .entry)) (endedLength * k) (drop (endedLength * i) (now (source .entry))) ⌝ }
 {
-    let at = LINE * i;
-    put(&source[at..], file, LINE * k);
+    let at = ENDED_LENGTH * i;
+    put(&source[at..], file, ENDED_LENGTH * k);
 }
 
 pub fn write(first: &[u8], second: &[u8], file: &mut [u8])
@@ -111,8 +115,8 @@ pub fn write(first: &[u8], second: &[u8], file: &mut [u8])
     requires { ⌜ length (mergedFile (now first) (now second)) ≤ length (now file) ⌝ }
     ensures { λ _. ⌜ now (file .exit) ≡ mergedFile (now (first .entry)) (now (second .entry)) ++ drop (length (mergedFile (now (first .entry)) (now (second .entry)))) (now (file .entry)) ⌝ }
 {
-    let a = first.len() / LINE;
-    let b = second.len() / LINE;
+    let a = first.len() / ENDED_LENGTH;
+    let b = second.len() / ENDED_LENGTH;
     let mut k = 0;
     let mut m = 0;
     let mut n = 0;

@@ -13,10 +13,10 @@ use Rattle.limits.specs.Reply.{reply}
 use Rattle.limits.specs.declared.Numbers.{Numbers}
 use Rattle.exact.specs.Corrected.{Given}
 use Rattle.fit.specs.Track.{results}
-use Rattle.columns.specs.Text.{lineLength}
+use Rattle.columns.specs.Text.{lineLength, endedLength}
 use Rattle.hire.specs.Hire.{blockGiven}
 use Rattle.line.proofs.AcceptedBlocks.{track-accepts}
-use Rattle.linefile.specs.Files.{endedLength, lines, same, keysOf, keys, fileNumber}
+use Rattle.linefile.specs.Files.{lines, same, keysOf, keys, fileNumber}
 use Rattle.linefile.specs.Partners.{partnersOf, partners}
 use Rattle.viewing.specs.View.{trklOf, refsysOf, sameTrkl, pairsOf, differences, viewed, figures, longest, viewNumber, viewRule}
 use Rattle.viewing.proofs.Pairing.{view-append, firsts, seconds}

@@ -15,16 +15,13 @@ use Rattle.whole.specs.Table.{at}
 use Rattle.exact.specs.Corrected.{steps}
 use Rattle.exact.specs.Weights.{weights, place}
 use Rattle.exact.specs.Places.{sum-place}
+use Rattle.exact.specs.Smoothing.{weights-rule}
 use Rattle.series.specs.Smooth.{smoothed}
 use Rattle.series.specs.Fit.{total, moment, midpoint, slope}
 use Rattle.series.specs.Scatter.{residual, squares}
 use Rattle.offset.specs.Shifted.{unit}
 
 -- fifteen measurements moved by c: their smoothed value, in tenths, moves by c picoseconds, as the weights add up to 1105
-weights-sum : sum 15 (at weights) ≡ pos 1105
-unfolding sum weights
-weights-sum = refl
-
 pub smoothed-moves : (c : ℤ) (m moved : ℕ → ℤ) → ((i : ℕ) → i < 15 → moved i ≡ m i +ℤ c) → smoothed moved ≡ smoothed m +ℤ pos steps *ℤ c
 unfolding smoothed
 smoothed-moves c m moved e =
@@ -32,7 +29,7 @@ smoothed-moves c m moved e =
     (sum-cong 15 (λ i h. ap (λ (z : ℤ). at weights i *ℤ z) (e i h))
     ∙ sum-eq 15 {y = sum 15 (λ i. at weights i *ℤ m i) +ℤ c *ℤ sum 15 (at weights)} (search sums depth 12)
     (λ i h. identity (at weights i ∷ m i ∷ c ∷ []) (search quote depth 20) tt)
-    ∙ ap (λ (z : ℤ). sum 15 (λ i. at weights i *ℤ m i) +ℤ c *ℤ z) weights-sum)
+    ∙ ap (λ (z : ℤ). sum 15 (λ i. at weights i *ℤ m i) +ℤ c *ℤ z) (weights-rule .2))
     ∙ ap (λ (z : ℤ). nearest z 1105) (in-steps (sum 15 (λ i. at weights i *ℤ m i)) c)
     ∙ nearest-shift (pos steps *ℤ sum 15 (λ i. at weights i *ℤ m i)) 1105 (omega arith) (pos steps *ℤ c)
   where

@@ -1,14 +1,14 @@
 -- A shared offset drops out (document 02, Job 7): the theorems of specs/Shifted.antt's definitions, for a track of any number of blocks.
 -- Assumes nothing.
 use mathlib.Core.Path.{_≡_, refl, sym, ap, ap₂, _∙_, subst₂}
-use mathlib.Core.List.{List, [], _∷_, map}
-use Prim.Native.Nat.{ℕ, zero, suc, _+_, _*_, _≤_, _<_}
-use native.Mathlib.Nat.{not-suc-le-zero, le-of-suc-le-suc}
+use mathlib.Core.List.{[], _∷_}
+use Prim.Native.Nat.{ℕ, _+_, _*_, _≤_, _<_}
 use native.Mathlib.Omega.{arith}
 use lib.IntN.{ℤ, pos, _+ℤ_, _-ℤ_, _*ℤ_}
 use lib.ListN.{length}
 use Rattle.whole.specs.Identity.{identity, quote}
 use Rattle.whole.specs.Table.{at}
+use Rattle.limits.proofs.Parts.{map-at}
 use Rattle.exact.specs.Corrected.{Given, block, toA, toB, steps}
 use Rattle.series.specs.Scatter.{dsg}
 use Rattle.fit.specs.declared.TrackRecord.{TrackRecord}
@@ -19,19 +19,12 @@ use Rattle.fit.proofs.Tracks.{track-number, track-record, track-sized}
 use Rattle.offset.specs.Shifted.{unit, shifted, Moved}
 use Rattle.offset.proofs.Series.{smoothed-moves, midpoint-moves, slope-stays, squares-stay}
 
--- ---- lists
-
-at-added : (c : ℤ) (l : List ℤ) (i : ℕ) → i < length l → at (map (λ (z : ℤ). z +ℤ c) l) i ≡ at l i +ℤ c
-at-added c [] i h = absurd (not-suc-le-zero h)
-at-added c (z ∷ l) zero h = refl
-at-added c (z ∷ l) (suc i) h = at-added c l i (le-of-suc-le-suc h)
-
 -- ---- the corrected values
 
 module _ (k : ℤ) (g : Given) (sized : length (g .measurements) ≡ 15 * blocks g) where
   seconds-move : (j i : ℕ) → j < blocks g → i < 15 → block (shifted k g) j i ≡ block g j i +ℤ unit *ℤ k
   unfolding block shifted
-  seconds-move j i h p = at-added (unit *ℤ k) (g .measurements) (15 * j + i) (omega (arith, sized))
+  seconds-move j i h p = map-at (λ (z : ℤ). z +ℤ unit *ℤ k) (g .measurements) (15 * j + i) (pos 0) (pos 0) (omega (arith, sized))
 
   a-moves : (j : ℕ) → j < blocks g → valueA (shifted k g) j ≡ valueA g j +ℤ pos steps *ℤ (unit *ℤ k)
   unfolding valueA smoothedAt toA shifted

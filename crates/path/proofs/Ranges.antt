@@ -17,7 +17,8 @@ use mir.Facts.{toZ-ofZ}
 use Rattle.whole.specs.Magnitude.{natAbs-add, natAbs-neg}
 use Rattle.whole.specs.Words.{fits-of}
 use Rattle.limits.proofs.Laws.{not-leb, eqb-turned}
-use Rattle.path.specs.Coordinate.{outside, millimetres, coordinateLimit}
+use Rattle.path.specs.Coordinate.{coordinateBeyond, millimetres, coordinateLimit}
+use Rattle.path.specs.Wide.{differenceLimit}
 use Rattle.path.specs.Path.{difference}
 
 -- ---- tests against ±K
@@ -94,17 +95,17 @@ module _ (M k : ℕ) where
 
 -- ---- the limit
 
-not-in-range : (x : Float) → not (inRange coordinateLimit x) ≡ outside x
-unfolding outside
+not-in-range : (x : Float) → not (inRange coordinateLimit x) ≡ coordinateBeyond x
+unfolding coordinateBeyond
 not-in-range nan = refl
 not-in-range (inf s) = refl
 not-in-range (fin s m e) = not-leb (m * up e) (coordinateLimit * down e)
 
-pub outside-is : (x : Float) → not (le (fin true 48828125 (pos 10)) x && le x (fin false 48828125 (pos 10))) ≡ outside x
+pub outside-is : (x : Float) → not (le (fin true 48828125 (pos 10)) x && le x (fin false 48828125 (pos 10))) ≡ coordinateBeyond x
 outside-is x = ap not (range-is 48828125 10 (omega arith) x) ∙ not-in-range x
 
-pub within-limit : (x : Float) → outside x ≡ false → Inside coordinateLimit x
-unfolding outside
+pub within-limit : (x : Float) → coordinateBeyond x ≡ false → Inside coordinateLimit x
+unfolding coordinateBeyond
 within-limit nan h = true≢false h
 within-limit (inf s) h = true≢false h
 within-limit (fin s m e) h = ltb-false (coordinateLimit * down e) (m * up e) h
@@ -133,7 +134,7 @@ cast-is K h (fin false m e) i =
 
 -- ---- the difference of two coordinates within the limit
 
-pub difference-bound : (x y : Float) → outside x ≡ false → outside y ≡ false → difference x y ≤ 100000000000
+pub difference-bound : (x y : Float) → coordinateBeyond x ≡ false → coordinateBeyond y ≡ false → difference x y ≤ differenceLimit
 unfolding difference
 difference-bound x y h k =
     let p = cast-is coordinateLimit (lit< tt) x (within-limit x h) .1 in
@@ -141,6 +142,6 @@ difference-bound x y h k =
     omega (arith, natAbs-add (millimetres x) (negℤ (millimetres y)), natAbs-neg (millimetres y))
 
 -- a coordinate is what is read back of the bits of its millimetres
-pub limited : (x : Float) → outside x ≡ false → {r : ℤ} → r ≡ millimetres x → toZ w64 (ofZ w64 r) ≡ millimetres x
+pub limited : (x : Float) → coordinateBeyond x ≡ false → {r : ℤ} → r ≡ millimetres x → toZ w64 (ofZ w64 r) ≡ millimetres x
 limited x h e =
     toZ-ofZ (fits-of (subst (λ (z : ℤ). natAbs z ≤ coordinateLimit) (sym e) (cast-is coordinateLimit (lit< tt) x (within-limit x h) .1)) (lit< tt)) ∙ e

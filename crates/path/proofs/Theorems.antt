@@ -18,9 +18,10 @@ use Rattle.limits.specs.Reply.{Reply, reply}
 use Rattle.limits.specs.Refusal.{_when_, _then_}
 use Rattle.limits.proofs.Replies.{reply-accepted, reply-values}
 use Rattle.path.specs.declared.Point.{Point}
-use Rattle.path.specs.Coordinate.{whole, outside, millimetres}
+use Rattle.path.specs.Coordinate.{whole, coordinateBeyond, millimetres}
 use Rattle.path.specs.Root.{greatest, root}
-use Rattle.path.specs.Path.{fractional, beyond, pathNumber, difference, sumOfSquares, wholeLength, lengthOf, plusZero, pathRule}
+use Rattle.path.specs.Wide.{factorLimit}
+use Rattle.path.specs.Path.{fractional, pointBeyond, pathNumber, difference, sumOfSquares, wholeLength, lengthOf, plusZero, pathRule}
 use Rattle.path.proofs.Ranges.{difference-bound}
 use Rattle.path.proofs.Roots.{FloorRoot, root-is, root-only, square-lt}
 use Rattle.path.proofs.Products.{square-bound}
@@ -65,12 +66,12 @@ length-is : (s a : Point) → FloorRoot (sumOfSquares s a) (wholeLength s a)
 unfolding wholeLength
 length-is s a = root-is (sumOfSquares s a)
 
-small : (s a : Point) → beyond s ≡ false → beyond a ≡ false → wholeLength s a ≤ 9007199254740992
+small : (s a : Point) → pointBeyond s ≡ false → pointBeyond a ≡ false → wholeLength s a ≤ 9007199254740992
 unfolding sumOfSquares
 small s a h k =
     let p = within s h in
     let q = within a k in
-    let r : wholeLength s a < 274877906944 = square-lt (wholeLength s a) 274877906944
+    let r : wholeLength s a < factorLimit = square-lt (wholeLength s a) factorLimit
     (omega (
       arith,
       length-is s a .reached,
@@ -112,7 +113,7 @@ pub points-exchanged : (s a : Point) → pathRule s a ≡ pathRule a s
 unfolding pathRule pathNumber lengthOf wholeLength
 points-exchanged s a =
     let f = or-comm (fractional s) (fractional a) in
-    let b = or-comm (beyond s) (beyond a) in
+    let b = or-comm (pointBeyond s) (pointBeyond a) in
     let n = sum-turned s a in
     λ i. reply plusZero (23 when f i then 24 when b i) (ofInt binary64 (pos (root (n i))))
 
@@ -192,5 +193,5 @@ pub path-examples : (pathRule (point (fin false 3 (pos 0)) (fin true 1 (pos 2)) 
     × (pathRule (point (fin false 1 (pos 996)) plusZero plusZero) (point plusZero plusZero nan) ≡ record { number = 23; values = plusZero })
     × (pathRule (point (inf true) plusZero plusZero) origin ≡ record { number = 23; values = plusZero })
     × (pathRule (point (fin true 0 (pos 0)) plusZero plusZero) origin ≡ record { number = 0; values = plusZero })
-unfolding pathRule pathNumber _when_ _then_ fractional beyond whole outside lengthOf wholeLength sumOfSquares difference millimetres root greatest ofInt
+unfolding pathRule pathNumber _when_ _then_ fractional pointBeyond whole coordinateBeyond lengthOf wholeLength sumOfSquares difference millimetres root greatest ofInt
 path-examples = (refl, refl, refl, refl, refl, refl, refl)

@@ -14,17 +14,10 @@ use lib.Ieee as ieee
 use lib.Ieee.Fits.{and-l, and-r, down-pos}
 use lib.Ieee.Exact.{HasValue}
 use lib.Ieee.Back.{round-whole}
-use borrow.Author.Tests.{eqb-true, eqb-false, eq-eqb, ne-eqb, le-leb, lt-ltb, leb-false}
-use Rattle.limits.proofs.Laws.{both}
-use Rattle.path.specs.Coordinate.{whole, outside, millimetres, coordinateLimit}
+use borrow.Author.Tests.{eqb-true, eq-eqb, le-leb, lt-ltb, leb-false}
+use Rattle.limits.proofs.Laws.{both, eqb-same}
+use Rattle.path.specs.Coordinate.{whole, coordinateBeyond, millimetres, coordinateLimit}
 use Rattle.path.proofs.Ranges.{inRange, quotient-bound, within-limit}
-
-eqb-same : (a b c d : ℕ) → (a ≡ b → c ≡ d) → (c ≡ d → a ≡ b) → eqb a b ≡ eqb c d
-eqb-same a b c d f g = go (eqb c d) refl
-  where
-    go : (t : Bool) → eqb c d ≡ t → eqb a b ≡ t
-    go true e = eq-eqb a b (g (eqb-true c d e))
-    go false e = ne-eqb a b (λ h. eqb-false c d e (f h))
 
 beq-eq : (a b : Bool) → Bool·beq a b ≡ true → a ≡ b
 beq-eq true true h = refl
@@ -171,7 +164,7 @@ signed s zero e h = absurd (true≢false (sym (zero-eq s e) ∙ h))
 signed true (suc m) e h = ap not (eqb·suc-zero m)
 signed false (suc m) e h = refl
 
-pub castable : (x : Float) → whole x ≡ true → outside x ≡ false → eq (fin false 0 (pos 0)) x ≡ false → T (inSigned binary64 63 x)
+pub castable : (x : Float) → whole x ≡ true → coordinateBeyond x ≡ false → eq (fin false 0 (pos 0)) x ≡ false → T (inSigned binary64 63 x)
 unfolding whole inSigned ieee.whole
 castable nan h k z = absurd (true≢false (sym h))
 castable (inf s) h k z = absurd (true≢false (sym h))

@@ -1,4 +1,4 @@
--- What the answer means in the papers' terms: the number of the refusal, 0 where there is none, and the length, plus zero where there is a refusal.
+-- What the answer means (document 02, Job 11): the number of the refusal, 0 where there is none, and the length, plus zero where there is a refusal.
 -- Assumes nothing.
 use Prim.Native.Nat.{_<_}
 use lib.Ieee.{Float}

@@ -17,10 +17,10 @@ whole (fin s m e) = eqb (m * up e % down e) 0
 abbrev pub coordinateLimit : ℕ
 coordinateLimit = 5 * 10 ^ 10
 
-unfoldable pub outside : Float → Bool
-outside nan = true
-outside (inf s) = true
-outside (fin s m e) = ltb (coordinateLimit * down e) (m * up e)
+unfoldable pub coordinateBeyond : Float → Bool
+coordinateBeyond nan = true
+coordinateBeyond (inf s) = true
+coordinateBeyond (fin s m e) = ltb (coordinateLimit * down e) (m * up e)
 
 -- The whole number that it is; minus zero counts as zero. Of any other float this is the part before the point, or 0: such a float is refused.
 unfoldable pub millimetres : Float → ℤ

@@ -7,19 +7,19 @@ use lib.Ieee.{Float, fin, binary64, ofInt}
 use Rattle.limits.specs.Refusal.{_when_, _then_}
 use Rattle.limits.specs.Reply.{Reply, reply}
 use Rattle.path.specs.declared.Point.{Point}
-use Rattle.path.specs.Coordinate.{whole, outside, millimetres}
+use Rattle.path.specs.Coordinate.{whole, coordinateBeyond, millimetres}
 use Rattle.path.specs.Root.{root}
 
 -- Some coordinate of a point is not a whole number; some is outside ±5 × 10^10.
 unfoldable pub fractional : Point → Bool
 fractional p = not (whole (p .x)) || not (whole (p .y)) || not (whole (p .z))
 
-unfoldable pub beyond : Point → Bool
-beyond p = outside (p .x) || outside (p .y) || outside (p .z)
+unfoldable pub pointBeyond : Point → Bool
+pointBeyond p = coordinateBeyond (p .x) || coordinateBeyond (p .y) || coordinateBeyond (p .z)
 
 -- 23 over all six coordinates, then 24.
 unfoldable pub pathNumber : (satellite antenna : Point) → ℕ
-pathNumber s a = 23 when (fractional s || fractional a) then 24 when (beyond s || beyond a)
+pathNumber s a = 23 when (fractional s || fractional a) then 24 when (pointBeyond s || pointBeyond a)
 
 -- The difference of two coordinates, without its sign.
 unfoldable pub difference : Float → Float → ℕ

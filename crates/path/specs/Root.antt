@@ -1,4 +1,4 @@
--- The greatest whole number whose square is not above n.
+-- The greatest whole number whose square is not above n (document 02, Job 11).
 -- Assumes nothing.
 use mathlib.Core.Bool.{cond}
 use Prim.Native.Nat.{ℕ, zero, suc, _*_}

@@ -13,10 +13,10 @@ use wide::product;
 use wide::sum;
 ghost use mathlib.Core.Path.{_≡_};
 ghost use mathlib.Core.Bool.{true, false, _||_};
-ghost use Prim.Native.Nat.{_≤_};
-ghost use Rattle.path.specs.Path.{fractional, beyond, pathNumber, sumOfSquares, lengthOf, pathRule};
+ghost use Prim.Native.Nat.{_*_, _≤_};
+ghost use Rattle.path.specs.Path.{fractional, pointBeyond, pathNumber, sumOfSquares, lengthOf, pathRule};
 ghost use Rattle.path.specs.Answers.{measuredReply, measuredNumbered};
-ghost use Rattle.path.specs.Wide.{wideValue, Stands};
+ghost use Rattle.path.specs.Wide.{wideValue, differenceLimit, Stands};
 
 mod coordinate;
 mod root;
@@ -60,7 +60,7 @@ fn have_fraction(satellite: Point, antenna: Point) -> bool
 
 // Whether some coordinate is outside ±5 × 10^10.
 fn is_beyond(p: Point) -> bool
-    ensures { λ r. ⌜ r ≡ beyond p ⌝ }
+    ensures { λ r. ⌜ r ≡ pointBeyond p ⌝ }
 {
     is_outside(p.x) | is_outside(p.y) | is_outside(p.z)
 }
@@ -77,7 +77,7 @@ fn refusal(satellite: Point, antenna: Point) -> u32
 // The sum of the squared differences of points that are not refused: at most three times (10^11)².
 fn sum_of_squares(satellite: Point, antenna: Point) -> Wide
     requires { ⌜ pathNumber satellite antenna ≡ 0 ⌝ }
-    ensures { λ r. ⌜ Stands r (sumOfSquares satellite antenna) × (wideValue r ≤ 30000000000000000000000) ⌝ }
+    ensures { λ r. ⌜ Stands r (sumOfSquares satellite antenna) × (wideValue r ≤ 3 * (differenceLimit * differenceLimit)) ⌝ }
 {
     let dx = apart(satellite.x, antenna.x);
     let dy = apart(satellite.y, antenna.y);

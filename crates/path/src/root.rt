@@ -4,8 +4,11 @@ use super::wide::Wide;
 use super::wide::at_most;
 ghost use mathlib.Core.Path.{_≡_};
 ghost use Prim.Native.Nat.{_*_, _<_};
-ghost use Rattle.path.specs.Wide.{wideValue, Between};
+ghost use Rattle.path.specs.Wide.{radix, wideValue, factorLimit, Between};
 ghost use Rattle.path.specs.Root.{root};
+
+// The greatest root: one below 2^38.
+const GREATEST: u64 = 274877906943;
 
 // Bounds on a root: it is from low to high.
 pub struct Bounds {
@@ -73,7 +76,7 @@ fn probed(w: Wide, b: Bounds, p: u64) -> Bounds
 // The root between bounds, by halving. It is below 2^38.
 fn halved(w: Wide, b: Bounds) -> u64
     requires { ⌜ Between w b ⌝ }
-    ensures { λ r. ⌜ (r ≡ root (wideValue w)) × (r < 274877906944) ⌝ }
+    ensures { λ r. ⌜ (r ≡ root (wideValue w)) × (r < factorLimit) ⌝ }
 {
     let mut low = b.low;
     let mut high = b.high;
@@ -92,12 +95,12 @@ fn halved(w: Wide, b: Bounds) -> u64
 // The root of what w stands for. The estimate is tried first, then the number above the lower bound and the upper bound itself: with a good estimate
 // nothing is left to halve.
 pub fn root(w: Wide, estimate: u64) -> u64
-    requires { ⌜ (w .low < 1048576) × (wideValue w < 274877906944 * 274877906944) ⌝ }
-    ensures { λ r. ⌜ (r ≡ root (wideValue w)) × (r < 274877906944) ⌝ }
+    requires { ⌜ (w .low < radix) × (wideValue w < factorLimit * factorLimit) ⌝ }
+    ensures { λ r. ⌜ (r ≡ root (wideValue w)) × (r < factorLimit) ⌝ }
 {
     let all = Bounds {
         low: 0,
-        high: 274877906943,
+        high: GREATEST,
     };
     let tried = probed(w, all, estimate);
     let above = probed(w, tried, tried.low + 1);

@@ -1,9 +1,12 @@
 // Whole numbers of up to 76 bits in two words: products, the sum of three, and whether a product is not above such a number.
-// 1048576 is 2^20, and a factor is at most 2^38, which is 274877906944.
+// A factor is at most 2^38.
 ghost use mathlib.Core.Path.{_≡_};
 ghost use Prim.Native.Nat.{_+_, _*_, _≤_, _<_};
 ghost use lib.Dec.{leb};
-ghost use Rattle.path.specs.Wide.{wideValue, Stands, Part};
+ghost use Rattle.path.specs.Wide.{radix, wideValue, factorLimit, Stands, Part};
+
+// 2^20
+const RADIX: u64 = 1048576;
 
 // high * 2^20 + low
 pub struct Wide {
@@ -12,13 +15,13 @@ pub struct Wide {
 }
 
 pub fn product(a: u64, b: u64) -> Wide
-    requires { ⌜ (a ≤ 274877906944) × (b ≤ 274877906944) ⌝ }
+    requires { ⌜ (a ≤ factorLimit) × (b ≤ factorLimit) ⌝ }
     ensures { λ r. ⌜ Stands r (a * b) ⌝ }
 {
-    let rest = a * (b % 1048576);
+    let rest = a * (b % RADIX);
     Wide {
-        high: a * (b / 1048576) + rest / 1048576,
-        low: rest % 1048576,
+        high: a * (b / RADIX) + rest / RADIX,
+        low: rest % RADIX,
     }
 }
 
@@ -28,14 +31,14 @@ pub fn sum(a: Wide, b: Wide, c: Wide) -> Wide
 {
     let low = a.low + b.low + c.low;
     Wide {
-        high: a.high + b.high + c.high + low / 1048576,
-        low: low % 1048576,
+        high: a.high + b.high + c.high + low / RADIX,
+        low: low % RADIX,
     }
 }
 
 // Whether a * b is not above what w stands for.
 pub fn at_most(a: u64, b: u64, w: Wide) -> bool
-    requires { ⌜ (a ≤ 274877906944) × (b ≤ 274877906944) × (w .low < 1048576) ⌝ }
+    requires { ⌜ (a ≤ factorLimit) × (b ≤ factorLimit) × (w .low < radix) ⌝ }
     ensures { λ r. ⌜ r ≡ leb (a * b) (wideValue w) ⌝ }
 {
     let p = product(a, b);

@@ -1,4 +1,4 @@
--- Which part of a lent row of bytes a returned one is.
+-- Which part of a lent row of bytes a returned one is (document 02, Job 1: the comment is handed back as that part of the line).
 -- Assumes nothing.
 use mathlib.Core.Path.{_≡_}
 use mathlib.Core.List.{List}

@@ -14,6 +14,7 @@ use Rattle.limits.specs.Refusal.{_when_, _then_}
 use Rattle.limits.proofs.Laws.{or-false}
 use Rattle.fields.specs.Text.{bytesOf}
 use Rattle.fields.specs.Read.{readDecimal, readSigned}
+use Rattle.fields.proofs.Lists.{next-byte, three-bytes}
 use Rattle.labels.specs.Content.{contentNumber}
 use Rattle.columns.specs.Text.{lineLength, timeOfDay, trackColumns, clockColumns, delayColumns, columns, spaced, withCheck, lineText}
 use Rattle.columns.specs.Columns.{byteIn, field, labelsWith, readLabels, readNumbers}
@@ -21,10 +22,10 @@ use Rattle.characters.specs.Kinds.{kinds, allowed}
 use Rattle.reading.specs.Read.{isMinusZero, minusZero, timeBeyond, readNumber}
 use Rattle.reading.specs.Fields.{digits, hexDigits}
 use Rattle.characters.proofs.Spelled.{Spelled}
-use Rattle.characters.proofs.Check.{next-byte, closed-by-check}
+use Rattle.characters.proofs.Check.{closed-by-check}
 use Rattle.reading.proofs.Columns.{Columns, columns-of, own-columns, shared}
 use Rattle.reading.proofs.Refusals.{Valued, accepted, content-is}
-use Rattle.reading.proofs.Spelling.{three-bytes, spell-decimal, spell-signed, spell-class, time-is, texts, texts-spaced}
+use Rattle.reading.proofs.Spelling.{spell-decimal, spell-signed, spell-class, time-is, texts, texts-spaced}
 
 -- The kinds of the columns, field by field.
 abbrev pub fieldKinds : List (List ℕ)

@@ -34,15 +34,7 @@ digit-at n text e i h =
     digit-range (getD text i 0)
     (ap (λ (k : ℕ). allows k (getD text i 0)) (sym (getD-replicate n i 57 0 h)) ∙ allowed-at (digits n) text e i (rw length-replicate h))
 
--- a field has as many columns as its numbers say
-pub field-is : (first last : ℕ) (line : List ℕ) → 1 ≤ first → take (last - (first - 1)) (drop (first - 1) line) ≡ field first last line
-unfolding field
-field-is first last line h = ap (λ (n : ℕ). take n (drop (first - 1) line)) (width first last h)
-  where
-    width : (first last : ℕ) → 1 ≤ first → last - (first - 1) ≡ last + 1 - first
-    width first last h = omega arith
-
--- it lies within the line
+-- a field of them lies within the line
 pub within-line : {most first last : ℕ} {line : List ℕ} → Digits most first last line → last ≤ length line
 within-line {most} {first} {last} {line} d =
     reach (rw length-replicate at (allowed-length (digits (last + 1 - first)) (drop (first - 1) line) (d .holds)))
@@ -223,10 +215,6 @@ shared line e = allowed-take (drop 1 kinds) (drop 1 line) (allowed-drop kinds li
 pub old-shared : (old : List ℕ) → allowed oldKinds old ≡ true → Shared old
 unfolding oldKinds
 old-shared old e = allowed-drop oldKinds old e 1
-
-pub column-count : (line : List ℕ) → allowed kinds line ≡ true → 111 ≤ length line
-unfolding kinds bytesOf
-column-count line e = allowed-length kinds line e
 
 -- the parts of the time have two digits each
 pub time-bounds : (line : List ℕ) → Shared line

@@ -20,8 +20,7 @@ use Rattle.limits.specs.declared.Numbers.{Numbers}
 use Rattle.labels.specs.Labels.{labelsFit, trackLengthFits}
 use Rattle.labels.specs.Content.{contentNumber}
 use Rattle.columns.specs.Columns.{field, readLabels, readNumbers}
-use Rattle.characters.specs.Kinds.{kinds}
-use Rattle.characters.specs.Characters.{charactersNumber}
+use Rattle.characters.specs.Characters.{ourCharactersNumber}
 use Rattle.characters.proofs.Spelled.{Spelled, spelled, spelled-zero}
 use Rattle.reading.specs.Read.{signedFields, minusZero, timeBeyond, valuesNumber, readNumber, noLabels, readRule}
 use Rattle.reading.specs.Fields.{Shared, Digits, Signed}
@@ -121,14 +120,14 @@ module _ (line : List ℕ) where
   abbrev ownValues : ℕ
   ownValues = valuesNumber (readLabels line) (readNumbers line) line
 
-  pub reply-characters : {number : ℕ} → number ≡ charactersNumber 111 140 kinds line → 0 < number
+  pub reply-characters : {number : ℕ} → number ≡ ourCharactersNumber line → 0 < number
       → record { number = number; values = (noLabels, noNumbers) } ≡ readRule line
   unfolding readRule readNumber
   reply-characters {number} e h =
       sym (ap (λ (n : ℕ). reply (noLabels, noNumbers) n (readLabels line, readNumbers line)) (ap (λ (n : ℕ). n then ownValues) (sym e) ∙ then-refused number ownValues h)
       ∙ reply-refused _ _ h)
 
-  pub reply-values : {number : ℕ} → charactersNumber 111 140 kinds line ≡ 0 → number ≡ ownValues → 0 < number
+  pub reply-values : {number : ℕ} → ourCharactersNumber line ≡ 0 → number ≡ ownValues → 0 < number
       → record { number = number; values = (noLabels, noNumbers) } ≡ readRule line
   unfolding readRule readNumber
   reply-values {number} z e h =

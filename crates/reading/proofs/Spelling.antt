@@ -14,6 +14,7 @@ use lib.Seq.{drop-drop, take-add, drop-append-seam}
 use borrow.Author.Tests.{eqb-true}
 use Rattle.fields.specs.Text.{decimal, sign, signed, hexadecimal}
 use Rattle.fields.specs.Read.{readDecimal, readSigned, readHexadecimal}
+use Rattle.fields.proofs.Lists.{two-bytes}
 use Rattle.fields.proofs.Decimals.{write-decimal}
 use Rattle.fields.proofs.Hexadecimals.{write-hexadecimal}
 use Rattle.fields.proofs.Signs.{minus-read, plus-read}
@@ -24,14 +25,7 @@ use Rattle.reading.specs.Read.{isMinusZero}
 use Rattle.reading.specs.Fields.{digits, hexDigits, Holds, Digits, Signed}
 use Rattle.limits.proofs.Laws.{both, either}
 use Rattle.characters.proofs.Allowed.{hex-range, sign-is, space-is, allowed-drop}
-use Rattle.characters.proofs.Check.{next-byte, two-bytes}
 use Rattle.reading.proofs.Columns.{digit-at, holds-at, holds-length, signed-field}
-
--- ---- single bytes of a line
-
-pub three-bytes : (at : ℕ) (line : List ℕ) → suc (suc at) < length line
-    → take 3 (drop at line) ≡ getD line at 0 ∷ getD line (suc at) 0 ∷ getD line (suc (suc at)) 0 ∷ []
-three-bytes at line h = next-byte 2 at line (omega arith) ∙ ap (λ (t : List ℕ). getD line at 0 ∷ t) (two-bytes (suc at) line h)
 
 -- ---- a field is what its number is written as
 

@@ -4,17 +4,17 @@ use mathlib.Core.Path.{_≡_, refl, sym, ap, ap₂, _∙_}
 use mathlib.Core.Bool.{true, false}
 use mathlib.Core.List.{List, _++_, append-assoc}
 use Prim.Native.Nat.{ℕ, suc, _+_, _-_, _/_, _%_, _≤_, _<_}
-use native.Mathlib.Nat.{add-zero}
 use native.Mathlib.Omega.{arith}
 use lib.Dec.{eqb·suc-zero, lit<}
 use lib.IntN.{ℤ, pos, negsuc}
-use lib.ListN.{length, take, drop, getD, length-append, length-drop}
-use lib.Seq.{take-at, drop-at, getD-drop, getD-take}
+use lib.ListN.{length, take, drop, length-append, length-drop}
+use lib.Seq.{drop-at}
 use borrow.Author.Tests.{le-ltb}
 use Rattle.schedule.specs.Schedule.{startNumber}
 use Rattle.schedule.proofs.Minutes as schedule
 use Rattle.fields.specs.Text.{decimal, sign, signed, hexadecimal, checksum}
 use Rattle.fields.specs.Read.{readDecimal, readSigned}
+use Rattle.fields.proofs.Lists.{first-byte, parted}
 use Rattle.fields.proofs.Laws.{length-decimal, read-decimal}
 use Rattle.labels.specs.declared.Labels.{Labels}
 use Rattle.limits.specs.declared.Numbers.{Numbers}
@@ -39,23 +39,6 @@ sign-fits : (z : ℤ) → isMinusZero (sign z) z ≡ false
 unfolding isMinusZero sign
 sign-fits (pos n) = refl
 sign-fits (negsuc n) = eqb·suc-zero n
-
--- the first byte of a field
-first-byte : (width at : ℕ) (line text : List ℕ) → take (suc width) (drop at line) ≡ text → getD line at 0 ≡ getD text 0 0
-first-byte width at line text e =
-    ap (λ (n : ℕ). getD line n 0) (sym (add-zero at))
-    ∙ sym (getD-take (suc width) (drop at line) 0 0 (lit<' width) ∙ getD-drop at line 0 0)
-    ∙ ap (λ (t : List ℕ). getD t 0 0) e
-  where
-    lit<' : (n : ℕ) → 0 < suc n
-    lit<' n = omega arith
-
--- texts behind each other that are the same have the same parts, where the first ones are as long
-parted : {n : ℕ} {a b c d : List ℕ} → length a ≡ n → length c ≡ n → a ++ b ≡ c ++ d → (a ≡ c) × (b ≡ d)
-parted {n} {a} {b} {c} {d} p q e = (
-  sym (take-at a b n p) ∙ ap (take n) e ∙ take-at c d n q,
-  sym (drop-at a b n p) ∙ ap (drop n) e ∙ drop-at c d n q,
-)
 
 module _ (l : Labels) (n : Numbers) (comment : List ℕ) (e : contentNumber l n ≡ 0) (cl : l .cl < 256) (p : printable comment ≡ true) (few : length comment ≤ 27) where
   a : Accepted l n

@@ -1,4 +1,4 @@
--- What the reader's answer means in the papers' terms: the number of the refusal, 0 where there is none, and the labels and numbers, 0 throughout
+-- What the reader's answer means (document 02, Job 1): the number of the refusal, 0 where there is none, and the labels and numbers, 0 throughout
 -- where there is a refusal.
 -- Assumes nothing.
 use Prim.Native.Nat.{_<_}

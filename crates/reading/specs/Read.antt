@@ -16,8 +16,7 @@ use Rattle.limits.specs.declared.Numbers.{Numbers}
 use Rattle.labels.specs.Given.{labelsOf}
 use Rattle.labels.specs.Labels.{labelsFit, trackLengthFits}
 use Rattle.columns.specs.Columns.{byteIn, field, readLabels, readNumbers}
-use Rattle.characters.specs.Kinds.{kinds}
-use Rattle.characters.specs.Characters.{charactersNumber}
+use Rattle.characters.specs.Characters.{ourCharactersNumber}
 
 -- The columns of the signed fields: REFSV, SRSV, REFSYS, SRSYS, SMDT and SMDI. Law `signed-pictured` of proofs/SignedFields.antt: they are those
 -- that `kinds` has.
@@ -50,7 +49,7 @@ valuesNumber l n line =
 
 -- The number of the refusal, 0 for a line that is read.
 unfoldable pub readNumber : List ℕ → ℕ
-readNumber line = charactersNumber 111 140 kinds line then valuesNumber (readLabels line) (readNumbers line) line
+readNumber line = ourCharactersNumber line then valuesNumber (readLabels line) (readNumbers line) line
 
 -- Labels that are 0 throughout.
 abbrev pub noLabels : Labels

@@ -4,7 +4,7 @@
 use mathlib.Core.Path.{_≡_, refl, sym, ap, ap₂, _∙_, subst}
 use mathlib.Core.Bool.{true, false, not}
 use mathlib.Core.List.{List, [], _∷_}
-use Prim.Native.Nat.{ℕ, _+_, _*_, _-_, _^_, _≤_, _<_}
+use Prim.Native.Nat.{ℕ, _+_, _*_, _-_, _/_, _≤_, _<_}
 use native.Mathlib.Nat.{le-trans, le-of-eq, le-refl, mul-le-mul, mul-le-mul-left, mul-le-mul-right, one-le-mul, mul-comm}
 use native.Mathlib.Omega.{arith}
 use lib.Dec.{lit<}
@@ -67,7 +67,7 @@ module _ (l : List ℤ) (e : anyBeyond valueLimit l ≡ false) (n : ℕ) (h : n 
       (pos-le {m = half * (n * n)} (omega (arith, mul-le-mul h h)))))))
     where
       half : ℕ
-      half = steps * 10 ^ 12
+      half = valueLimit / 2
 
       halved : (u : ℤ) → pos valueLimit *ℤ u ≡ pos half *ℤ (pos 2 *ℤ u)
       halved u = identity (u ∷ []) (search quote depth 20) tt

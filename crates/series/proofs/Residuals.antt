@@ -7,7 +7,7 @@ use Prim.Native.Nat.{ℕ, zero, suc, _+_, _*_, _-_, _≤_, _<_}
 use native.Mathlib.Nat.{eq-or-lt-of-le, le-of-suc-le-suc, not-suc-le-zero}
 use native.Mathlib.Numerals.{add-one}
 use lib.Dec.{lit<}
-use lib.IntN.{ℤ, pos, natAbs, _+ℤ_, _-ℤ_, _*ℤ_, +ℤ-comm, +ℤ-idl, +ℤ-idr}
+use lib.IntN.{ℤ, pos, natAbs, _+ℤ_, _-ℤ_, _*ℤ_, +ℤ-idl, +ℤ-idr}
 use Rattle.whole.specs.Sum.{sum}
 use Rattle.whole.specs.Square.{squared}
 use Rattle.whole.specs.Nearest.{nearest}
@@ -15,21 +15,11 @@ use Rattle.whole.specs.Identity.{identity, quote}
 use Rattle.whole.specs.Order.{_⩽_, le-refl, add-le, square-nonneg, as-pos, pos-le-is}
 use Rattle.whole.specs.Magnitude.{square-magnitude}
 use Rattle.whole.specs.Sums.{sum-cong, sum-suc, sum-squares-nonneg}
-use Rattle.whole.specs.Rounding.{nearest-shift, nearest-scale}
+use Rattle.whole.specs.Rounding.{nearest-scale}
 use Rattle.exact.specs.Weights.{place}
 use Rattle.series.specs.Fit.{total, moment}
 use Rattle.series.specs.Scatter.{residual, squares}
 use Rattle.series.proofs.Fitting.{total-cong, moment-cong}
-
--- a whole value can be taken out of the fraction before it is rounded, which leaves a smaller numerator
-pub value-apart : (N : ℕ) → 0 < N → (v a b : ℤ) → nearest (pos N *ℤ v -ℤ a -ℤ b) N ≡ v +ℤ nearest (pos 0 -ℤ a -ℤ b) N
-value-apart N h v a b =
-    ap (λ (z : ℤ). nearest z N) (moved (pos N) v a b)
-    ∙ nearest-shift (pos 0 -ℤ a -ℤ b) N h v
-    ∙ +ℤ-comm (nearest (pos 0 -ℤ a -ℤ b) N) v
-  where
-    moved : (N v a b : ℤ) → N *ℤ v -ℤ a -ℤ b ≡ pos 0 -ℤ a -ℤ b +ℤ v *ℤ N
-    moved N v a b = identity (N ∷ v ∷ a ∷ b ∷ []) (search quote depth 20 fits 4000) tt
 
 -- document 01's numbers for 52 values: a residual's divisors are the same in tenths
 pub residual-52 : (v : ℕ → ℤ) (j : ℕ)

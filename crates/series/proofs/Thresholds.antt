@@ -4,19 +4,18 @@
 use mathlib.Core.Path.{_≡_, refl, sym, ap, _∙_, subst, subst₂}
 use mathlib.Core.Bool.{Bool, true, false, cond}
 use mathlib.Core.List.{List, [], _∷_}
-use mathlib.Core.Logic.{⊎-elim}
 use lib.ListN.{length, take}
 use lib.Seq.{length-take-le, getD-take}
 use Prim.Native.Nat.{ℕ, zero, suc, _+_, _*_, _-_, _≤_, _<_, zero-le}
 use native.Mathlib.Nat.{le-trans, lt-of-not-le, mul-le-mul, mul-le-mul-left, mul-comm, le-antisymm}
 use native.Mathlib.Decide.{decLe}
 use native.Mathlib.Omega.{arith}
-use lib.Dec.{T, lit<}
+use lib.Dec.{lit<}
 use lib.IntN.{ℤ, pos, natAbs, _-ℤ_, _*ℤ_}
 use lib.Signed.{leZ, ltZ}
 use Rattle.whole.specs.Square.{squared}
 use Rattle.whole.specs.Identity.{identity, quote}
-use Rattle.whole.specs.Order.{_⩽_, _⋖_, le-lt-trans, lt-le-trans, lt-irrefl, le-trans as chain, le-or-lt, pos-le, pos-lt, pos-sub}
+use Rattle.whole.specs.Order.{_⩽_, _⋖_, le-lt-trans, lt-le-trans, lt-irrefl, le-trans as chain, from-le, from-not-le, from-lt, from-not-lt, pos-le, pos-lt, pos-sub}
 use Rattle.whole.specs.Magnitude.{le-magnitude}
 use Rattle.limits.specs.Limits.{dsgNumber}
 use Rattle.whole.specs.Table.{at}
@@ -29,20 +28,6 @@ use Rattle.limits.proofs.Blocks.{within-blocks}
 use Rattle.limits.proofs.Lists.{list-passes, any-take}
 use Rattle.series.proofs.Residuals.{squares-cong}
 use Rattle.limits.proofs.Laws.{then-passed}
-
--- ---- tests
-
-from-le : (x y : ℤ) → leZ x y ≡ true → x ⩽ y
-from-le x y e = record { le = subst T (sym e) tt }
-
-from-not-le : (x y : ℤ) → leZ x y ≡ false → y ⋖ x
-from-not-le x y e = ⊎-elim (λ h. absurd (subst T e (h .le))) (λ h. h) (le-or-lt x y)
-
-from-lt : (x y : ℤ) → ltZ x y ≡ true → x ⋖ y
-from-lt x y e = record { lt = subst T (sym e) tt }
-
-from-not-lt : (x y : ℤ) → ltZ x y ≡ false → y ⩽ x
-from-not-lt x y e = ⊎-elim (λ h. h) (λ h. absurd (subst T e (h .lt))) (le-or-lt y x)
 
 -- ---- climbing
 

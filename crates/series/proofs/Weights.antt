@@ -1,7 +1,7 @@
 -- The table of weights (specs/Smooth.antt): how large a product with one can be, and a smoothed value.
 -- Assumes nothing.
 use mathlib.Core.Path.{_≡_, refl, sym, ap, _∙_}
-use Prim.Native.Nat.{ℕ, _*_, _≤_, _<_}
+use Prim.Native.Nat.{ℕ, _+_, _*_, _/_, _≤_, _<_}
 use native.Mathlib.Nat.{le-trans, le-of-eq, mul-comm, mul-le-mul, mul-le-mul-left, mul-le-mul-right}
 use lib.Dec.{lit<, lit≤}
 use lib.IntN.{ℤ, pos, natAbs, _*ℤ_}
@@ -31,7 +31,7 @@ gain = refl
 
 -- so a smoothed value is at most this, in tenths, where no measurement is beyond its limit (law `smoothed-bound`)
 abbrev pub mostSmoothed : ℕ
-mostSmoothed = 13294117647059
+mostSmoothed = steps * measurementLimit * 1469 / 1105 + 1
 
 -- a product with one, and the sum of fifteen
 module _ (m : ℕ → ℤ) (h : (i : ℕ) → natAbs (m i) ≤ measurementLimit) where

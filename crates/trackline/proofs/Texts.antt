@@ -12,17 +12,17 @@ use lib.Dec.{lit≤}
 use borrow.Author.Tests.{lt-ltb, le-ltb, eq-eqb, ne-eqb}
 use Rattle.limits.proofs.Laws.{after-accepted}
 use Rattle.fields.specs.Text.{decimal}
-use Rattle.columns.specs.Text.{lineLength, lineEnd}
+use Rattle.columns.specs.Text.{lineLength, endedLength, lineEnd}
 use Rattle.hire.specs.Hire.{blockLabels}
 use Rattle.line.specs.Block.{blockNumbers, blockLine, blockAnswer, blockAfter, blockNumber}
 use Rattle.columns.proofs.Widths.{line-width}
 use Rattle.trackline.specs.Printed.{refusalText, answer, printed}
-use Rattle.trackline.specs.Buffer.{Text, Pushed, outputLength}
+use Rattle.trackline.specs.Buffer.{Text, Pushed}
 
 -- ---- texts
 
 -- a text copied to the front
-pub copied : (text out after : List ℕ) (n : ℕ) → n ≡ length text → length text ≤ outputLength → length out ≡ outputLength
+pub copied : (text out after : List ℕ) (n : ℕ) → n ≡ length text → length text ≤ endedLength → length out ≡ endedLength
     → after ≡ take (length text) text ++ drop (length text) out → Text after n text
 copied text out after n e h l a =
     let is : after ≡ text ++ drop (length text) out = a ∙ ap (λ (x : List ℕ). x ++ drop (length text) out) (take-length text) in

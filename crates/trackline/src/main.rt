@@ -4,17 +4,16 @@
 ghost use mathlib.Core.Path.{_≡_};
 ghost use Prim.Native.Nat.{_+_, _≤_, _<_};
 ghost use lib.ListN.{length, take};
+ghost use Rattle.columns.specs.Text.{endedLength};
 ghost use Rattle.trackline.specs.Printed.{refusalText, answer, printed};
-ghost use Rattle.trackline.specs.Buffer.{outputLength, Text, Pushed};
+ghost use Rattle.trackline.specs.Buffer.{Text, Pushed};
+use columns::ENDED_LENGTH;
 use columns::LINE_LENGTH;
 use libc::STDIN_FILENO;
 use libc::STDOUT_FILENO;
 
 // One byte more than the longest block has, so that a longer input is noticed.
 const INPUT: usize = 8379;
-
-// Room for a line, carriage return and line feed.
-const OUTPUT: usize = LINE_LENGTH + 2;
 
 // Puts one more byte and gives the place after it.
 fn push(out: &mut [u8], at: usize, byte: u8) -> usize
@@ -27,7 +26,7 @@ fn push(out: &mut [u8], at: usize, byte: u8) -> usize
 
 // `refused`, a space and the number, which has one or two digits.
 fn put_refusal(out: &mut [u8], number: u32) -> usize
-    requires { ⌜ length (now out) ≡ outputLength ⌝ }
+    requires { ⌜ length (now out) ≡ endedLength ⌝ }
     ensures { λ r. ⌜ Text (now (out .exit)) r (refusalText number) ⌝ }
 {
     let at = bytes::copy(b"refused ", out);
@@ -40,7 +39,7 @@ fn put_refusal(out: &mut [u8], number: u32) -> usize
 
 // The line of the block, or its refusal.
 fn put_answer(block: &[u8], out: &mut [u8]) -> usize
-    requires { ⌜ length (now out) ≡ outputLength ⌝ }
+    requires { ⌜ length (now out) ≡ endedLength ⌝ }
     ensures { λ r. ⌜ Text (now (out .exit)) r (answer (now (block .entry))) ⌝ }
 {
     let mut line = [0u8; LINE_LENGTH];
@@ -53,7 +52,7 @@ fn put_answer(block: &[u8], out: &mut [u8]) -> usize
 
 // All that is printed.
 fn put_reply(block: &[u8], out: &mut [u8]) -> usize
-    requires { ⌜ length (now out) ≡ outputLength ⌝ }
+    requires { ⌜ length (now out) ≡ endedLength ⌝ }
     ensures { λ r. ⌜ Text (now (out .exit)) r (printed (now (block .entry))) ⌝ }
 {
     let at = put_answer(block, out);
@@ -64,7 +63,7 @@ fn put_reply(block: &[u8], out: &mut [u8]) -> usize
 fn main() {
     let mut input = [0u8; INPUT];
     let n = io::read_full(STDIN_FILENO, &mut input);
-    let mut out = [0u8; OUTPUT];
+    let mut out = [0u8; ENDED_LENGTH];
     let end = put_reply(&input[..n], &mut out);
     io::write_all(STDOUT_FILENO, &out[..end]);
 }

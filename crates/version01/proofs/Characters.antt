@@ -22,7 +22,7 @@ use Rattle.reading.specs.Fields.{digits, Shared}
 use Rattle.reading.proofs.Columns.{shared, old-shared}
 use Rattle.reading.proofs.Writing.{decimal-allowed, Fitting, spaced-allowed}
 use Rattle.version01.specs.Convert.{formText, downText, supplied, upText, oldLength}
-use Rattle.version01.proofs.Forms.{shared-length, columnsOf, columns-length, form-length}
+use Rattle.version01.proofs.Forms.{shared-length, formColumns, columns-length, form-length}
 
 -- ---- the columns
 
@@ -60,7 +60,7 @@ old-spelled line s =
     record {
       least = omega (arith, n);
       most = omega (arith, n);
-      check = check-closes 101 (columnsOf 32 line [] [] long) [] (columns-length 32 line [] [] long);
+      check = check-closes 101 (formColumns 32 line [] [] long) [] (columns-length 32 line [] [] long);
       columns = ap (λ (k : List ℕ). allowed (32 ∷ k) (downText line)) (sym (append-nil sharedKinds)) ∙ form-allowed 32 line [] 32 [] long (space-is 32) (shared line (s .columns)) none-allowed;
       comment = nothing-behind (downText line) oldLength n;
     }
@@ -101,7 +101,7 @@ our-spelled hc frc1 frc2 frc3 old s a b c =
     record {
       least = omega (arith, n);
       most = omega (arith, n);
-      check = check-closes 111 (columnsOf 71 old behind [] long) [] (columns-length 71 old behind [] long ∙ ap (λ (m : ℕ). 101 + m) k);
+      check = check-closes 111 (formColumns 71 old behind [] long) [] (columns-length 71 old behind [] long ∙ ap (λ (m : ℕ). 101 + m) k);
       columns =
           ap (λ (ks : List ℕ). allowed ks (upText hc frc1 frc2 frc3 old)) kinds-are
           ∙ form-allowed 71 old behind 76 supplied-kinds long letter-allowed (old-shared old (s .columns)) (supplied-allowed hc frc1 frc2 frc3 a b c);

@@ -7,7 +7,7 @@ use native.Mathlib.Omega.{arith}
 use lib.ListN.{length, take, drop, length-append, length-drop}
 use lib.Seq.{length-take-le}
 use Rattle.lent.specs.Placed.{placed, placedWithin}
-use Rattle.lent.proofs.Placing.{within, placed-behind, placed-first, placed-front, length-placed}
+use Rattle.lent.proofs.Placing.{within, put-behind, placed-first, placed-front}
 use Rattle.fields.specs.Text.{hexadecimal, checksum}
 use Rattle.fields.proofs.Laws.{length-hexadecimal}
 use Rattle.columns.specs.Columns.{field}
@@ -22,18 +22,11 @@ shared-length line h = length-take-le 100 (drop 1 line) (rw length-drop (less (l
 
 -- ---- the columns, one behind the other
 
--- a piece put behind others that begin at the first byte, where there is room
-put-behind : (d : List ℕ) {d₁ d₂ : List ℕ} (s t : List ℕ) {n : ℕ} → length s ≡ n → n + length t ≤ length d → d₁ ≡ placed d 0 s → d₂ ≡ placedWithin d₁ n t
-    → d₂ ≡ placed d 0 (s ++ t)
-put-behind d {d₁} s t {n} l room e f =
-    let long : length d₁ ≡ length d = ap length e ∙ length-placed d 0 s (omega (arith, l)) in
-    placed-behind d s t l e (f ∙ within d₁ n t (omega (arith, long)))
-
 module _ (first : ℕ) (line behind lent : List ℕ) (long : 101 ≤ length line) where
-  abbrev pub columnsOf : List ℕ
-  columnsOf = first ∷ (field 2 101 line ++ behind)
+  abbrev pub formColumns : List ℕ
+  formColumns = first ∷ (field 2 101 line ++ behind)
 
-  pub columns-length : length columnsOf ≡ 101 + length behind
+  pub columns-length : length formColumns ≡ 101 + length behind
   columns-length = count (length (field 2 101 line)) (length (field 2 101 line ++ behind)) (shared-length line long) (length-append (field 2 101 line) behind)
     where
       count : (n m : ℕ) → n ≡ 100 → m ≡ n + length behind → suc m ≡ 101 + length behind
@@ -42,24 +35,24 @@ module _ (first : ℕ) (line behind lent : List ℕ) (long : 101 ≤ length line
   pub form-length : length (formText first line behind) ≡ oldLength + length behind
   unfolding formText
   form-length =
-      count (length columnsOf) columns-length (length-append columnsOf (hexadecimal (checksum columnsOf)) ∙ ap (λ (n : ℕ). length columnsOf + n) (length-hexadecimal (checksum columnsOf)))
+      count (length formColumns) columns-length (length-append formColumns (hexadecimal (checksum formColumns)) ∙ ap (λ (n : ℕ). length formColumns + n) (length-hexadecimal (checksum formColumns)))
     where
       count : (n : ℕ) {m : ℕ} → n ≡ 101 + length behind → m ≡ n + 2 → m ≡ oldLength + length behind
       count n e f = omega arith
 
   module _ (room : oldLength + length behind ≤ length lent) where
     pub columns-put : {d₁ d₂ d₃ : List ℕ} → d₁ ≡ placedWithin lent 0 (first ∷ []) → d₂ ≡ placedWithin d₁ 1 (field 2 101 line) → d₃ ≡ placedWithin d₂ 101 behind
-        → d₃ ≡ placed lent 0 columnsOf
+        → d₃ ≡ placed lent 0 formColumns
     columns-put {d₁} {d₂} e f g =
         let n = shared-length line long in
         let one : d₁ ≡ placed lent 0 (first ∷ []) = e ∙ within lent 0 (first ∷ []) (omega arith) in
         let two : d₂ ≡ placed lent 0 (first ∷ field 2 101 line) = put-behind lent (first ∷ []) (field 2 101 line) refl (omega (arith, n)) one f in
         put-behind lent (first ∷ field 2 101 line) behind (ap suc n) (omega arith) two g
 
-    pub all-put : {d₃ d₄ : List ℕ} {sum : ℕ} → d₃ ≡ placed lent 0 columnsOf → sum ≡ checksum (take (101 + length behind) d₃)
+    pub all-put : {d₃ d₄ : List ℕ} {sum : ℕ} → d₃ ≡ placed lent 0 formColumns → sum ≡ checksum (take (101 + length behind) d₃)
         → d₄ ≡ placedWithin d₃ (101 + length behind) (hexadecimal sum) → d₄ ≡ formText first line behind ++ drop (oldLength + length behind) lent
     unfolding formText
     all-put {d₃} {d₄} {sum} e s f =
-        put-behind lent columnsOf (hexadecimal sum) columns-length (omega (arith, length-hexadecimal sum)) e f
-        ∙ ap (λ (n : ℕ). placed lent 0 (columnsOf ++ hexadecimal n)) (s ∙ ap checksum (ap (take (101 + length behind)) e ∙ placed-front lent columnsOf (101 + length behind) columns-length))
+        put-behind lent formColumns (hexadecimal sum) columns-length (omega (arith, length-hexadecimal sum)) e f
+        ∙ ap (λ (n : ℕ). placed lent 0 (formColumns ++ hexadecimal n)) (s ∙ ap checksum (ap (take (101 + length behind)) e ∙ placed-front lent formColumns (101 + length behind) columns-length))
         ∙ placed-first lent (formText first line behind) form-length

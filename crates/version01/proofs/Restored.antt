@@ -3,7 +3,7 @@
 use mathlib.Core.Path.{_≡_, refl, sym, ap, ap₂, _∙_}
 use mathlib.Core.Bool.{true, _&&_, or-false}
 use mathlib.Core.List.{List, [], _∷_, _++_, append-assoc, append-nil}
-use Prim.Native.Nat.{ℕ, _+_, _≤_, _<_}
+use Prim.Native.Nat.{ℕ, _+_, _≤_}
 use native.Mathlib.Nat.{le-of-eq}
 use native.Mathlib.Omega.{arith}
 use lib.Dec.{leb, eqb, lit<, lit≤}
@@ -19,7 +19,7 @@ use Rattle.fields.specs.Read.{readDecimal, digitsFrom}
 use Rattle.fields.proofs.Laws.{read-decimal}
 use Rattle.labels.specs.declared.Labels.{Labels}
 use Rattle.labels.specs.Labels.{constellationFits, labelsFit}
-use Rattle.labels.proofs.Digits.{ranged}
+use Rattle.labels.proofs.Digits.{ranged, few}
 use Rattle.columns.specs.Text.{lineLength, timeOfDay, trackColumns, clockColumns, delayColumns, columns, spaced, withCheck, lineText}
 use Rattle.columns.specs.Columns.{byteIn, field, labelsWith, readLabels, readNumbers}
 use Rattle.characters.specs.Kinds.{kinds, oldKinds}
@@ -63,9 +63,6 @@ gps-fits ioe fr = simp or-false
 
 fr-zero : (ioe fr : ℕ) → constellationFits 71 ioe fr ≡ true → fr ≡ 0
 fr-zero ioe fr e = eqb-true fr 0 (both (leb ioe 255) (eqb fr 0) (sym (gps-fits ioe fr) ∙ e) .1)
-
-hc-fits : (l : Labels) → labelsFit l ≡ true → l .hc < 100
-hc-fits l e = let f = ranged l e in omega (arith, f .hc)
 
 -- ---- down and then up
 
@@ -162,7 +159,7 @@ module _ (hc frc1 frc2 frc3 : ℕ) (old : List ℕ) (e : oldNumber hc frc1 frc2 
 
   hc-there : readDecimal (field 105 106 our) ≡ hc
   unfolding field supplied spaced decimal labelsWith
-  hc-there = ap readDecimal (two-behind 3) ∙ read-decimal 2 hc (hc-fits (oldLabels hc frc1 frc2 frc3 old) fit)
+  hc-there = ap readDecimal (two-behind 3) ∙ read-decimal 2 hc (few (oldLabels hc frc1 frc2 frc3 old) fit .hc)
 
   letter-there : byteIn 1 our ≡ 71
   unfolding byteIn formText

@@ -20,8 +20,9 @@ use Rattle.viewing.specs.View.{sameTrkl, pairsOf, differences, viewed, s
 use Rattle.linefile.proofs.Lines.{line-file}
 use Rattle.linefile.proofs.Ascending.{All}
 use Rattle.linefile.proofs.Holding.{times}
+use Rattle.linefile.proofs.Partners.{exchanged, partners-exchanged, partners-itself}
 use Rattle.viewing.proofs.Extremes.{Among, smallest-is, largest-is, smallest-sum, largest-sum, sum-turned, smallest-turned, largest-turned}
-use Rattle.viewing.proofs.Pairing.{exchanged, partners-exchanged, trkl-exchanged, differences-exchanged, partners-itself, differences-itself, firsts, seconds, firsts-once, seconds-once}
+use Rattle.viewing.proofs.Pairing.{trkl-exchanged, differences-exchanged, differences-itself, firsts, seconds, firsts-once, seconds-once}
 
 -- ---- the figures of any differences
 

@@ -2,17 +2,16 @@
 -- is made of two, and the order in which the chosen one stands before the other.
 -- Assumes nothing.
 use mathlib.Core.Path.{_≡_, refl, sym, ap, subst, _∙_}
-use mathlib.Core.Bool.{Bool, true, false, cond, not}
+use mathlib.Core.Bool.{Bool, true, false, cond}
 use mathlib.Core.List.{List, [], _∷_, map}
 use mathlib.Core.Logic.{_⊎_, inl, inr}
 use Prim.Native.Nat.{ℕ, suc}
 use native.Mathlib.Numerals.{one-add}
 use native.Mathlib.Omega.{arith}
-use lib.Dec.{T}
 use lib.IntN.{ℤ, pos, negℤ, _+ℤ_, _*ℤ_, negℤ-+ℤ, pos-+ℤ-pos}
-use lib.Signed.{_≤ℤ_, _<ℤ_, ltZ, ltZ-yes, ltZ-no, clashℤ}
+use lib.Signed.{_≤ℤ_, ltZ, clashℤ}
 use lib.ListN.{length}
-use Rattle.whole.specs.Order.{le-refl, le-trans, le-of-lt, add-le}
+use Rattle.whole.specs.Order.{le-refl, le-trans, le-of-lt, from-lt, from-not-lt, add-le}
 use Rattle.whole.specs.Identity.{identity, quote}
 use Rattle.whole.specs.Linear.{le-by, le-is}
 use Rattle.viewing.specs.View.{sumOf, smaller, larger, chosen, extreme}
@@ -72,12 +71,6 @@ module _ (choose : ℤ → ℤ → ℤ) (R : ℤ → ℤ → Type 0) (same : (d 
 
 -- ---- the two choices
 
-less : (d e : ℤ) → ltZ d e ≡ true → d <ℤ e
-less d e t = ltZ-yes (subst T (sym t) tt)
-
-not-less : (d e : ℤ) → ltZ d e ≡ false → e ≤ℤ d
-not-less d e t = ltZ-no (subst (λ (b : Bool). T (not b)) (sym t) tt)
-
 -- what is chosen by a test is one of the two, and stands before both where the test goes by the order
 module _ (R : ℤ → ℤ → Type 0) (same : (d : ℤ) → R d d) (test : ℤ → ℤ → Bool) (yes : (d e : ℤ) → test d e ≡ true → R e d) (no : (d e : ℤ) → test d e ≡ false → R d e) where
   by-test-left : (d e : ℤ) → R (cond (test d e) e d) d
@@ -108,35 +101,35 @@ pub smallest-is : (d : ℤ) (ds : List ℤ) → Among (extreme smaller (d ∷ ds
 unfolding smaller
 smallest-is =
     extreme-is smaller _≤ℤ_ le-refl (λ x y z p q. le-trans p q)
-    (by-test-left _≤ℤ_ le-refl (λ d e. ltZ e d) (λ d e t. le-of-lt (less e d t)) (λ d e t. not-less e d t))
-    (by-test-right _≤ℤ_ le-refl (λ d e. ltZ e d) (λ d e t. le-of-lt (less e d t)) (λ d e t. not-less e d t))
-    (by-test-one _≤ℤ_ le-refl (λ d e. ltZ e d) (λ d e t. le-of-lt (less e d t)) (λ d e t. not-less e d t))
+    (by-test-left _≤ℤ_ le-refl (λ d e. ltZ e d) (λ d e t. le-of-lt (from-lt e d t)) (λ d e t. from-not-lt e d t))
+    (by-test-right _≤ℤ_ le-refl (λ d e. ltZ e d) (λ d e t. le-of-lt (from-lt e d t)) (λ d e t. from-not-lt e d t))
+    (by-test-one _≤ℤ_ le-refl (λ d e. ltZ e d) (λ d e t. le-of-lt (from-lt e d t)) (λ d e t. from-not-lt e d t))
 
 pub largest-is : (d : ℤ) (ds : List ℤ) → Among (extreme larger (d ∷ ds)) (d ∷ ds) × All (λ e. e ≤ℤ extreme larger (d ∷ ds)) (d ∷ ds)
 unfolding larger
 largest-is =
     extreme-is larger After le-refl (λ x y z p q. le-trans q p)
-    (by-test-left After le-refl ltZ (λ d e t. le-of-lt (less d e t)) not-less)
-    (by-test-right After le-refl ltZ (λ d e t. le-of-lt (less d e t)) not-less)
-    (by-test-one After le-refl ltZ (λ d e t. le-of-lt (less d e t)) not-less)
+    (by-test-left After le-refl ltZ (λ d e t. le-of-lt (from-lt d e t)) from-not-lt)
+    (by-test-right After le-refl ltZ (λ d e t. le-of-lt (from-lt d e t)) from-not-lt)
+    (by-test-one After le-refl ltZ (λ d e t. le-of-lt (from-lt d e t)) from-not-lt)
 
 -- the sum lies between as many times the smallest and as many times the largest
 pub smallest-sum : (ds : List ℤ) → (extreme smaller ds *ℤ pos (length ds)) ≤ℤ sumOf ds
 unfolding smaller
 smallest-sum =
     extreme-sum smaller _≤ℤ_ le-refl (λ x y z p q. le-trans p q)
-    (by-test-left _≤ℤ_ le-refl (λ d e. ltZ e d) (λ d e t. le-of-lt (less e d t)) (λ d e t. not-less e d t))
-    (by-test-right _≤ℤ_ le-refl (λ d e. ltZ e d) (λ d e t. le-of-lt (less e d t)) (λ d e t. not-less e d t))
-    (by-test-one _≤ℤ_ le-refl (λ d e. ltZ e d) (λ d e t. le-of-lt (less e d t)) (λ d e t. not-less e d t))
+    (by-test-left _≤ℤ_ le-refl (λ d e. ltZ e d) (λ d e t. le-of-lt (from-lt e d t)) (λ d e t. from-not-lt e d t))
+    (by-test-right _≤ℤ_ le-refl (λ d e. ltZ e d) (λ d e t. le-of-lt (from-lt e d t)) (λ d e t. from-not-lt e d t))
+    (by-test-one _≤ℤ_ le-refl (λ d e. ltZ e d) (λ d e t. le-of-lt (from-lt e d t)) (λ d e t. from-not-lt e d t))
     (λ x y u v p q. add-le p q)
 
 pub largest-sum : (ds : List ℤ) → sumOf ds ≤ℤ (extreme larger ds *ℤ pos (length ds))
 unfolding larger
 largest-sum =
     extreme-sum larger After le-refl (λ x y z p q. le-trans q p)
-    (by-test-left After le-refl ltZ (λ d e t. le-of-lt (less d e t)) not-less)
-    (by-test-right After le-refl ltZ (λ d e t. le-of-lt (less d e t)) not-less)
-    (by-test-one After le-refl ltZ (λ d e t. le-of-lt (less d e t)) not-less)
+    (by-test-left After le-refl ltZ (λ d e t. le-of-lt (from-lt d e t)) from-not-lt)
+    (by-test-right After le-refl ltZ (λ d e t. le-of-lt (from-lt d e t)) from-not-lt)
+    (by-test-one After le-refl ltZ (λ d e t. le-of-lt (from-lt d e t)) from-not-lt)
     (λ x y u v p q. add-le p q)
 
 -- ---- all signs turned
@@ -153,8 +146,8 @@ less-turned d e = by-tests (ltZ (negℤ d) (negℤ e)) (ltZ e d) refl refl
     by-tests : (a b : Bool) → ltZ (negℤ d) (negℤ e) ≡ a → ltZ e d ≡ b → a ≡ b
     by-tests true true p q = refl
     by-tests false false p q = refl
-    by-tests true false p q = clashℤ (less (negℤ d) (negℤ e) p) (back (not-less e d q))
-    by-tests false true p q = clashℤ (less e d q) (forth (not-less (negℤ d) (negℤ e) p))
+    by-tests true false p q = clashℤ (from-lt (negℤ d) (negℤ e) p) (back (from-not-lt e d q))
+    by-tests false true p q = clashℤ (from-lt e d q) (forth (from-not-lt (negℤ d) (negℤ e) p))
 
 pub sum-turned : (ds : List ℤ) → sumOf (map negℤ ds) ≡ negℤ (sumOf ds)
 unfolding sumOf

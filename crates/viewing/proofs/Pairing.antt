@@ -3,8 +3,8 @@
 use mathlib.Core.Path.{_≡_, refl, sym, ap, ap₂, subst, _∙_}
 use mathlib.Core.Bool.{Bool, true, false, cond}
 use mathlib.Core.List.{List, [], _∷_, _++_, map}
-use Prim.Native.Nat.{ℕ, zero, suc, _+_, _≤_, zero-le}
-use native.Mathlib.Nat.{le-refl, le-trans, zero-add}
+use Prim.Native.Nat.{ℕ, _+_, _≤_, zero-le}
+use native.Mathlib.Nat.{le-trans}
 use native.Mathlib.Omega.{arith}
 use lib.Dec.{eqb}
 use lib.IntN.{ℤ, pos, negℤ, _-ℤ_, +ℤ-invr}
@@ -15,10 +15,10 @@ use Rattle.limits.proofs.Laws.{eqb-turned}
 use Rattle.linefile.specs.Files.{keys, same}
 use Rattle.linefile.specs.Partners.{partnersOf, partners}
 use Rattle.viewing.specs.View.{trklOf, refsysOf, sameTrkl, differences}
-use Rattle.linefile.proofs.Keys.{same-refl, Order, below, level, above, order}
+use Rattle.linefile.proofs.Keys.{Order, below, level, above, order}
 use Rattle.linefile.proofs.Ascending.{Ascending, all-behind}
-use Rattle.linefile.proofs.Partners.{partners-none, partners-nothing, below-partners, above-partners, level-partners}
-use Rattle.linefile.proofs.Holding.{holds, times, ascending-once}
+use Rattle.linefile.proofs.Partners.{exchanged, partners-none, partners-exchanged}
+use Rattle.linefile.proofs.Holding.{times, times-append, ascending-few}
 
 -- ---- some pairs and more
 
@@ -33,48 +33,6 @@ view-append ((x, y) ∷ ps) qs = by-test (eqb (trklOf x) (trklOf y)) (view-appen
     by-test false h = h
 
 -- ---- whichever is the first
-
-abbrev pub exchanged : List ℕ × List ℕ → List ℕ × List ℕ
-exchanged p = (p .1, p .0)
-
--- by so many lines at most in both lists
-exchanged-in : (most : ℕ) (j k : List ℕ) (xs ys : List (List ℕ)) → length xs + length ys ≤ most → Ascending j xs → Ascending k ys
-    → partners ys xs ≡ map exchanged (partners xs ys)
-unfolding partners
-exchanged-in most j k [] ys h a b = partners-nothing ys
-exchanged-in most j k (x ∷ xs) [] h a b = sym (ap (map exchanged) (partners-nothing (x ∷ xs)))
-exchanged-in zero j k (x ∷ xs) (y ∷ ys) h a b = absurd (none (length xs) (length (y ∷ ys)) h)
-  where
-    none : (m n : ℕ) → suc m + n ≤ 0 → ⊥
-    none m n h = omega arith
-exchanged-in (suc most) j k (x ∷ xs) (y ∷ ys) h a b =
-    by-order (order (keys x) (keys y))
-    (exchanged-in most (keys x) k xs (y ∷ ys) (first (length xs) (length ys) h) (a .1) b)
-    (exchanged-in most (keys x) (keys y) xs ys (both (length xs) (length ys) h) (a .1) (b .1))
-    (exchanged-in most j (keys y) (x ∷ xs) ys (second (length xs) (length ys) h) a (b .1))
-  where
-    first : (m n : ℕ) → suc m + suc n ≤ suc most → m + suc n ≤ most
-    first m n h = omega arith
-
-    second : (m n : ℕ) → suc m + suc n ≤ suc most → suc m + n ≤ most
-    second m n h = omega arith
-
-    both : (m n : ℕ) → suc m + suc n ≤ suc most → m + n ≤ most
-    both m n h = omega arith
-
-    by-order : Order (keys x) (keys y) → partners (y ∷ ys) xs ≡ map exchanged (partners xs (y ∷ ys)) → partners ys xs ≡ map exchanged (partners xs ys)
-        → partners ys (x ∷ xs) ≡ map exchanged (partners (x ∷ xs) ys) → partners (y ∷ ys) (x ∷ xs) ≡ map exchanged (partners (x ∷ xs) (y ∷ ys))
-    by-order (below p q r) u v w =
-        above-partners y x ys xs (b .1) (a .1) p ∙ u ∙ ap (map exchanged) (sym (below-partners x y xs ys (a .1) (b .1) p))
-    by-order (level e p q r) u v w =
-        level-partners y x ys xs (b .1) (a .1) (sym e) (subst (λ (k : List ℕ). same k (keys x) ≡ true) e (same-refl (keys x)))
-        ∙ ap (λ (t : List (List ℕ × List ℕ)). (y, x) ∷ t) v
-        ∙ ap (map exchanged) (sym (level-partners x y xs ys (a .1) (b .1) e r))
-    by-order (above p q r) u v w =
-        below-partners y x ys xs (b .1) (a .1) p ∙ w ∙ ap (map exchanged) (sym (above-partners x y xs ys (a .1) (b .1) p))
-
-pub partners-exchanged : (j k : List ℕ) (xs ys : List (List ℕ)) → Ascending j xs → Ascending k ys → partners ys xs ≡ map exchanged (partners xs ys)
-partners-exchanged j k xs ys a b = exchanged-in (length xs + length ys) j k xs ys (le-refl _) a b
 
 pub trkl-exchanged : (ps : List (List ℕ × List ℕ)) → sameTrkl (map exchanged ps) ≡ map exchanged (sameTrkl ps)
 unfolding sameTrkl
@@ -93,12 +51,6 @@ differences-exchanged [] = refl
 differences-exchanged ((x, y) ∷ ps) = ap₂ _∷_ (sub-turned (refsysOf y) (refsysOf x)) (differences-exchanged ps)
 
 -- ---- a file with itself
-
-pub partners-itself : (k : List ℕ) (xs : List (List ℕ)) → Ascending k xs → partners xs xs ≡ map (λ x. (x, x)) xs
-unfolding partners
-partners-itself k [] a = refl
-partners-itself k (x ∷ xs) a =
-    level-partners x x xs xs (a .1) (a .1) refl (same-refl (keys x)) ∙ ap (λ (t : List (List ℕ × List ℕ)). (x, x) ∷ t) (partners-itself (keys x) xs (a .1))
 
 pub differences-itself : (xs : List (List ℕ)) → differences (sameTrkl (map (λ x. (x, x)) xs)) ≡ replicate (length xs) (pos 0)
 unfolding sameTrkl differences
@@ -123,11 +75,6 @@ seconds-is (p ∷ ps) = ap (λ (t : List (List ℕ)). p .1 ∷ t) (seconds-is ps
 firsts-append : (ps qs : List (List ℕ × List ℕ)) → firsts (ps ++ qs) ≡ firsts ps ++ firsts qs
 firsts-append [] qs = refl
 firsts-append (p ∷ ps) qs = ap (λ (t : List (List ℕ)). p .0 ∷ t) (firsts-append ps qs)
-
-times-append : (l : List ℕ) (xs ys : List (List ℕ)) → times l (xs ++ ys) ≡ times l xs + times l ys
-unfolding times
-times-append l [] ys = sym (zero-add (times l ys))
-times-append l (x ∷ xs) ys = omega (arith, times-append l xs ys)
 
 -- lines that ascend have one partner of a line, or none
 partners-few : (x k : List ℕ) (ys : List (List ℕ)) → Ascending k ys → (l : List ℕ) → times l (firsts (partnersOf x ys)) ≤ cond (same l x) 1 0
@@ -164,13 +111,6 @@ trkl-few l ((x, y) ∷ ps) = by-test (eqb (trklOf x) (trklOf y)) (trkl-few l ps)
         → times l (firsts (cond b ((x, y) ∷ []) [] ++ sameTrkl ps)) ≤ cond (same l x) 1 0 + times l (firsts ps)
     by-test true h = omega arith
     by-test false h = omega arith
-
-ascending-few : (l k : List ℕ) (xs : List (List ℕ)) → Ascending k xs → times l xs ≤ 1
-ascending-few l k xs a = rw (ascending-once l k xs a) (by-test (holds l xs))
-  where
-    by-test : (b : Bool) → cond b 1 0 ≤ 1
-    by-test true = omega arith
-    by-test false = omega arith
 
 pub firsts-once : (j k : List ℕ) (xs ys : List (List ℕ)) → Ascending j xs → Ascending k ys → (l : List ℕ) → times l (firsts (sameTrkl (partners xs ys))) ≤ 1
 firsts-once j k xs ys a b l =

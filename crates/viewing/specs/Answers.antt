@@ -1,4 +1,4 @@
--- What the answer means in the papers' terms: the number of the refusal, 0 where there is none, and the report, 0 throughout where there is a
+-- What the answer means (document 02, Job 6): the number of the refusal, 0 where there is none, and the report, 0 throughout where there is a
 -- refusal.
 -- Assumes nothing.
 use Prim.Native.Nat.{_<_}

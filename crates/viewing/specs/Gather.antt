@@ -1,10 +1,11 @@
--- What the functions that gather the report promise each other: how one difference more changes it and how large its numbers are.
+-- What the functions that gather the report promise each other (document 02, Job 6): how one difference more changes it and how large its numbers are.
 -- Assumes nothing.
 use Prim.Native.Nat.{ℕ, _*_, _≤_}
 use mathlib.Core.Bool.{cond, _||_}
 use lib.IntN.{ℤ, pos, natAbs, _+ℤ_}
 use lib.Signed.{ltZ}
 use Rattle.viewing.specs.declared.Figures.{Figures}
+use Rattle.viewing.specs.View.{mostLines}
 
 -- One difference more. The first one is the smallest and the largest by itself.
 unfoldable pub counted : Figures → ℤ → Figures
@@ -20,9 +21,9 @@ counted f d =
 abbrev pub widest : ℕ
 widest = 2 * 9999999999
 
--- The lines of two files, 10000 each at most: no walk over them has more steps.
-abbrev pub mostLines : ℕ
-mostLines = 2 * 10000
+-- How many steps a walk over two files has at most: one for each line of either.
+abbrev pub mostSteps : ℕ
+mostSteps = 2 * mostLines
 
 -- The report of so many pairs at most.
 pub record Bounded (most : ℕ) (f : Figures) : Type 0 where

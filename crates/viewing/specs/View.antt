@@ -11,7 +11,8 @@ use lib.ListN.{length}
 use Rattle.limits.specs.Refusal.{_when_, _then_}
 use Rattle.limits.specs.Reply.{Reply, reply}
 use Rattle.columns.specs.Columns.{readNumbers}
-use Rattle.linefile.specs.Files.{endedLength, columnsOf, lines, fileNumber}
+use Rattle.columns.specs.Text.{endedLength}
+use Rattle.linefile.specs.Files.{columnsOf, lines, fileNumber}
 use Rattle.linefile.specs.Partners.{partners}
 use Rattle.viewing.specs.declared.Figures.{Figures}
 
@@ -67,9 +68,12 @@ unfoldable pub figures : List ℤ → Figures
 figures ds =
     record { pairs = pos (length ds); sum = sumOf ds; smallest = extreme smaller ds; largest = extreme larger ds }
 
--- The bytes of 10000 lines, which a file has at most.
+-- How many lines a file has at most, and the bytes of so many.
+abbrev pub mostLines : ℕ
+mostLines = 10000
+
 abbrev pub longest : ℕ
-longest = 10000 * endedLength
+longest = mostLines * endedLength
 
 -- 19: either file is longer than that. Then the first file's refusals, then the second's. 18: there is no pair, and so no difference.
 unfoldable pub viewNumber : (first second : List ℕ) → ℕ

@@ -3,12 +3,14 @@
 ghost use mathlib.Core.Path.{_≡_};
 ghost use Rattle.viewing.specs.View.{viewRule};
 ghost use Rattle.viewing.specs.Answers.{viewReply, viewNumbered};
-use linefile::LINE;
+use columns::ENDED_LENGTH;
 
 mod pairs;
 
-// The bytes of 10000 lines.
-const LONGEST: usize = 10000 * LINE;
+// How many lines a file has at most, and the bytes of so many.
+const MOST_LINES: usize = 10000;
+
+const LONGEST: usize = MOST_LINES * ENDED_LENGTH;
 
 // How many pairs there are, the sum of their differences, the smallest and the largest, in 0.1 ns.
 pub struct Figures {

@@ -9,10 +9,10 @@ ghost use Rattle.fields.specs.Read.{readDecimal};
 ghost use Rattle.columns.specs.Columns.{field};
 ghost use Rattle.linefile.specs.Files.{columnsOf, endedNumber, fileNumber};
 ghost use Rattle.viewing.specs.View.{trklOf, refsysOf, figures, viewed, longest};
-ghost use Rattle.viewing.specs.Gather.{counted, widest, mostLines, Bounded};
+ghost use Rattle.viewing.specs.Gather.{counted, widest, mostSteps, Bounded};
 use super::Figures;
+use columns::ENDED_LENGTH;
 use fields::two_digits;
-use linefile::LINE;
 use linefile::step;
 
 // TRKL of an accepted line, as its digits stand: 48 · 1111 more than it.
@@ -56,7 +56,7 @@ fn choose(new: bool, d: i64, e: i64) -> i64
 
 // One difference more.
 fn count(figures: Figures, difference: i64) -> Figures
-    requires { ⌜ Bounded mostLines figures ⌝ }
+    requires { ⌜ Bounded mostSteps figures ⌝ }
     requires { ⌜ natAbs difference ≤ widest ⌝ }
     ensures { λ r. ⌜ r ≡ counted figures difference ⌝ }
 {
@@ -79,7 +79,7 @@ fn count(figures: Figures, difference: i64) -> Figures
 
 // The difference of two lines is counted where they are a pair. `level` tells whether they have the same keys.
 fn count_pair(figures: Figures, line: &[u8], other: &[u8], level: bool) -> Figures
-    requires { ⌜ Bounded mostLines figures ⌝ }
+    requires { ⌜ Bounded mostSteps figures ⌝ }
     requires { ⌜ endedNumber (now line) ≡ 0 ⌝ }
     requires { ⌜ endedNumber (now other) ≡ 0 ⌝ }
     ensures { λ r. ⌜ r ≡ cond (level && eqb (trklOf (now (line .entry))) (trklOf (now (other .entry))))
@@ -101,8 +101,8 @@ pub fn gather(first: &[u8], second: &[u8]) -> Figures
     requires { ⌜ length (now second) ≤ longest ⌝ }
     ensures { λ r. ⌜ r ≡ figures (viewed (now (first .entry)) (now (second .entry))) ⌝ }
 {
-    let a = first.len() / LINE;
-    let b = second.len() / LINE;
+    let a = first.len() / ENDED_LENGTH;
+    let b = second.len() / ENDED_LENGTH;
     let mut gathered = Figures {
         pairs: 0,
         sum: 0,
@@ -113,12 +113,12 @@ pub fn gather(first: &[u8], second: &[u8]) -> Figures
     let mut n = 0;
     while (m < a) & (n < b) {
         let next = step(first, m, second, n);
-        let at = LINE * m;
-        let to = LINE * n;
+        let at = ENDED_LENGTH * m;
+        let to = ENDED_LENGTH * n;
         gathered = count_pair(
             gathered,
-            &first[at..at + LINE],
-            &second[to..to + LINE],
+            &first[at..at + ENDED_LENGTH],
+            &second[to..to + ENDED_LENGTH],
             next.level,
         );
         m = next.m;

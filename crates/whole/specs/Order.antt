@@ -2,14 +2,15 @@
 -- What is linear is proved by the module Linear; the last section has two laws for what is not.
 -- Assumes nothing.
 use mathlib.Core.Path.{_≡_, sym, ap, _∙_, subst, subst₂}
+use mathlib.Core.Bool.{true, false}
 use mathlib.Core.List.{List, [], _∷_}
-use mathlib.Core.Logic.{_⊎_, inl, inr}
+use mathlib.Core.Logic.{_⊎_, inl, inr, ⊎-elim}
 use Prim.Native.Nat.{ℕ, zero, suc, _+_, _*_, _-_, _≤_, _<_, zero-le}
 use native.Mathlib.Decide.{decLe}
 use native.Mathlib.Omega.{arith}
-use lib.Dec.{leb→le, le→leb, lt→ltb}
+use lib.Dec.{T, leb→le, le→leb, lt→ltb}
 use lib.IntN.{ℤ, pos, negsuc, negℤ, natAbs, _+ℤ_, _-ℤ_, _*ℤ_, *ℤ-zero, *ℤ-comm}
-use lib.Signed.{_≤ℤ_, _<ℤ_, ≤ℤ-refl, <ℤ-≤ℤ-trans, <ℤ-irrefl, yes-nonNeg, pos-natAbs}
+use lib.Signed.{_≤ℤ_, _<ℤ_, leZ, ltZ, ≤ℤ-refl, <ℤ-≤ℤ-trans, <ℤ-irrefl, yes-nonNeg, pos-natAbs}
 use Rattle.whole.specs.Square.{squared}
 use Rattle.whole.specs.Differences.{Dif, of, view, dif-le, dif-lt}
 use Rattle.whole.specs.Identity.{identity, quote}
@@ -61,6 +62,19 @@ le-or-lt x y = go (view x) (view y)
   where
     go : {x y : ℤ} → Dif x → Dif y → (x ⩽ y) ⊎ (y ⋖ x)
     go (of a b) (of c d) = elim (decLe (a + d) (c + b)) [ yes h ↦ inl (dif-le a b c d h) | no h ↦ inr (dif-lt c d a b (omega arith)) ]
+
+-- what the library's tests tell
+pub from-le : (x y : ℤ) → leZ x y ≡ true → x ⩽ y
+from-le x y e = record { le = subst T (sym e) tt }
+
+pub from-not-le : (x y : ℤ) → leZ x y ≡ false → y ⋖ x
+from-not-le x y e = ⊎-elim (λ h. absurd (subst T e (h .le))) (λ h. h) (le-or-lt x y)
+
+pub from-lt : (x y : ℤ) → ltZ x y ≡ true → x ⋖ y
+from-lt x y e = record { lt = subst T (sym e) tt }
+
+pub from-not-lt : (x y : ℤ) → ltZ x y ≡ false → y ⩽ x
+from-not-lt x y e = ⊎-elim (λ h. h) (λ h. absurd (subst T e (h .lt))) (le-or-lt y x)
 
 -- ---- between natural numbers
 

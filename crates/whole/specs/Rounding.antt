@@ -8,7 +8,7 @@ use Prim.Native.Nat.{ℕ, suc, _+_, _*_, _/_, _≤_, _<_, suc-le-suc}
 use native.Mathlib.Nat.{mul-div-le, lt-mul-div-succ, one-le-mul}
 use native.Mathlib.Numerals.{add-one}
 use native.Mathlib.Omega.{arith}
-use lib.IntN.{ℤ, pos, negsuc, negℤ, natAbs, _+ℤ_, _-ℤ_, _*ℤ_, +ℤ-idl}
+use lib.IntN.{ℤ, pos, negsuc, negℤ, natAbs, _+ℤ_, _-ℤ_, _*ℤ_, +ℤ-comm, +ℤ-idl}
 use lib.Signed.{shrZ}
 use Rattle.whole.specs.Square.{magnitude}
 use Rattle.whole.specs.Nearest.{nearest}
@@ -131,6 +131,16 @@ nearest-scale n d m h k =
     same : (n d m r : ℤ)
         → m *ℤ (pos 2 *ℤ d *ℤ r -ℤ pos 2 *ℤ n) ≡ pos 2 *ℤ (m *ℤ d) *ℤ r -ℤ pos 2 *ℤ (m *ℤ n)
     same n d m r = identity (n ∷ d ∷ m ∷ r ∷ []) (search quote depth 12) tt
+
+-- a whole value can be taken out of the fraction before it is rounded, which leaves a smaller numerator
+pub value-apart : (N : ℕ) → 0 < N → (v a b : ℤ) → nearest (pos N *ℤ v -ℤ a -ℤ b) N ≡ v +ℤ nearest (pos 0 -ℤ a -ℤ b) N
+value-apart N h v a b =
+    ap (λ (z : ℤ). nearest z N) (moved (pos N) v a b)
+    ∙ nearest-shift (pos 0 -ℤ a -ℤ b) N h v
+    ∙ +ℤ-comm (nearest (pos 0 -ℤ a -ℤ b) N) v
+  where
+    moved : (N v a b : ℤ) → N *ℤ v -ℤ a -ℤ b ≡ pos 0 -ℤ a -ℤ b +ℤ v *ℤ N
+    moved N v a b = identity (N ∷ v ∷ a ∷ b ∷ []) (search quote depth 20 fits 4000) tt
 
 -- with the numerator: a larger fraction has no smaller nearest number
 pub nearest-mono : (d : ℕ) → 0 < d → {n m : ℤ} → n ⩽ m → nearest n d ⩽ nearest m d

@@ -1,6 +1,6 @@
 -- `boundary::trackline_append` meets its contract: the case of the answer tells whether the place is written.
 -- Assumes nothing.
-use Rattle.boundary.proofs.Rows.{place-kept}
+use Rattle.limits.proofs.Laws.{lent-kept}
 use Rattle.delays.proofs.Answers.{append-refused-case, append-bytes-case}
 use Rattle.delays.specs.Append.{appendRule, appendAfter}
 use Rattle.delays.specs.Answers.{appendReply}
@@ -58,7 +58,7 @@ returns c = let e = c .before .enum-told .given .1 in
     let n = c .appended-number .ensures ∙ ap (λ (r : Appended). appendReply r .number) e in
     let r = append-refused-case (a .store .now) (a .mjd) (a .intdly) (a .cabdly) (a .refdly) (a .gd) (length (a .longer .now)) e (answer p) (p .append .ensures .1 .0) in (
       n ∙ r .0,
-      (after p, place-kept (c .appended-number .result) (storeLength (version (a .store .now)) (suc (count (a .store .now)))) (a .written .now) (omega (arith, n, r .1))),
+      (after p, lent-kept (c .appended-number .result) (storeLength (version (a .store .now)) (suc (count (a .store .now)))) (a .written .now) (omega (arith, n, r .1))),
     )
 
 same-length-2 : tie.Need-same-length-2

@@ -8,7 +8,8 @@ use Rattle.day.specs.Day.{dayFile}
 use Rattle.day.specs.Answers.{writtenNumber, writtenBytes}
 use Rattle.day.proofs.Answers.{answer-number, answer-bytes, refused-case}
 use Rattle.boundary.specs.Values.{refusedAfter}
-use Rattle.boundary.proofs.Rows.{place-kept, place-named}
+use Rattle.limits.proofs.Laws.{lent-kept}
+use Rattle.boundary.proofs.Rows.{place-named}
 use borrow.Author.Needs.{needs}
 use Rattle.boundary.proofs.trackline_day.Statement.{statement}
 use Rattle.boundary.proofs.trackline_day.Tie as tie
@@ -46,7 +47,7 @@ returns c =
       (
         d .day .ensures .1 .0,
         (
-          place-kept (c .written-number .result) (length (dayFile blocks)) (a .written .now) some,
+          lent-kept (c .written-number .result) (length (dayFile blocks)) (a .written .now) some,
           (
             place-named (c .written-number .result) (a .block .now) (c .before .written-block .ensures ∙ r .1) some,
             ((λ z. absurd (none some z)), (λ z. absurd (none some z))),

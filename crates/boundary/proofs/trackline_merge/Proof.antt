@@ -7,7 +7,7 @@ use Rattle.merging.specs.declared.Merged.{Merged}
 use Rattle.merging.specs.Answers.{mergeReply}
 use Rattle.merging.specs.Merge.{mergedFile}
 use Rattle.merging.proofs.Answers.{accepted-case, refused-case}
-use Rattle.boundary.proofs.Rows.{place-kept}
+use Rattle.limits.proofs.Laws.{lent-kept}
 use borrow.Author.Needs.{needs}
 use Rattle.boundary.proofs.trackline_merge.Statement.{statement}
 use Rattle.boundary.proofs.trackline_merge.Tie as tie
@@ -39,7 +39,7 @@ returns c =
     let n = c .merged-number .ensures ∙ ap (λ (r : Merged). mergeReply r .number) e in
     let r = refused-case first second room e (m .merge .ensures .0) (m .merge .ensures .1 .0) in (
       n ∙ r .0,
-      (m .merge .ensures .1 .1, place-kept (c .merged-number .result) (length (mergedFile first second)) (a .written .now) (omega (arith, n, r .1))),
+      (m .merge .ensures .1 .1, lent-kept (c .merged-number .result) (length (mergedFile first second)) (a .written .now) (omega (arith, n, r .1))),
     )
 
 same-length-2 : tie.Need-same-length-2

@@ -7,7 +7,7 @@ use Rattle.path.specs.declared.Measured.{Measured}
 use Rattle.path.specs.Path.{lengthOf}
 use Rattle.path.specs.Answers.{measuredReply}
 use Rattle.path.proofs.Answers.{length-case, refused-case}
-use Rattle.boundary.proofs.Rows.{place-kept}
+use Rattle.limits.proofs.Laws.{lent-kept}
 use borrow.Author.Needs.{needs}
 use Rattle.boundary.proofs.trackline_path.Statement.{statement}
 use Rattle.boundary.proofs.trackline_path.Tie as tie
@@ -39,7 +39,7 @@ returns c =
     let e = told .enum-told .given .1 in
     let n = c .measured-number .ensures ∙ ap (λ (r : Measured). measuredReply r .number) e in
     let r = refused-case (satellite b) (antenna b) e (m .path .ensures .0) (m .path .ensures .1) in
-    (n ∙ r .0, place-kept (c .measured-number .result) (lengthOf (satellite b) (antenna b)) (b .args .length .now) (omega (arith, n, r .1)))
+    (n ∙ r .0, lent-kept (c .measured-number .result) (lengthOf (satellite b) (antenna b)) (b .args .length .now) (omega (arith, n, r .1)))
 
 returns-2 : tie.Need-returns-2
 returns-2 c =

@@ -8,7 +8,8 @@ use native.Mathlib.Omega.{arith}
 use lib.ListN.{length, drop}
 use borrow.Author.Needs.{needs}
 use Rattle.limits.specs.Refusal.{_when_, _then_}
-use Rattle.linefile.specs.Files.{endedLength, lines, fileNumber}
+use Rattle.columns.specs.Text.{endedLength}
+use Rattle.linefile.specs.Files.{lines, fileNumber}
 use Rattle.linefile.proofs.Judging.{rankedNumber, judged, judged-all, ranked-none}
 use Rattle.linefile.proofs.Lines.{line-part, length-lines}
 use Rattle.linefile.proofs.refusal.Statement.{statement}

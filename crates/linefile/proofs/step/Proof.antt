@@ -7,7 +7,8 @@ use Prim.Native.Nat.{ℕ, _+_, _/_, _<_}
 use native.Mathlib.Omega.{arith}
 use lib.Dec.{ltb, leb, eqb}
 use lib.ListN.{length}
-use Rattle.linefile.specs.Files.{endedLength, lineAt}
+use Rattle.columns.specs.Text.{endedLength}
+use Rattle.linefile.specs.Files.{lineAt}
 use Rattle.linefile.specs.Walk.{rank, passing, stepOf}
 use Rattle.linefile.proofs.Lines.{lines-left}
 use borrow.Author.Needs.{needs}

@@ -1,7 +1,7 @@
 -- `path::is_beyond` meets its contract: the three tests together.
 -- Assumes nothing.
 use borrow.Author.Needs.{needs}
-use Rattle.path.specs.Path.{beyond}
+use Rattle.path.specs.Path.{pointBeyond}
 use Rattle.path.proofs.is_beyond.Statement.{statement}
 use Rattle.path.proofs.is_beyond.Tie as tie
 
@@ -15,7 +15,7 @@ is-outside-requires-3 : tie.Need-is-outside-requires-3
 is-outside-requires-3 c κs = search needs
 
 returns : tie.Need-returns
-unfolding beyond
+unfolding pointBeyond
 returns c = cc
 
 pub is-beyond-spec : {M : Type 1} → statement M

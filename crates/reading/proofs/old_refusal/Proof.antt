@@ -7,8 +7,7 @@ use Rattle.limits.specs.Refusal.{_then_}
 use Rattle.limits.proofs.Laws.{then-refused, then-passed}
 use Rattle.labels.specs.declared.Labels.{Labels}
 use Rattle.limits.specs.declared.Numbers.{Numbers}
-use Rattle.characters.specs.Kinds.{oldKinds}
-use Rattle.characters.specs.Characters.{charactersNumber}
+use Rattle.characters.specs.Characters.{oldCharactersNumber}
 use Rattle.characters.proofs.Spelled.{spelled}
 use Rattle.reading.specs.Read.{valuesNumber}
 use Rattle.reading.specs.Old.{oldNumber}
@@ -29,7 +28,7 @@ returns : tie.Need-returns
 unfolding oldNumber
 returns c = refused-is _ (c .before .old-refusal .ensures) (c .if1 .taken)
 
-passed : (c : tie.Else1) → charactersNumber 101 128 oldKinds (c .before .before .before .args .old .now) ≡ 0
+passed : (c : tie.Else1) → oldCharactersNumber (c .before .before .before .args .old .now) ≡ 0
 passed c = sym (c .before .old-refusal .ensures) ∙ c .if1 .left
 
 shared-so : (c : tie.Else1) → Shared (c .before .before .before .args .old .now)

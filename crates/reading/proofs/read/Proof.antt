@@ -2,13 +2,12 @@
 -- Assumes nothing.
 use mathlib.Core.Path.{_≡_, sym, ap, ap₂, _∙_}
 use mathlib.Core.List.{List}
-use Prim.Native.Nat.{ℕ, _-_, _<_}
-use native.Mathlib.Omega.{arith}
+use Prim.Native.Nat.{ℕ, _-_}
+use native.Mathlib.Nat.{pos-of-ne-zero}
 use lib.ListN.{length, take}
 use Rattle.limits.proofs.Laws.{then-passed}
 use Rattle.limits.proofs.Parts.{rest-part}
-use Rattle.characters.specs.Kinds.{kinds}
-use Rattle.characters.specs.Characters.{charactersNumber}
+use Rattle.characters.specs.Characters.{ourCharactersNumber}
 use Rattle.characters.proofs.Spelled.{spelled}
 use Rattle.labels.specs.declared.Labels.{Labels}
 use Rattle.limits.specs.declared.Numbers.{Numbers}
@@ -39,15 +38,11 @@ same line = rest-part line 0
 refusal-requires : tie.Need-refusal-requires
 refusal-requires c κs = search needs
 
--- a number that is not 0
-some : {n : ℕ} → (n ≡ 0 → ⊥) → 0 < n
-some h = omega arith
-
 returns : tie.Need-returns
 returns c =
-    (reply-characters _ (c .before .refusal .ensures) (some (c .if1 .taken)) ∙ ap readRule (same _), some (c .if1 .taken))
+    (reply-characters _ (c .before .refusal .ensures) (pos-of-ne-zero (c .if1 .taken)) ∙ ap readRule (same _), pos-of-ne-zero (c .if1 .taken))
 
-passed : (c : tie.Else1) → charactersNumber 111 140 kinds (anew (c .before .before .before .before .args .line .now)) ≡ 0
+passed : (c : tie.Else1) → ourCharactersNumber (anew (c .before .before .before .before .args .line .now)) ≡ 0
 passed c = sym (c .before .refusal .ensures) ∙ c .if1 .left
 
 labels-requires : tie.Need-labels-requires
@@ -69,7 +64,7 @@ own-values c =
 returns-2 : tie.Need-returns-2
 returns-2 c =
     let v = c .before in
-    (reply-values _ (passed (v .before .before .before)) (own-values v) (some (c .if2 .taken)) ∙ ap readRule (same _), some (c .if2 .taken))
+    (reply-values _ (passed (v .before .before .before)) (own-values v) (pos-of-ne-zero (c .if2 .taken)) ∙ ap readRule (same _), pos-of-ne-zero (c .if2 .taken))
 
 returns-3 : tie.Need-returns-3
 unfolding readNumber

@@ -7,13 +7,13 @@ use mathlib.Core.List.{List}
 use Prim.Native.Nat.{ℕ, _+_, _*_, _-_, _≤_, _<_}
 use native.Mathlib.Nat.{le-antisymm}
 use native.Mathlib.Omega.{arith}
-use lib.IntN.{ℤ, pos, negℤ, natAbs}
+use lib.IntN.{ℤ, pos, natAbs}
 use lib.ListN.{length, take, drop, length-set}
 use mir.Syntax.{w64}
 use mir.Val.{toZ, ofZ}
 use mir.Facts.{toZ-ofZ}
 use Rattle.whole.specs.Words.{Word, known, equal, read, sum-of, negation-of, bound, back-of}
-use Rattle.limits.specs.Limits.{measurementLimit}
+use Rattle.limits.specs.Limits.{measurementLimit, measurementLeast, measurementMost}
 use Rattle.limits.specs.Lists.{anyBeyond}
 use Rattle.limits.specs.Scan.{readTo, scanRule}
 use Rattle.limits.specs.declared.Scanned.{Scanned}
@@ -27,7 +27,7 @@ use Rattle.whole.specs.Table.{at}
 use Rattle.exact.specs.Corrected.{Given, steps, block, toA, toB}
 use Rattle.correcting.specs.declared.Corrected.{Corrected}
 use Rattle.correcting.specs.Correct.{given, blocks, smoothedAt, valueA, valueB, valueC, valueD}
-use Rattle.correcting.specs.Answer.{filled, wholeBlocks, blocksRule}
+use Rattle.correcting.specs.Answer.{filled, wholeBlocks}
 use Rattle.correcting.proofs.Arrays.{filled-none, filled-more}
 use Rattle.correcting.proofs.Blocks.{part-value, part-bound}
 use Rattle.correcting.proofs.Parts.{Passed, part-read, part-most, none-passed, passed, found, found-blocks, done, done-blocks}
@@ -100,11 +100,11 @@ rows c k e =
 -- what the scan of this block answers
 scanned : (c : tie.After-scan Inv-loop μ-loop)
     → let n = c .before .before .before in
-    c .scan .result ≡ scanRule (negℤ (pos measurementLimit)) (pos measurementLimit) (take 15 (drop (15 * n .loop .j) (n .before .args .measurements .now)))
+    c .scan .result ≡ scanRule measurementLeast measurementMost (take 15 (drop (15 * n .loop .j) (n .before .args .measurements .now)))
 scanned c =
     let n = c .before .before .before in
     let e : 15 * n .loop .j + 15 - 15 * n .loop .j ≡ 15 = omega arith in
-    subst (λ (k : ℕ). c .scan .result ≡ scanRule (negℤ (pos measurementLimit)) (pos measurementLimit) (take k (drop (15 * n .loop .j) (n .before .args .measurements .now)))) e (c .scan .ensures)
+    subst (λ (k : ℕ). c .scan .result ≡ scanRule measurementLeast measurementMost (take k (drop (15 * n .loop .j) (n .before .args .measurements .now)))) e (c .scan .ensures)
 
 any-is : (c : tie.After-scan Inv-loop μ-loop)
     → let n = c .before .before .before in
@@ -114,7 +114,7 @@ any-is c = ap (λ (s : Scanned). s .outside) (scanned c)
 
 read-is : (c : tie.After-scan Inv-loop μ-loop)
     → let n = c .before .before .before in
-    c .scan .result .read ≡ readTo (negℤ (pos measurementLimit)) (pos measurementLimit) (take 15 (drop (15 * n .loop .j) (n .before .args .measurements .now)))
+    c .scan .result .read ≡ readTo measurementLeast measurementMost (take 15 (drop (15 * n .loop .j) (n .before .args .measurements .now)))
 unfolding scanRule
 read-is c = ap (λ (s : Scanned). s .read) (scanned c)
 

@@ -6,7 +6,7 @@ use Prim.Native.Nat.{ℕ, _*_}
 use native.Mathlib.Omega.{arith}
 use Rattle.lent.specs.Placed.{placed}
 use Rattle.lent.proofs.Placing.{within}
-use Rattle.linefile.specs.Files.{endedLength}
+use Rattle.columns.specs.Text.{endedLength}
 use Rattle.day.specs.Day.{fileOf}
 use Rattle.day.specs.Walk.{left}
 use lib.ListN.{take}

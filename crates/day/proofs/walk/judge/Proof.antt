@@ -6,15 +6,15 @@ use native.Mathlib.Omega.{arith}
 use lib.ListN.{length}
 use borrow.Author.Tests.{ltb-true, eqb-true}
 use Rattle.limits.proofs.Laws.{both}
-use Rattle.linefile.specs.Files.{endedLength}
-use Rattle.day.specs.Walk.{Within, verdict}
+use Rattle.columns.specs.Text.{endedLength}
+use Rattle.day.specs.Walk.{WithinBytes, verdict}
 use Rattle.day.proofs.Walking.{later, ahead, Stepped, stepped, verdict-end}
 use Rattle.day.proofs.walk.judge.Statement.{statement}
 use Rattle.day.proofs.walk.judge.Tie as tie
 
 abbrev Inv-loop : tie.InvT-loop
 Inv-loop blocks line₀ state₀ line state =
-    Within blocks state × (verdict blocks state₀ ≡ verdict blocks state) × (length line ≡ endedLength)
+    WithinBytes blocks state × (verdict blocks state₀ ≡ verdict blocks state) × (length line ≡ endedLength)
 
 abbrev μ-loop : tie.MeasureT-loop
 μ-loop blocks line₀ state₀ line state = ahead blocks state

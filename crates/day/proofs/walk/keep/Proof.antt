@@ -6,7 +6,7 @@ use borrow.Author.Tests.{eq-eqb, ne-eqb}
 use native.Mathlib.Omega.{arith}
 use borrow.Author.Needs.{needs}
 use Rattle.lent.proofs.Placing.{within}
-use Rattle.linefile.specs.Files.{endedLength}
+use Rattle.columns.specs.Text.{endedLength}
 use Rattle.day.proofs.walk.keep.Statement.{statement}
 use Rattle.day.proofs.walk.keep.Tie as tie
 

@@ -8,9 +8,8 @@ use lib.ListN.{length, drop}
 use borrow.Author.Needs.{needs}
 use borrow.Author.Tests.{ltb-true, eqb-true}
 use Rattle.limits.proofs.Laws.{both}
-use Rattle.columns.specs.Text.{lineLength, lineEnd}
+use Rattle.columns.specs.Text.{lineLength, endedLength, lineEnd}
 use Rattle.line.specs.Block.{blockLine}
-use Rattle.linefile.specs.Files.{endedLength}
 use Rattle.day.specs.Walk.{nextBlock, Wrote}
 use Rattle.day.proofs.Walking.{later, ahead, Stepped, stepped, wrote-none, wrote-on}
 use Rattle.day.proofs.walk.write.Statement.{statement}

@@ -7,12 +7,12 @@ use mathlib.Core.List.{List}
 use Prim.Native.Nat.{ℕ, _+_, _*_, _-_, _≤_}
 use native.Mathlib.Nat.{le-antisymm}
 use native.Mathlib.Omega.{arith}
-use lib.IntN.{ℤ, pos, negℤ}
+use lib.IntN.{ℤ}
 use lib.ListN.{length, take, drop}
 use mir.Syntax.{w64}
 use mir.Val.{toZ, ofZ}
 use Rattle.whole.specs.Words.{back-of}
-use Rattle.limits.specs.Limits.{measurementLimit}
+use Rattle.limits.specs.Limits.{measurementLimit, measurementLeast, measurementMost}
 use Rattle.limits.specs.Lists.{anyBeyond}
 use Rattle.limits.specs.Scan.{readTo, scanRule}
 use Rattle.limits.specs.declared.Scanned.{Scanned}
@@ -71,14 +71,14 @@ numbers-are c =
 abbrev at-scan : tie.After-scan Inv-loop μ-loop → tie.At-loop Inv-loop μ-loop
 at-scan c = c .before .before .before .before .before
 
-scanned : (c : tie.After-scan Inv-loop μ-loop) → c .scan .result ≡ scanRule (negℤ (pos measurementLimit)) (pos measurementLimit) (part (at-scan c))
-scanned c = c .scan .ensures ∙ ap (scanRule (negℤ (pos measurementLimit)) (pos measurementLimit)) (numbers-are (c .before .before))
+scanned : (c : tie.After-scan Inv-loop μ-loop) → c .scan .result ≡ scanRule measurementLeast measurementMost (part (at-scan c))
+scanned c = c .scan .ensures ∙ ap (scanRule measurementLeast measurementMost) (numbers-are (c .before .before))
 
 any-is : (c : tie.After-scan Inv-loop μ-loop) → c .scan .result .outside ≡ anyBeyond measurementLimit (part (at-scan c))
 unfolding scanRule
 any-is c = ap (λ (s : Scanned). s .outside) (scanned c)
 
-read-is : (c : tie.After-scan Inv-loop μ-loop) → c .scan .result .read ≡ readTo (negℤ (pos measurementLimit)) (pos measurementLimit) (part (at-scan c))
+read-is : (c : tie.After-scan Inv-loop μ-loop) → c .scan .result .read ≡ readTo measurementLeast measurementMost (part (at-scan c))
 unfolding scanRule
 read-is c = ap (λ (s : Scanned). s .read) (scanned c)
 

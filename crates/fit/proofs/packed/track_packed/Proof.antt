@@ -28,7 +28,7 @@ use Rattle.correcting.specs.Correct.{places, valueA, valueB, valueC, valueD, wr
 use Rattle.correcting.specs.Answer.{correctedNumber, filled, othersBeyond}
 use Rattle.correcting.proofs.Arrays.{places-length}
 use Rattle.correcting.proofs.Largest.{Inside, corrected-within}
-use Rattle.correcting.proofs.Refusals.{blocks-refused, blocks-values}
+use Rattle.correcting.proofs.Refusals.{measurements-refused, measurements-values}
 use Rattle.fit.specs.declared.Found.{Found}
 use Rattle.fit.specs.Found.{foundNumber, foundNumbers, judgedRule, foundRule}
 use Rattle.fit.specs.Packed.{grouped, packed, smoothedOf}
@@ -114,7 +114,7 @@ smoothed-told c = c .before .before
 inside : (c : tie.After-enum-told) → anyBeyond measurementLimit (list (smooth-start (smoothed-told c))) ≡ false
 inside c =
     let k = smoothed-told c in
-    blocks-values (list (smooth-start k)) (k .smooth-blocks .ensures .0) (c .enum-told .given .1)
+    measurements-values (list (smooth-start k)) (k .smooth-blocks .ensures .0) (c .enum-told .given .1)
 
 -- what correcting answers
 abbrev groups-told : tie.After-correct-groups → tie.After-enum-told
@@ -216,7 +216,7 @@ returns-3 c =
     let e = k .before .before in
     let s = start e in
     let told = c .before .enum-told2 .given .1 in
-    let r = blocks-refused (list s) (k .smooth-blocks .ensures .0) told in
+    let r = measurements-refused (list s) (k .smooth-blocks .ensures .0) told in
     let two = c .corrected-number .ensures ∙ ap correctedNumber told ∙ r .0 in
     both s _ (ap Found.Refused two ∙ limits-found (g s) (sizes e) (limits-by e true (othersBeyond (others s)) (r .1) refl))
 

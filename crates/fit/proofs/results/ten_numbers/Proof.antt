@@ -16,11 +16,11 @@ use Rattle.limits.proofs.Laws.{then-refused, then-passed}
 use Rattle.limits.proofs.Replies.{reply-values, reply-number}
 use Rattle.series.specs.declared.Scattered.{Scattered}
 use Rattle.series.specs.Answers.{scatterReply, scatterNumbered}
+use Rattle.series.proofs.Replies.{fit-never, line-numbers}
 use Rattle.fit.specs.declared.Found.{Found}
 use Rattle.fit.specs.declared.TrackRecord.{TrackRecord}
 use Rattle.fit.specs.Track.{recordOf, numbersWith, recordNumber}
 use Rattle.fit.specs.Found.{found, judgedRule}
-use Rattle.fit.proofs.Tracks.{fit-never, line-numbers}
 use Rattle.fit.proofs.results.ten_numbers.Statement.{statement}
 use Rattle.fit.proofs.results.ten_numbers.Tie as tie
 

@@ -11,7 +11,8 @@ use lib.ListN.{length, drop, getD, drop-of-length-le}
 use lib.Seq.{drop-cons}
 use Rattle.linefile.proofs.Keys.{same-refl}
 use borrow.Author.Needs.{needs}
-use Rattle.linefile.specs.Files.{endedLength, same}
+use Rattle.columns.specs.Text.{endedLength}
+use Rattle.linefile.specs.Files.{same}
 use Rattle.merging.proofs.walk.differ.Statement.{statement}
 use Rattle.merging.proofs.walk.differ.Tie as tie
 

@@ -6,7 +6,8 @@ use Prim.Native.Nat.{_+_, _-_, _/_, _≤_, _<_}
 use native.Mathlib.Omega.{arith}
 use lib.ListN.{length, drop}
 use borrow.Author.Needs.{needs}
-use Rattle.linefile.specs.Files.{endedLength, lines}
+use Rattle.columns.specs.Text.{endedLength}
+use Rattle.linefile.specs.Files.{lines}
 use Rattle.linefile.specs.Partners.{partners}
 use Rattle.merging.specs.Merge.{anyDiffer, merged}
 use Rattle.linefile.proofs.Lines.{length-lines, line-file, lines-left}

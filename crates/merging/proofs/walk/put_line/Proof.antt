@@ -6,9 +6,11 @@ use mathlib.Core.List.{List}
 use Prim.Native.Nat.{ℕ, _+_, _-_, _*_, _/_, _≤_, _<_}
 use native.Mathlib.Omega.{arith}
 use lib.ListN.{length, take, drop}
+use borrow.Rule.Slice.PartMut.{mid-len}
 use Rattle.lent.specs.Placed.{placed, placedWithin}
-use Rattle.lent.proofs.Placing.{within, length-part}
-use Rattle.linefile.specs.Files.{endedLength, lineAt}
+use Rattle.lent.proofs.Placing.{within}
+use Rattle.columns.specs.Text.{endedLength}
+use Rattle.linefile.specs.Files.{lineAt}
 use Rattle.linefile.proofs.Lines.{line-part}
 use borrow.Author.Needs.{needs}
 use Rattle.merging.proofs.walk.put_line.Statement.{statement}
@@ -20,7 +22,7 @@ line-within : (file source : List ℕ) (i k : ℕ) → i < length source / ended
     placedWithin file (endedLength * k) line ≡ placed file (endedLength * k) line
 line-within file source i k h room =
     within file (endedLength * k) (take (endedLength * i + endedLength - endedLength * i) (drop (endedLength * i) source))
-    (omega (arith, length-part source (endedLength * i) (endedLength * i + endedLength) (omega arith)))
+    (omega (arith, mid-len (endedLength * i) (endedLength * i + endedLength) source (omega arith)))
 
 mul-at : tie.Need-mul-at
 mul-at c = search needs

@@ -6,7 +6,7 @@ use lib.ListN.{drop}
 use Rattle.lent.specs.Placed.{placedWithin}
 use Rattle.limits.proofs.Parts.{rest-part}
 use Rattle.lent.proofs.Placing.{within}
-use Rattle.linefile.specs.Files.{endedLength}
+use Rattle.columns.specs.Text.{endedLength}
 use borrow.Author.Needs.{needs}
 use Rattle.merging.proofs.walk.put_rest.Statement.{statement}
 use Rattle.merging.proofs.walk.put_rest.Tie as tie

@@ -7,7 +7,8 @@ use mathlib.Core.List.{_++_}
 use lib.ListN.{length, drop, length-append, length-drop}
 use Rattle.lent.specs.Placed.{placed}
 use borrow.Author.Needs.{needs}
-use Rattle.linefile.specs.Files.{endedLength, lines, joined}
+use Rattle.columns.specs.Text.{endedLength}
+use Rattle.linefile.specs.Files.{lines, joined}
 use Rattle.merging.specs.Merge.{merged, mergedFile}
 use Rattle.linefile.proofs.Lines.{length-lines, lines-long, line-file, lines-left}
 use Rattle.lent.proofs.Written.{Written, nothing-written, room, more-written, rests-written}

@@ -10,6 +10,7 @@ use mir.Val.{toZ, ofZ}
 use mir.Facts.{toZ-ofZ}
 use Rattle.whole.specs.Words.{fits-of}
 use Rattle.path.specs.Coordinate.{millimetres}
+use Rattle.path.specs.Wide.{differenceLimit}
 use Rattle.path.specs.Path.{difference}
 use Rattle.path.proofs.Ranges.{limited, difference-bound}
 use Rattle.path.proofs.coordinate.apart.Statement.{statement}
@@ -29,7 +30,7 @@ module _ (c : tie.After-millimetres2) where
   second : toZ w64 (ofZ w64 (c .millimetres2 .result)) ≡ millimetres (c .before .before .args .y)
   second = limited (c .before .before .args .y) (c .before .before .pre .3) (c .millimetres2 .ensures)
 
-  small : difference (c .before .before .args .x) (c .before .before .args .y) ≤ 100000000000
+  small : difference (c .before .before .args .x) (c .before .before .args .y) ≤ differenceLimit
   small = difference-bound (c .before .before .args .x) (c .before .before .args .y) (c .before .before .pre .1) (c .before .before .pre .3)
 
 taken : (c : tie.After-millimetres2)
@@ -50,7 +51,7 @@ unfolding difference
 returns c =
     let e : c .magnitude .result ≡ difference (c .before .before .before .args .x) (c .before .before .before .args .y) =
     c .magnitude .ensures ∙ ap natAbs (taken (c .before)) in
-    (e, subst (λ (k : ℕ). k ≤ 100000000000) (sym e) (small (c .before)))
+    (e, subst (λ (k : ℕ). k ≤ differenceLimit) (sym e) (small (c .before)))
 
 pub apart-spec : {M : Type 1} → statement M
 apart-spec =

@@ -4,14 +4,14 @@ use mathlib.Core.Path.{_≡_, sym, subst, _∙_}
 use Prim.Native.Nat.{ℕ, suc, _+_, _*_, _-_, _/_, _≤_, _<_}
 use native.Mathlib.Omega.{arith}
 use borrow.Author.Tests.{leb-true, leb-false}
-use Rattle.path.specs.Wide.{wideValue}
+use Rattle.path.specs.Wide.{radix, wideValue, factorLimit}
 use Rattle.path.proofs.Roots.{square-lt, root-only}
 use Rattle.path.proofs.root.halved.Statement.{statement}
 use Rattle.path.proofs.root.halved.Tie as tie
 
 abbrev Inv-loop : tie.InvT-loop
 Inv-loop w low₀ high₀ low high =
-    (low ≤ high) × (high < 274877906944) × (low * low ≤ wideValue w) × (wideValue w < suc high * suc high) × (w .low < 1048576)
+    (low ≤ high) × (high < factorLimit) × (low * low ≤ wideValue w) × (wideValue w < suc high * suc high) × (w .low < radix)
 
 abbrev μ-loop : tie.MeasureT-loop
 μ-loop w low₀ high₀ low high = high - low

@@ -3,7 +3,8 @@
 use mathlib.Core.Path.{ap, _∙_}
 use Rattle.fields.specs.Read.{readDecimal}
 use Rattle.reading.specs.Fields.{digits}
-use Rattle.reading.proofs.Columns.{field-is, within-line, field-length, field-digits}
+use Rattle.columns.proofs.Widths.{field-is}
+use Rattle.reading.proofs.Columns.{within-line, field-length, field-digits}
 use borrow.Author.Needs.{needs}
 use Rattle.reading.proofs.values.decimal.Statement.{statement}
 use Rattle.reading.proofs.values.decimal.Tie as tie

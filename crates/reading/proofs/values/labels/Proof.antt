@@ -5,7 +5,8 @@ use Prim.Native.Nat.{ℕ, _≤_}
 use native.Mathlib.Omega.{arith}
 use lib.ListN.{length, getD}
 use Rattle.columns.specs.Columns.{byteIn, labelsWith, readLabels}
-use Rattle.reading.proofs.Columns.{own-columns, shared, column-count}
+use Rattle.characters.proofs.Picture.{column-count}
+use Rattle.reading.proofs.Columns.{own-columns, shared}
 use Rattle.reading.proofs.values.labels.Statement.{statement}
 use Rattle.reading.proofs.values.labels.Tie as tie
 

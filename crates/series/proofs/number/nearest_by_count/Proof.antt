@@ -7,6 +7,7 @@ use native.Mathlib.Omega.{arith}
 use lib.IntN.{ℤ}
 use mir.Facts.{toZ-ofZ}
 use Rattle.whole.specs.Nearest.{nearest}
+use Rattle.exact.specs.Corrected.{steps}
 use Rattle.whole.specs.Words.{Word, known, read, back-of, bound}
 use Rattle.series.proofs.number.nearest_by_count.Statement.{statement}
 use Rattle.series.proofs.number.nearest_by_count.Tie as tie
@@ -22,7 +23,7 @@ returns c =
     let s = c .before .before in
     back-of (c .nearest .ok)
     ∙ c .nearest .ensures
-    ∙ ap₂ (λ (z : ℤ) (n : ℕ). nearest z (1000 * n)) (toZ-ofZ (s .fits .numerator)) (sym (c .before .if1 .taken))
+    ∙ ap₂ (λ (z : ℤ) (n : ℕ). nearest z (100 * steps * n)) (toZ-ofZ (s .fits .numerator)) (sym (c .before .if1 .taken))
 
 cast-nearest : tie.Need-cast-nearest
 cast-nearest c = omega (arith, c .before .pre .2)
@@ -38,7 +39,7 @@ returns-2 c =
     let s = c .before .before in
     back-of (c .nearest2 .ok)
     ∙ c .nearest2 .ensures
-    ∙ ap (λ (z : ℤ). nearest z (1000 * s .args .n)) (toZ-ofZ (s .fits .numerator))
+    ∙ ap (λ (z : ℤ). nearest z (100 * steps * s .args .n)) (toZ-ofZ (s .fits .numerator))
 
 pub nearest-by-count-spec : {M : Type 1} → statement M
 nearest-by-count-spec =

@@ -9,10 +9,9 @@ use lib.IntN.{ℤ, pos, _-ℤ_, _*ℤ_}
 use mir.Syntax.{w64}
 use mir.Val.{toZ}
 use Rattle.whole.specs.Nearest.{nearest}
-use Rattle.whole.specs.Rounding.{nearest-bound}
+use Rattle.whole.specs.Rounding.{nearest-bound, value-apart}
 use Rattle.whole.specs.Words.{Word, Within, known, count, count-read, equal, fits, bound, plain-is, bounds}
 use Rattle.series.proofs.Fitting.{square-bound, span-some}
-use Rattle.series.proofs.Residuals.{value-apart}
 use Rattle.series.proofs.sums.residual.Statement.{statement}
 use Rattle.series.proofs.sums.residual.Tie as tie
 

@@ -6,9 +6,10 @@ use Prim.Native.Nat.{ℕ, _+_, _-_, _/_, _≤_, _<_}
 use native.Mathlib.Omega.{arith}
 use lib.ListN.{length, getD}
 use borrow.Author.Needs.{needs}
-use Rattle.linefile.specs.Files.{endedLength, lines}
+use Rattle.columns.specs.Text.{endedLength}
+use Rattle.linefile.specs.Files.{lines}
 use Rattle.viewing.specs.View.{pairsOf, viewed, longest}
-use Rattle.viewing.specs.Gather.{Bounded, mostLines}
+use Rattle.viewing.specs.Gather.{Bounded, mostSteps}
 use Rattle.linefile.proofs.Ascending.{Accepted}
 use Rattle.linefile.proofs.Lines.{length-lines, line-file, line-part, line-accepted, lines-left}
 use Rattle.linefile.proofs.Steps.{Stepped, stepped}
@@ -99,14 +100,14 @@ count-pair-requires c κs =
     let l = i .before .loop in
     let a = i .before .before .before .before in
     let t = turn i in (
-      more-bounded (l .m + l .n) mostLines (few t (a .pre .1 .1 .0) (a .pre .1 .1 .1)) (l .inv .2),
+      more-bounded (l .m + l .n) mostSteps (few t (a .pre .1 .1 .0) (a .pre .1 .1 .1)) (l .inv .2),
       (
         subst Accepted (sym (line-part (a .args .first .now) (l .m) (t .0))) (first-line i),
         subst Accepted (sym (line-part (a .args .second .now) (l .n) (t .1))) (second-line i),
       ),
     )
   where
-    few : {m n p q : ℕ} → (m < p / endedLength) × (n < q / endedLength) → p ≤ longest → q ≤ longest → m + n ≤ mostLines
+    few : {m n p q : ℕ} → (m < p / endedLength) × (n < q / endedLength) → p ≤ longest → q ≤ longest → m + n ≤ mostSteps
     few t h k = omega (arith, t .0, t .1)
 
 loop-less : tie.Need-loop-less Inv-loop μ-loop

@@ -1,15 +1,15 @@
--- The entry in force (specs/Lookup.antt) is that of the latest start not after the date, and it is the only one.
+-- The entry in force (Lookup of `delays`) is that of the latest start not after the date, and it is the only one.
 -- Assumes nothing.
 use mathlib.Core.Path.{_≡_, refl, subst}
 use mathlib.Core.Bool.{Bool, true, false, cond}
 use Prim.Native.Nat.{ℕ, zero, suc, _≤_, _<_}
-use native.Mathlib.Nat.{not-suc-le-zero, le-refl, le-of-lt}
+use native.Mathlib.Nat.{not-suc-le-zero, not-le-of-lt, le-refl, le-of-lt}
 use native.Mathlib.Omega.{arith}
 use lib.Dec.{leb, ltb}
 use borrow.Author.Tests.{leb-true, leb-false, ltb-true, ltb-false}
 use Rattle.limits.proofs.Laws.{both}
 use Rattle.delays.specs.Store.{later, rising}
 use Rattle.delays.specs.Lookup.{inForce}
 
 -- Of the first n starts, k is the latest one not after the date.
 pub record Latest (start : ℕ → ℕ) (mjd n k : ℕ) : Type 0 where
@@ -70,12 +70,9 @@ module _ (start : ℕ → ℕ) (mjd : ℕ) where
   pub only-latest : (n k m : ℕ) → Latest start mjd n k → Latest start mjd n m → k ≡ m
   only-latest n k m p q = by-tests (ltb k m) refl (ltb m k) refl
     where
-      clash : {a b : ℕ} → a ≤ b → b < a → ⊥
-      clash h l = omega arith
-
       by-tests : (t : Bool) → ltb k m ≡ t → (u : Bool) → ltb m k ≡ u → k ≡ m
-      by-tests true e u f = absurd (clash (q .early) (p .last m (ltb-true k m e) (q .within)))
-      by-tests false e true f = absurd (clash (p .early) (q .last k (ltb-true m k f) (p .within)))
+      by-tests true e u f = absurd (not-le-of-lt (p .last m (ltb-true k m e) (q .within)) (q .early))
+      by-tests false e true f = absurd (not-le-of-lt (q .last k (ltb-true m k f) (p .within)) (p .early))
       by-tests false e false f = omega (arith, ltb-false k m e, ltb-false m k f)
 
 -- ---- rising starts: the latest entry has the greatest date
@@ -116,13 +113,10 @@ rising-below start (suc n) e i j h l =
 pub latest-greatest : (start : ℕ → ℕ) (mjd n k : ℕ) → rising start n ≡ true → Latest start mjd n k → (j : ℕ) → j < n → start j ≤ mjd → start j ≤ start k
 latest-greatest start mjd n k e p j h l = by-tests (ltb j k) refl (ltb k j) refl
   where
-    clash : {a b : ℕ} → a ≤ b → b < a → ⊥
-    clash h l = omega arith
-
     is : k ≤ j → j ≤ k → j ≡ k
     is q r = omega arith
 
     by-tests : (t : Bool) → ltb j k ≡ t → (u : Bool) → ltb k j ≡ u → start j ≤ start k
     by-tests true q u r = le-of-lt (rising-below start n e j k (ltb-true j k q) (p .within))
-    by-tests false q true r = absurd (clash l (p .last j (ltb-true k j r) h))
+    by-tests false q true r = absurd (not-le-of-lt (p .last j (ltb-true k j r) h) l)
     by-tests false q false r = subst (λ (m : ℕ). start j ≤ start m) (is (ltb-false j k q) (ltb-false k j r)) (le-refl (start j))

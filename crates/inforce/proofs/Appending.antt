@@ -21,13 +21,13 @@ use Rattle.limits.proofs.Laws.{then-zero, when-zero, or-false, magnitude-within
 use Rattle.limits.proofs.Lists.{within-limit, limit-within}
 use Rattle.decode.specs.Number.{signedAt, signedsAt}
 use Rattle.decode.proofs.Signeds.{length-signeds, signeds-at}
 use Rattle.delays.specs.Store.{version, count, groupWidth, storeLength, start, groups, delay, delays, later, rising, storeNumber, mostEntries}
 use Rattle.delays.specs.Lookup.{inForce, setOf, lookupRule}
 use Rattle.delays.specs.Append.{longerStore, appendNumber}
 use Rattle.delays.proofs.Stores.{wide-two, three-wide, four-wide}
 use Rattle.delays.proofs.Writing.{length-longer}
 use Rattle.delays.proofs.Answers.{Accepted, accepted, groups-fit, one-more, in-force-most, lookup-none, lookup-found}
-use Rattle.delays.proofs.Longer.{AllFit, none, more, longer-version, longer-count, longer-start, longer-date, longer-old, longer-new}
+use Rattle.inforce.proofs.Longer.{AllFit, none, more, longer-version, longer-count, longer-start, longer-date, longer-old, longer-new}
 
 -- ---- starts that are the same
 

@@ -1,4 +1,4 @@
--- The longer store, read back (specs/Append.antt): what was there is there, and the new entry is behind it.
+-- The longer store, read back (Append of `delays`): what was there is there, and the new entry is behind it.
 -- Assumes nothing.
 use mathlib.Core.Path.{_≡_, refl, ap, _∙_}
 use mathlib.Core.List.{List, [], _∷_, _++_}

@@ -3,6 +3,7 @@
 use mathlib.Core.Path.{_≡_, refl, sym, ap, ap₂, _∙_}
 use mathlib.Core.List.{List, [], _∷_}
 use Prim.Native.Nat.{ℕ, zero, suc, _-_, _≤_, _<_}
+use native.Mathlib.Nat.{not-le-of-lt}
 use native.Mathlib.Numerals.{sub-one}
 use native.Mathlib.Omega.{arith}
 use lib.IntN.{ℤ, pos, negsuc}
@@ -15,13 +16,13 @@ use Rattle.limits.specs.Limits.{outside}
 use Rattle.limits.specs.Lists.{anyOutside}
 use Rattle.decode.specs.Number.{little, unsignedAt, twosComplement, signedAt, signedsAt}
 use Rattle.encode.specs.Encode.{littleBytes, patternOf}
 use Rattle.delays.specs.Store.{version, count, groupWidth, storeLength, start, delay, delays, later, rising, storeNumber}
 use Rattle.delays.specs.Lookup.{inForce, setOf, noSet, lookupNumber, lookupRule}
 use Rattle.delays.specs.Append.{groupBytes, longerDates, longerGroups, longerStore, appendNumber, appendRule, appendAfter}
 use Rattle.delays.proofs.Writing.{length-longer}
 use Rattle.delays.proofs.Answers.{append-done, fitting, lookup-found, lookup-none}
-use Rattle.delays.proofs.Forces.{Latest, in-force-latest, in-force-nothing, only-latest}
-use Rattle.delays.proofs.Theorems.{Appendable, appendable, accepts, longer-accepted, versions, counts, starts, date, set-old, set-new, lookup-new, lookup-old}
+use Rattle.inforce.proofs.Forces.{Latest, in-force-latest, in-force-nothing, only-latest}
+use Rattle.inforce.proofs.Appending.{Appendable, appendable, accepts, longer-accepted, versions, counts, starts, date, set-old, set-new, lookup-new, lookup-old}
 
 -- ---- the set in force
 
@@ -34,14 +35,11 @@ module _ (s : List ℕ) (d : ℕ) (e : storeNumber s ≡ 0) where
   pub latest-answered : (k : ℕ) → Latest (start s) d (count s) k → lookupRule s d ≡ record { number = 0; values = setOf s k }
   latest-answered k p = by-place (inForce (start s) d (count s)) refl
     where
-      clash : {a b : ℕ} → a ≤ b → b < a → ⊥
-      clash h l = omega arith
-
       some : {m n : ℕ} → m ≡ suc n → m ≡ 0 → ⊥
       some q z = omega arith
 
       by-place : (m : ℕ) → inForce (start s) d (count s) ≡ m → lookupRule s d ≡ record { number = 0; values = setOf s k }
-      by-place zero q = absurd (clash (p .early) (in-force-nothing (start s) d (count s) q k (p .within)))
+      by-place zero q = absurd (not-le-of-lt (in-force-nothing (start s) d (count s) q k (p .within)) (p .early))
       by-place (suc m) q =
           sym (lookup-found s d e (some q))
           ∙ ap (λ (v : List ℤ). record { number = 0; values = v })
@@ -52,12 +50,9 @@ module _ (s : List ℕ) (d : ℕ) (e : storeNumber s ≡ 0) where
   pub none-answered : ((j : ℕ) → j < count s → d < start s j) → lookupRule s d ≡ record { number = 21; values = noSet }
   none-answered h = by-place (inForce (start s) d (count s)) refl
     where
-      clash : {a b : ℕ} → a ≤ b → b < a → ⊥
-      clash h l = omega arith
-
       by-place : (m : ℕ) → inForce (start s) d (count s) ≡ m → lookupRule s d ≡ record { number = 21; values = noSet }
       by-place zero q = sym (lookup-none s d e q)
-      by-place (suc m) q = let p = in-force-latest (start s) d (count s) m q in absurd (clash (p .early) (h m (p .within)))
+      by-place (suc m) q = let p = in-force-latest (start s) d (count s) m q in absurd (not-le-of-lt (h m (p .within)) (p .early))
 
 -- version 1 reads GD as 0
 pub first-version-gd : (s : List ℕ) (k : ℕ) → version s ≡ 1 → getD (setOf s k) 3 (pos 0) ≡ pos 0
