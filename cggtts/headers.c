@@ -133,17 +133,18 @@ static int names_code(const struct text *line)
     return at < line->length;
 }
 
-/* The line that names the units: hhmmss first, and characters of units alone. */
+/* The line that names the units: hhmmss first, characters of units alone, and no 1 at its end, which is what is left of a data line. */
 static int is_units(const struct text *line)
 {
-    size_t at = blanks_at(line, 0);
+    size_t at = blanks_at(line, 0), last = at;
     if (!word_at(line, at, "hhmmss")) {
         return 0;
     }
     while (at < line->length && line->at[at] != '\0' && strchr(" .1dghmsnp/", line->at[at]) != NULL) {
+        last = line->at[at] == ' ' ? last : at;
         at++;
     }
-    return at == line->length;
+    return at == line->length && line->at[last] != '1';
 }
 
 static unsigned digit_of(uint8_t byte)

@@ -11,7 +11,7 @@ import subprocess
 import unittest
 
 from publishing import HEADER, HEADING, columns_of, filled, header, taken
-from papers import FIELDS, SIGNED, start_minutes, with_check
+from papers import FIELDS, SIGNED, ranges_of, start_minutes, with_check
 from test_cggtts import MEANINGS, PROGRAM, ROOT, Scratch, run
 from test_merge import A, B, D, E, F, LINES, NO_HEADER, advised, by_keys, ended
 
@@ -275,7 +275,7 @@ class Named(Scratch):
 
     def test_lines_that_are_none(self):
         reason = "neither a header's line nor a data line"
-        for line in ('hello', 'X', 'x', '# G05', 'REF = UTC(ABC)', 'CKSUM = 00', '\x00' * 200, 'GGTTS', 'SAT', 'hhmmss 5'):
+        for line in ('hello', 'X', 'x', '# G05', 'REF = UTC(ABC)', 'CKSUM = 00', '\x00' * 200, 'GGTTS', 'SAT', 'hhmmss 5', HEADING[1] + '1', HEADING[1] + '  11 '):
             self.told(1, reason, line)
         line = with_check(TAKEN)
         self.told(1, reason, line[1:])
@@ -474,7 +474,7 @@ class Generated(Scratch):
     def line(self, pick, key):
         """A data line of these keys, with fills, values and a code by chance."""
         mjd, minute, letter, satellite = key
-        ranges = {'IOE': {'R': (1, 96), 'C': (0, 23)}.get(letter, (0, 255)), 'FR': (1, 24) if letter == 'R' else (0, 0)}
+        ranges = ranges_of(letter)
         clock = minute // 60 * 10000 + minute % 60 * 100
         values = (satellite, pick.choice(('FF', '0A', ' 8')), mjd, clock, pick.choice((780, 60, 765)), pick.randrange(901), pick.randrange(3600),
                   pick.randrange(-10 ** 9, 10 ** 9), pick.randrange(-999, 999), pick.randrange(-999, 999), pick.choice((0, 5, -7)), pick.randrange(99),
