@@ -48,7 +48,7 @@ TIMES = 'docs/SPEED.md'
 EXCEPTIONS = {
     'docs/ARCHITECTURE.md': ('| 10 | `labels::refusal`', 'rooms 10 to 12'),
     'docs/CLAUSES.md': ('`mutant 10 for the largest values',),
-    'docs/DECISIONS.md': ('**10.** The contract of an answer enum', '`steps` is one definition, 10,', 'Code has its own 10 where it counts'),
+    'docs/DECISIONS.md': ('**10.** The contract of an answer enum', '`steps` is one definition, 10,', 'are 10 and 1105 divided by 5'),
     'docs/evidence/definitions.md': ('Characters 10 |',),
     'docs/LAST-DIGIT.md': ('parts of a picosecond that are kept, is 10', '| 10 | 0150 |'),
     'docs/REFUSALS.md': ('without blocks 10 to 39',),
