@@ -2,7 +2,7 @@
 use crate::print::Row;
 use std::num::wrapping_add_u32;
 
-#[derive(Drop)]
+#[derive(Clone, Copy)]
 pub struct Tally {
     pub cases: u32,
     pub wrong: u32,

@@ -5,7 +5,7 @@ use libc::STDOUT_FILENO;
 const WIDTH: usize = 192;
 
 // A row as far as it is written: blank from its place on. What does not fit is dropped.
-#[derive(Drop)]
+#[derive(Clone, Copy)]
 pub struct Row {
     pub bytes: [u8; 192],
     pub at: usize,

@@ -10,7 +10,7 @@ pub const GAVE: usize = 34;
 const SHOULD: usize = 62;
 
 // The operations of document 01 that are tried, and what a lent line keeps.
-#[derive(Drop)]
+#[derive(Clone, Copy)]
 pub enum Operation {
     Smooth,
     Fit,
@@ -21,7 +21,7 @@ pub enum Operation {
 }
 
 // The number of the refusal, 0 where there is none, and the values, 0 where there are none.
-#[derive(Drop)]
+#[derive(Clone, Copy)]
 pub struct Reply {
     pub number: u32,
     pub first: i64,

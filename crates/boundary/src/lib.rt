@@ -2,6 +2,8 @@
 // delays by date, a day at once, Path, and lines down to version 01 and up. Each is one call, and its contract is that call's; what the reader,
 // common view or a lookup hands back goes to a lent row, a length or an index to a lent place.
 // include/trackline.h declares them; the archive is made of this crate.
+#![tactic(auto)]
+
 ghost use Rattle.std.specs.Prelude.{◌≡◌, suc, length};
 ghost use Rattle.limits.specs.Refusal.{after};
 ghost use Rattle.schedule.specs.Schedule.{start_number};

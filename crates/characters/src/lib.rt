@@ -1,6 +1,8 @@
 // What the characters of a line are refused for (document 02, Jobs 1 and 12): its length (12), CK (14), and a character that is not allowed
 // in its column or in the comment (13). It takes any bytes. A line is one of ours or an old one, of version 01. What stands in a line whose
 // characters are accepted is read by crate reading.
+#![tactic(auto)]
+
 ghost use Rattle.std.specs.Prelude.{◌≡◌, ◌+◌, ◌≤◌, not, ◌||◌, cond, ltb, ◌∷◌, length, take, drop};
 ghost use Rattle.limits.specs.Refusal.{◌when◌, ◌then◌};
 ghost use Rattle.characters.specs.Kinds.{within, letter_fits_lem, allows, kinds, old_kinds, allowed, printable, checked};

@@ -1,5 +1,7 @@
 // The columns of a line: labels and the ten numbers as the 113 characters of a data line. Whether they may stand in a line is not asked
 // here; a number that its column cannot hold loses digits.
+#![tactic(auto)]
+
 ghost use Rattle.std.specs.Prelude.{◌≡◌};
 ghost use Rattle.lent.specs.Placed.{placed_within};
 ghost use Rattle.columns.specs.Text.{line_text};

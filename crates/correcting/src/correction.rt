@@ -15,7 +15,7 @@ use limits::{MEASUREMENT_LEAST, MEASUREMENT_LIMIT, scan};
 use series::{Smoothed, smooth, smoothed_number};
 
 // The corrected values of one block.
-#[derive(Drop)]
+#[derive(Clone, Copy)]
 pub struct Values {
     pub a: i64,
     pub b: i64,

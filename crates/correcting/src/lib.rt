@@ -3,6 +3,8 @@
 // Lists of any length and numbers of any size are taken, and nothing traps.
 // What is given is in whole picoseconds; smoothed and corrected values are in tenths of one (document 02, Job 8).
 
+#![tactic(auto)]
+
 mod correction;
 mod inputs;
 mod single;
@@ -23,7 +25,7 @@ pub const GEOMETRY_LIMIT: i64 = 200_000_000_000;
 pub const GEOMETRY_LEAST: i64 = -GEOMETRY_LIMIT;
 
 // What correct answers: that the rows have their values, or the number of the refusal; and how many measurements the limit test has read.
-#[derive(Drop)]
+#[derive(Clone, Copy)]
 pub enum Corrected {
     Values { read: usize },
     Refused { refusal: u32, read: usize },
@@ -40,7 +42,7 @@ pub fn corrected_number(corrected: Corrected) -> u32
 }
 
 // What a block's values are, or the number of the refusal.
-#[derive(Drop)]
+#[derive(Clone, Copy)]
 pub enum BlockValues {
     Values { a: i64, b: i64, c: i64, d: i64 },
     Refused(u32),

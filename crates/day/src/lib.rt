@@ -2,6 +2,8 @@
 // Block's order without 9, then with 16 where its keys do not follow its forerunner's, and the first that offends is named; then 9 names the
 // number of blocks. Nothing is written before every block is accepted. Lines are kept while the blocks are judged, as many as there is room for,
 // and those of later blocks are made once more: what is promised does not depend on how many are kept.
+#![tactic(auto)]
+
 ghost use Rattle.std.specs.Prelude.{◌≡◌, length, take};
 ghost use Rattle.linefile.specs.Files.{file_number};
 ghost use Rattle.day.specs.Day.{day_rule, day_after, LinesOfDay, AccurateDay};
@@ -23,7 +25,7 @@ const MANY: usize = 10000;
 const SHORTEST: usize = 698;
 
 // How many bytes are written, or the refusal and the block that it names.
-#[derive(Drop)]
+#[derive(Clone, Copy)]
 pub enum Written {
     Bytes(usize),
     Refused { refusal: u32, block: usize },

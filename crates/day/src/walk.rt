@@ -14,7 +14,7 @@ use lent::put;
 use limits::{then, when};
 
 // Where a walk stands: at a byte, behind so many blocks, the last one with these labels; or stopped there by a refusal.
-#[derive(Drop)]
+#[derive(Clone, Copy)]
 pub struct State {
     pub at: usize,
     pub count: usize,

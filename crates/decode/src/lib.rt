@@ -1,5 +1,7 @@
 // Numbers out of bytes: little-endian, unsigned, and signed 64-bit in two's complement. A number that does not lie whole within the
 // bytes reads as 0, so that every offset is answered.
+#![tactic(auto)]
+
 ghost use Rattle.std.specs.Prelude.{◌≡◌, ◌+◌, length, leb};
 ghost use Rattle.decode.specs.Number.{unsigned_at, twos_complement_lem, signed_at_lem, signeds_at};
 

@@ -1,6 +1,8 @@
 // Delays by date (document 02, Job 9): a store of them, the set in force at a date, and a store with one entry more. A store that is not one is
 // refused with 20, whatever is asked of it; then a lookup with 21 where no start is early enough, and an append with 20, 22 and 9. Nothing is
 // written before all of that is accepted, and nothing behind the longer store.
+#![tactic(auto)]
+
 ghost use Rattle.std.specs.Prelude.{◌≡◌, length};
 ghost use Rattle.delays.specs.Lookup.{lookup_rule};
 ghost use Rattle.delays.specs.Append.{append_rule, append_after};
@@ -13,7 +15,7 @@ mod store;
 mod write;
 
 // What a lookup answers: the set in force, or the number of the refusal.
-#[derive(Drop)]
+#[derive(Clone, Copy)]
 pub enum Delays {
     Set {
         int: i64,
@@ -25,7 +27,7 @@ pub enum Delays {
 }
 
 // What append answers: how many bytes it wrote, or the number of the refusal.
-#[derive(Drop)]
+#[derive(Clone, Copy)]
 pub enum Appended {
     Bytes(usize),
     Refused(u32),

@@ -1,4 +1,6 @@
 // Numbers into bytes: little-endian, unsigned, and signed 64-bit in two's complement. A writer fills the whole part that it is lent.
+#![tactic(auto)]
+
 ghost use Rattle.std.specs.Prelude.{◌≡◌, length};
 ghost use Rattle.encode.specs.Encode.{little_bytes, pattern_of};
 

@@ -2,4 +2,6 @@
 // Definitions and theorems; there is nothing to run here.
 
 // How many steps a picosecond has: smoothed and corrected values and residuals are whole steps (`steps` of specs/Corrected.antt).
+#![tactic(auto)]
+
 pub const STEPS: i64 = 10;

@@ -1,5 +1,7 @@
 // Numbers as text for the columns of a line: decimals with zero fill, signed decimals, hexadecimal digits, and the checksum.
 // A writer fills the whole part that it is lent. And digits as they stand in a text, for who compares them.
+#![tactic(auto)]
+
 ghost use Rattle.std.specs.Prelude.{◌≡◌, ◌*◌, ◌≤◌, length, get_or};
 ghost use Rattle.fields.specs.Text.{decimal, sign, signed, hex_digit_lem, checksum};
 ghost use Rattle.fields.specs.Raw.{two_digits_lem};

@@ -4,6 +4,8 @@
 // the number of the first refusal, in the order of document 01, "Each operation and its refusals, in order".
 // What is given is in whole picoseconds; smoothed and corrected values are in tenths of one (document 02, Job 8).
 
+#![tactic(auto)]
+
 mod answers;
 mod packed;
 mod results;
@@ -23,7 +25,7 @@ pub use series::{Fitted, Scattered, Smoothed, fit, scatter, smooth};
 
 // How many of the 52 places are in use, a track's corrected values of each kind, A, B, C and D of document 01 in tenths, with 0
 // in the other places, and its ten numbers.
-#[derive(Drop)]
+#[derive(Clone, Copy)]
 pub struct TrackRecord {
     pub blocks: usize,
     pub a: [i64; 52],
@@ -34,14 +36,14 @@ pub struct TrackRecord {
 }
 
 // What Track answers: the number of the refusal, 0 where it accepts, and the record, 0 throughout where it refuses.
-#[derive(Drop)]
+#[derive(Clone, Copy)]
 pub struct Tracked {
     pub refusal: u32,
     pub record: TrackRecord,
 }
 
 // A track's ten numbers without its corrected values, or the number of the refusal.
-#[derive(Drop)]
+#[derive(Clone, Copy)]
 pub enum Found {
     Ten(Numbers),
     Refused(u32),

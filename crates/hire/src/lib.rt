@@ -1,5 +1,7 @@
 // The parts of a hire block: its sizes and the length they make, its labels, and Track of its numbers. Sizes and labels that do not lie within
 // the bytes read as 0, so that every block is answered; Block asks first whether there are four bytes, then for the sizes, then for the length.
+#![tactic(auto)]
+
 ghost use Rattle.std.specs.Prelude.{◌≡◌};
 ghost use Rattle.exact.specs.Corrected.{steps};
 ghost use Rattle.fit.specs.Found.{found_number_lem, found_numbers};

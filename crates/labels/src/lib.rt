@@ -1,5 +1,7 @@
 // The labels that a line is written for, and what they and the ten numbers are refused for. All that documents 01 and 02 say of a line's
 // content, but not of its bytes, is here: the labels' ranges, the track length, the start test and the limits on the numbers.
+#![tactic(auto)]
+
 ghost use Rattle.std.specs.Prelude.{◌≡◌};
 ghost use Rattle.labels.specs.Content.{content_number};
 
@@ -9,7 +11,7 @@ use limits::{then, when};
 mod ranges;
 
 // The labels of a track, in the order of the hire block.
-#[derive(Drop)]
+#[derive(Clone, Copy)]
 pub struct Labels {
     pub constellation: u8,
     pub satellite: u8,

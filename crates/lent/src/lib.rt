@@ -1,4 +1,6 @@
 // Bytes put into lent ones, from an offset on. What does not fit is not put at all: then the lent bytes stay as they are.
+#![tactic(auto)]
+
 ghost use Rattle.std.specs.Prelude.{◌≡◌, ◌+◌, leb};
 ghost use Rattle.lent.specs.Placed.{placed_within};
 
@@ -18,6 +20,6 @@ pub fn put(bytes: &[u8], lent: &mut [u8], at: usize)
 {
     if fits(at, bytes.len(), lent.len()) {
         let end = at + bytes.len();
-        bytes::copy(bytes, &mut lent[at..end]);
+        lent[at..end].copy_from_slice(bytes);
     }
 }

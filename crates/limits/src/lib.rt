@@ -1,6 +1,8 @@
 // The ten numbers of a track and their limits, written once for Track and for Line, the limits of what Track is given, of which stores keep the
 // delays, the limit test on a list of values, and the order of refusals.
 // An answer is a refusal number of document 01, or 0.
+#![tactic(auto)]
+
 ghost use Rattle.std.specs.Prelude.{◌≡◌};
 ghost use Rattle.limits.specs.Refusal.{◌when◌, ◌then◌};
 ghost use Rattle.limits.specs.Limits.{outside, beyond, delay_limit, delays_beyond_lem, limits_number, dsg_number};
@@ -18,7 +20,7 @@ pub const DELAY_LIMIT: i64 = 10_000_000_000;
 pub const DELAY_LEAST: i64 = -DELAY_LIMIT;
 
 // The ten numbers of a track, in their fixed order.
-#[derive(Drop)]
+#[derive(Clone, Copy)]
 pub struct Numbers {
     pub refsv: i64,
     pub srsv: i64,
@@ -75,7 +77,7 @@ pub fn blocks_fit(n: usize) -> bool
 }
 
 // What the limit test on a list answers: whether some value is outside, and how many values it has read.
-#[derive(Drop)]
+#[derive(Clone, Copy)]
 pub struct Scanned {
     pub outside: bool,
     pub read: usize,

@@ -2,6 +2,8 @@
 // They refuse labels, starts and numbers that the columns cannot hold, a lent line that is too short, and, in a block, what Track
 // refuses, by the numbers and in the order of documents 01 and 02. Nothing is written before everything is accepted, and nothing behind the
 // 113 columns.
+#![tactic(auto)]
+
 ghost use Rattle.std.specs.Prelude.{◌≡◌, length};
 ghost use Rattle.exact.specs.Accurate.{AccurateTrack};
 ghost use Rattle.exact.specs.Corrected.{steps};

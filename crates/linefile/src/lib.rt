@@ -1,6 +1,8 @@
 // Line files: lines of 115 bytes, each 113 columns and a line end, that ascend strictly by MJD, start, constellation letter and satellite
 // number. What a file is refused for, by the numbers and in the order of document 02, Job 5, and the step of a walk over two of them, line by
 // line, always at the earlier of the two lines.
+#![tactic(auto)]
+
 ghost use Rattle.std.specs.Prelude.{◌≡◌, cond, ◌≤◌};
 ghost use Rattle.limits.specs.Refusal.{◌then◌};
 ghost use Rattle.linefile.specs.Files.{file_number};
@@ -45,7 +47,7 @@ pub fn refusals(first: &[u8], second: &[u8]) -> u32
 }
 
 // Where a walk goes on: behind the earlier of two lines, or behind both where they have the same keys.
-#[derive(Drop)]
+#[derive(Clone, Copy)]
 pub struct Next {
     // the line of the first file is passed: it is the earlier one, or level
     pub earlier: bool,

@@ -1,6 +1,8 @@
 // One file from two line files (document 02, Job 5): the lines of both, each once, in their order. The first file is refused before the second;
 // then two lines of the same keys that differ (15) and a lent file that is too short (17). Nothing is written before all of that is accepted,
 // and nothing behind the result.
+#![tactic(auto)]
+
 ghost use Rattle.std.specs.Prelude.{◌≡◌, length};
 ghost use Rattle.merging.specs.Merge.{merge_rule, merge_after};
 ghost use Rattle.merging.specs.Answers.{merge_reply, MergeNumbered};
@@ -10,7 +12,7 @@ use limits::{then, when};
 mod walk;
 
 // What merge answers: how many bytes it wrote, or the number of the refusal.
-#[derive(Drop)]
+#[derive(Clone, Copy)]
 pub enum Merged {
     Bytes(usize),
     Refused(u32),

@@ -12,7 +12,7 @@ use lent::put;
 use linefile::step;
 
 // What is known of the result before it is written: whether two lines of the same keys differ, and how long it is.
-#[derive(Drop)]
+#[derive(Clone, Copy)]
 pub struct Measured {
     pub differ: bool,
     pub bytes: usize,

@@ -1,6 +1,8 @@
 // Path (document 02, Job 11): the straight path between satellite and antenna in whole millimetres, from coordinates that are floats. A point goes by
 // value. Whatever the six floats are, the answer is the length or a refusal: 23 for a coordinate that is not a whole number, then 24 for one
 // outside ±5 × 10^10.
+#![tactic(auto)]
+
 ghost use Rattle.std.specs.Prelude.{◌≡◌, true, false, ◌||◌, ◌*◌, ◌≤◌};
 ghost use Rattle.path.specs.Path.{fractional, point_beyond, path_number, sum_of_squares_lem, length_of, path_rule};
 ghost use Rattle.path.specs.Answers.{measured_reply, MeasuredNumbered};
@@ -16,7 +18,7 @@ mod root;
 mod wide;
 
 // A point in millimetres.
-#[derive(Drop)]
+#[derive(Clone, Copy)]
 pub struct Point {
     pub x: f64,
     pub y: f64,
@@ -24,7 +26,7 @@ pub struct Point {
 }
 
 // What Path answers: the length in millimetres, or the number of the refusal.
-#[derive(Drop)]
+#[derive(Clone, Copy)]
 pub enum Measured {
     Length(f64),
     Refused(u32),

@@ -10,7 +10,7 @@ use super::wide::{Wide, at_most};
 const GREATEST: u64 = 274877906943;
 
 // Bounds on a root: it is from low to high.
-#[derive(Drop)]
+#[derive(Clone, Copy)]
 pub struct Bounds {
     pub low: u64,
     pub high: u64,

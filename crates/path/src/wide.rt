@@ -7,7 +7,7 @@ ghost use Rattle.path.specs.Wide.{radix, wide_value, factor_limit, Stands, Part}
 const RADIX: u64 = 1048576;
 
 // high * 2^20 + low
-#[derive(Drop)]
+#[derive(Clone, Copy)]
 pub struct Wide {
     pub high: u64,
     pub low: u64,

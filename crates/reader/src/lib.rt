@@ -2,6 +2,8 @@
 // first refusal, in the order of document 02, Job 1: 12 for the length, 14 for CK, 13 for a character that is not allowed in its column,
 // 7 for labels and track lengths and 8 for starts that Line would refuse. Crate reading answers that; a second function gives the comment
 // behind the columns.
+#![tactic(auto)]
+
 ghost use Rattle.reader.specs.Comment.{comment_offset};
 ghost use Rattle.reader.specs.Part.{PartFrom};
 

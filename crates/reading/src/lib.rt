@@ -1,6 +1,8 @@
 // What stands in a data line (document 02, Jobs 1, 3 and 12): its labels and its ten numbers. It takes any bytes. A line whose characters are
 // refused (crate characters) has that number; then a minus before a zero is 13, a label, a track length or a date that is out of range 7,
 // and a start that is none 8. An old line, of version 01, is refused for the same, with the labels that are supplied.
+#![tactic(auto)]
+
 ghost use Rattle.std.specs.Prelude.{◌≡◌};
 ghost use Rattle.columns.specs.Columns.{read_numbers};
 ghost use Rattle.reading.specs.Read.{values_number, read_rule};
@@ -14,7 +16,7 @@ use limits::{then, when};
 mod values;
 
 // What the reader answers: what stands in the line, or the number of the refusal.
-#[derive(Drop)]
+#[derive(Clone, Copy)]
 pub enum Reading {
     Line { labels: Labels, numbers: Numbers },
     Refused(u32),

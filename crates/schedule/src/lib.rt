@@ -1,5 +1,7 @@
 // The start test of the track schedule: whether a second of a date is the start of one of its tracks.
 // It answers 0, 7 where the date is out of range, or 8 where the second is no start.
+#![tactic(auto)]
+
 ghost use Rattle.std.specs.Prelude.{◌≡◌, ◌-◌, ◌≤◌};
 ghost use Rattle.schedule.specs.Schedule.{first_date, last_date, is_start_lem, start_number};
 

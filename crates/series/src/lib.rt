@@ -3,6 +3,8 @@
 // Each takes a list of any length and numbers of any size and never traps: what it can't use it refuses with the number of
 // the first refusal, in the order of document 01, "Each operation and its refusals, in order".
 
+#![tactic(auto)]
+
 mod number;
 mod sums;
 
@@ -23,7 +25,7 @@ pub const VALUE_LIMIT: i64 = STEPS * 2_000_000_000_000;
 pub const VALUE_LEAST: i64 = -VALUE_LIMIT;
 
 // What Smooth answers: the smoothed value in tenths, or the number of the refusal.
-#[derive(Drop)]
+#[derive(Clone, Copy)]
 pub enum Smoothed {
     Value(i64),
     Refused(u32),
@@ -40,14 +42,14 @@ pub fn smoothed_number(answer: Smoothed) -> u32
 }
 
 // What Fit answers: the midpoint in 0.1 ns with the slope in 0.1 ps/s, or the number of the refusal.
-#[derive(Drop)]
+#[derive(Clone, Copy)]
 pub enum Fitted {
     Line { midpoint: i64, slope: i64 },
     Refused(u32),
 }
 
 // What Scatter answers: DSG in 0.1 ns, or the number of the refusal.
-#[derive(Drop)]
+#[derive(Clone, Copy)]
 pub enum Scattered {
     Sigma(i64),
     Refused(u32),

@@ -55,7 +55,7 @@ pub fn weighted(measurements: &[i64]) -> i64
 }
 
 // Whether a value is outside its limit; else S and T of document 01: the sum of the values, and that of each times its place.
-#[derive(Drop)]
+#[derive(Clone, Copy)]
 pub struct Moments {
     pub outside: bool,
     pub total: i64,

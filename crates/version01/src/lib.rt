@@ -1,6 +1,8 @@
 // Lines for a version 01 receiver (document 02, Job 12). Down makes an old line, one of that form, of a line of ours whose letter is G, and
 // drops comment, FR, HC and FRC. Up makes a line of ours of an old line, with letter G, FR 0 and the HC and FRC that are supplied, and drops
 // the comment. Nothing is written before all is accepted, and nothing behind the columns.
+#![tactic(auto)]
+
 ghost use Rattle.std.specs.Prelude.{◌≡◌, ◌++◌, ◌+◌, ◌≤◌, length, drop};
 ghost use Rattle.version01.specs.Convert.{form_text, down_answer, down_after, up_answer, up_after, old_length};
 

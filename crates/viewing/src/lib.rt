@@ -1,5 +1,7 @@
 // The report on two line files in common view (document 02, Job 6). A file of more than 10000 lines is refused before any is read (19), then the
 // first file and then the second by what they are refused for themselves, and files without a pair in the end (18).
+#![tactic(auto)]
+
 ghost use Rattle.std.specs.Prelude.{◌≡◌};
 ghost use Rattle.viewing.specs.View.{view_rule};
 ghost use Rattle.viewing.specs.Answers.{view_reply, ViewNumbered};
@@ -14,7 +16,7 @@ const MOST_LINES: usize = 10000;
 const LONGEST: usize = MOST_LINES * ENDED_LENGTH;
 
 // How many pairs there are, the sum of their differences, the smallest and the largest, in 0.1 ns.
-#[derive(Drop)]
+#[derive(Clone, Copy)]
 pub struct Figures {
     pub pairs: i64,
     pub sum: i64,
@@ -24,7 +26,7 @@ pub struct Figures {
 
 // What common view answers: the number of pairs and, of what the first file's REFSYS is more than the second's in each, the sum and the two
 // extremes, in 0.1 ns; or the number of the refusal.
-#[derive(Drop)]
+#[derive(Clone, Copy)]
 pub enum View {
     Report {
         pairs: i64,

@@ -34,7 +34,7 @@ fits-of {z} h k = record { sfits = lt_of_le_of_lt (le_trans (mag-le z) h) k }
 
 -- what is read back of an element or of a call's result, of which its range is known
 pub back-of : {z : ℤ} → mag z < 2 ^ 63 → to_z w64 (of_z w64 z) ≡ z
-back-of h = to_z-of_z (record { sfits = h })
+back-of h = to_z-of_z {w = w64} (record { sfits = h })
 
 -- from -1 up, any number of 63 bits can be taken: what is left is no less than the least number
 difference-fits : (a b : ℕ) → a < 2 ^ 63 → b < 2 ^ 63 → SFits w64 (sub_ℕ a b)

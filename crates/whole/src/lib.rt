@@ -1,4 +1,6 @@
 // Whole numbers for every crate above: definitions and laws over the integers, and the one function on them that several crates call.
+#![tactic(auto)]
+
 ghost use Rattle.std.specs.Prelude.{◌≡◌, nat_abs};
 
 // The magnitude of a signed number, which fits for the least of them too.

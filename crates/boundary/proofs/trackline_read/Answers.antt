@@ -1,0 +1,27 @@
+-- `boundary::trackline_read` meets its contract: the case of the reading tells the answer and what is put.
+-- Assumes nothing.
+use mathlib.Core.Path.{ap, ap₂, ◌∙◌}
+use native.Mathlib.Omega.{arith}
+use Rattle.reading.specs.declared.Reading.{Reading}
+use Rattle.reading.specs.Answers.{read_reply}
+use Rattle.reading.proofs.Readings.{accepted-case, accepted-values, refused-case, refused-number}
+use Rattle.columns.specs.Columns.{read_labels, read_numbers}
+use Rattle.reading.specs.Read.{read_number}
+use Rattle.boundary.specs.Values.{values_of, read_answer, read_after}
+use Rattle.boundary.proofs.Rows.{row-refused, row_put}
+use borrow.Author.Rules.{rules}
+use Rattle.boundary.proofs.trackline_read.Goals as goal
+
+pub returns-in_default : goal.returns-in_default
+unfolding read_answer read_after
+returns-in_default c =
+    let number = c.reading_number.ensures ∙ ap (λ (r : Reading). (read_reply r).number) c.in_default.is ∙ refused-number c.args.line.now c.in_default.is c.read-reading.ensures.answer in
+    let some = refused-case c.args.line.now c.in_default.is c.read-reading.ensures.answer c.read-reading.ensures.variant in
+    row-refused (read_number c.args.line.now) (values_of (read_labels c.args.line.now) (read_numbers c.args.line.now)) c.args.lent.now number (omega arith)
+
+pub returns : goal.returns
+unfolding read_answer read_after
+returns c =
+    let v = accepted-values c.args.line.now c.in-Line.is c.read-reading.ensures.answer in
+    row_put (read_number c.args.line.now) _ c.args.lent.now (accepted-case c.args.line.now c.in-Line.is c.read-reading.ensures.answer)
+    (c.values-row.ensures ∙ ap₂ values_of v.0 v.1) c.put.ensures.answer c.put.ensures.written

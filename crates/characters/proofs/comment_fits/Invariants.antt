@@ -1,0 +1,16 @@
+-- `characters::comment_fits` meets its contract: what was found so far, and what is asked of the bytes left, is the answer for all.
+-- Assumes nothing.
+use Rattle.characters.proofs.Allowed.{printable-turn, printable-done}
+use mathlib.Core.Path.{◌≡◌, sym, ap, ◌∙◌}
+use mathlib.Core.Bool.{Bool, ◌&&◌}
+use Prim.Native.Nat.{◌+◌, ◌≤◌, ◌-◌}
+use lib.ListN.{length, drop}
+use borrow.Author.Rules.{rules}
+use Rattle.characters.specs.Kinds.{printable}
+use Rattle.characters.proofs.comment_fits.Given as goal
+
+abbrev pub invariant-loop-i : goal.invariant-loop-i
+invariant-loop-i l = (l.i ≤ length l.text) × (l.fit && printable (drop l.i l.text) ≡ printable l.text)
+
+abbrev pub decreases-loop-i : goal.decreases-loop-i
+decreases-loop-i l = length l.text - l.i

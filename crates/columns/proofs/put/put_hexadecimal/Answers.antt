@@ -1,0 +1,15 @@
+-- `columns::put::put_hexadecimal` meets its contract: two digits, one behind the other.
+-- Assumes nothing.
+use mathlib.Core.Path.{refl}
+use native.Mathlib.Omega.{arith}
+use Rattle.fields.specs.Text.{hexadecimal}
+use Rattle.columns.proofs.Placing.{onto}
+use borrow.Author.Rules.{rules}
+use Rattle.columns.proofs.put.put_hexadecimal.Goals as goal
+
+pub returns : goal.returns
+unfolding hexadecimal
+returns c =
+    onto c.requires.0 (omega arith) refl
+    (simp c.hex_digit.ensures at c.put_byte.ensures)
+    (simp c.hex_digit-2.ensures at c.put_byte-2.ensures)

@@ -1,0 +1,94 @@
+-- `correcting::correction::corrected` meets its contract.
+-- Assumes nothing.
+use mathlib.Core.Path.{refl, ◌∙◌}
+use mathlib.Core.List.{[], ◌∷◌}
+use lib.IntN.{ℤ, ◌+ℤ◌}
+use mir.Syntax.{w64}
+use mir.Val.{to_z, of_z}
+use Rattle.whole.specs.Identity.{identity, quote}
+use Rattle.whole.specs.Words.{Word, known, literal, read, sum_of, product-of, negation-of, fits, plain-is, bounds}
+use Rattle.exact.specs.Corrected.{to_a, to_b, steps}
+use Rattle.correcting.proofs.correction.corrected.Goals.{Start}
+use Rattle.correcting.proofs.correction.corrected.Goals as goal
+
+-- what is known of the numbers
+abbrev words : (c : Start)
+    → Word c.args.smoothed × Word c.args.int × Word c.args.cab × Word c.args.refdly × Word c.args.gd × Word c.args.geometry × Word c.args.relativity
+    × Word c.args.ionosphere × Word c.args.troposphere × Word c.args.clock
+words c =
+    (
+      known c.requires.within.0.within,
+      known c.requires.within.1.within,
+      known c.requires.within.2.within,
+      known c.requires.within.3.within,
+      known c.requires.within.4.within,
+      known c.requires.within_2.0.within,
+      known c.requires.within_2.1.within,
+      known c.requires.within_2.2.within,
+      known c.requires.within_2.3.within,
+      known c.requires.within_2.4.within,
+    )
+
+pub overflow_add-a : goal.overflow_add-a
+overflow_add-a c = let w = words c in fits (search bounds depth 24) tt
+
+pub overflow_sub-a : goal.overflow_sub-a
+overflow_sub-a c = let w = words c in fits (search bounds depth 24) tt
+
+pub overflow_add-a-2 : goal.overflow_add-a-2
+overflow_add-a-2 c = let w = words c in fits (search bounds depth 24) tt
+
+pub overflow_add-a-3 : goal.overflow_add-a-3
+overflow_add-a-3 c = let w = words c in fits (search bounds depth 24) tt
+
+pub overflow_add-a-4 : goal.overflow_add-a-4
+overflow_add-a-4 c = let w = words c in fits (search bounds depth 24) tt
+
+pub overflow_sub-a-2 : goal.overflow_sub-a-2
+overflow_sub-a-2 c = let w = words c in fits (search bounds depth 24) tt
+
+pub overflow_add-a-5 : goal.overflow_add-a-5
+overflow_add-a-5 c = let w = words c in fits (search bounds depth 24) tt
+
+pub overflow_add-a-6 : goal.overflow_add-a-6
+overflow_add-a-6 c = let w = words c in fits (search bounds depth 24) tt
+
+pub overflow_mul-a : goal.overflow_mul-a
+overflow_mul-a c = let w = words c in fits (search bounds depth 24) tt
+
+pub overflow_sub-a-3 : goal.overflow_sub-a-3
+overflow_sub-a-3 c = let w = words c in fits (search bounds depth 24) tt
+
+pub overflow_mul-result : goal.overflow_mul-result
+overflow_mul-result c = let w = words c in fits (search bounds depth 26) tt
+
+pub overflow_add-result : goal.overflow_add-result
+overflow_add-result c = let w = words c in fits (search bounds depth 26) tt
+
+pub overflow_mul-result-2 : goal.overflow_mul-result-2
+overflow_mul-result-2 c = let w = words c in fits (search bounds depth 26) tt
+
+pub overflow_mul-result-3 : goal.overflow_mul-result-3
+overflow_mul-result-3 c = let w = words c in fits (search bounds depth 26) tt
+
+-- a term added to what was added before
+abbrev added : {x y : ℤ} → Word x → Word y → Word (to_z w64 (of_z w64 x) +ℤ y)
+added s w = sum_of (read s) w
+
+-- A and B as the machine adds them up; written out, as a search for both takes four seconds
+pub returns : goal.returns
+unfolding to_a to_b
+returns c =
+    let w = words c in
+    let ref = sum_of (literal 0 refl) (negation-of (read w.3)) in
+    let delays = added (added (sum_of (read w.1) (read w.2)) (read ref)) (read w.4) in
+    let off = added (added (added (added delays (read w.5)) (negation-of (read w.6))) (read w.7)) (read w.8) in
+    let A = sum_of (read w.0) (negation-of (read (product-of (literal steps refl) (read off)))) in
+    let B = added A (read (product-of (literal steps refl) (read w.9))) in (
+      plain-is (read A) tt
+          ∙ identity (c.args.smoothed ∷ c.args.int ∷ c.args.cab ∷ c.args.refdly ∷ c.args.gd ∷ c.args.geometry ∷ c.args.relativity ∷ c.args.ionosphere ∷ c.args.troposphere ∷ []) (search quote depth 24 fits 4000) tt,
+      plain-is (read B) tt
+          ∙ identity (c.args.smoothed ∷ c.args.int ∷ c.args.cab ∷ c.args.refdly ∷ c.args.gd ∷ c.args.geometry ∷ c.args.relativity ∷ c.args.ionosphere ∷ c.args.troposphere ∷ c.args.clock ∷ []) (search quote depth 26 fits 4000) tt,
+      plain-is (read (product-of (literal steps refl) (read w.8))) tt,
+      plain-is (read (product-of (literal steps refl) (read w.7))) tt,
+    )

@@ -1,0 +1,56 @@
+-- `day::run` meets its contract: each test tells what is answered and whether anything is written.
+-- Assumes nothing.
+use mathlib.Core.Path.{◌≡◌, sym, ap, subst, ◌∙◌}
+use Prim.Native.Nat.{ℕ, ◌*◌, ◌≤◌}
+use Rattle.columns.specs.Text.{ended_length}
+use native.Mathlib.Omega.{arith}
+use lib.ListN.{length}
+use Rattle.limits.specs.Refusal.{◌when◌, ◌then◌}
+use Rattle.day.specs.Day.{day_number}
+use Rattle.day.proofs.Finishing.{Judged, number_is, refused, accepted, written}
+use borrow.Author.Rules.{rules}
+use Rattle.day.proofs.run.Goals.{After-judge-judged, After-then-number}
+use Rattle.day.proofs.run.Goals as goal
+
+-- what is known when all blocks are judged
+known : (c : After-judge-judged)
+    → Judged c.args.blocks.now c.start.result c.write-begun.result c.judge-judged.result c.write-begun.new.1.1.0
+known c =
+    record {
+      cache = _;
+      at = c.start.ensures.0;
+      count = c.start.ensures.1;
+      refusal = c.start.ensures.2;
+      wrote = c.write-begun.ensures.wrote;
+      verdict = c.judge-judged.ensures;
+    }
+
+-- what the test is on
+number : (c : After-then-number)
+    → c.then-number.result ≡ day_number c.args.blocks.now (length c.args.file.now)
+number c =
+    c.then-number.ensures
+    ∙ ap (λ (n : ℕ). c.judge-judged.result.refusal then n) c.when.ensures
+    ∙ number_is (known (goal.at.After-then-number c).After-judge-judged) (length c.args.file.now)
+
+pub returns-then-number-ne0 : goal.returns-then-number-ne0
+returns-then-number-ne0 c =
+    refused (known (goal.at.returns-then-number-ne0 c).After-judge-judged) c.args.file.now c.then-number.result (number (goal.at.returns-then-number-ne0 c).After-then-number) c.if-number-ne0.true
+
+pub finish-requires : goal.finish-requires
+finish-requires c =
+    let r = accepted (known (goal.at.finish-requires c).After-judge-judged) c.args.file.now (sym (number (goal.at.finish-requires c).After-then-number) ∙ c.if-number-ne0.false) in record {
+      within_bytes = c.write-begun.ensures.wrote.walked.within;
+      begun_value = r.0;
+      count_in_bounds = subst (λ (n : ℕ). ended_length * c.write-begun.result.count ≤ n) (sym c.write-begun.auto.1.1.0) c.write-begun.ensures.wrote.room;
+      begun_in_bounds = r.1;
+    }
+
+pub overflow_mul-result : goal.overflow_mul-result
+overflow_mul-result c =
+    let r = accepted (known (goal.at.overflow_mul-result c).After-judge-judged) c.args.file.now (sym (number (goal.at.overflow_mul-result c).After-then-number) ∙ c.if-number-ne0.false) in
+    omega (arith, r.3, c.well-formed)
+
+pub returns : goal.returns
+returns c =
+    written (known (goal.at.returns c).After-judge-judged) c.args.file.now _ (sym (number (goal.at.returns c).After-then-number) ∙ c.if-number-ne0.false) c.finish.ensures

@@ -1,0 +1,28 @@
+-- `day::walk::finish` meets its contract: what is left is written behind what was kept.
+-- Assumes nothing.
+use mathlib.Core.Path.{sym, ap, ◌∙◌}
+use mathlib.Core.List.{List}
+use Prim.Native.Nat.{ℕ, ◌*◌}
+use native.Mathlib.Omega.{arith}
+use Rattle.lent.specs.Placed.{placed}
+use Rattle.lent.proofs.Placing.{within}
+use Rattle.columns.specs.Text.{ended_length}
+use Rattle.day.specs.Day.{file_of}
+use Rattle.day.specs.Walk.{left}
+use lib.ListN.{take}
+use lib.Seq.{length-take-le}
+use Rattle.day.proofs.Finishing.{all-written}
+use borrow.Author.Rules.{rules}
+use Rattle.day.proofs.walk.finish.Goals as goal
+
+pub slice_bounds-put-end : goal.slice_bounds-put-end
+slice_bounds-put-end c = search (rules, length-take-le)
+
+pub returns : goal.returns
+returns c =
+    let t = file_of (left c.args.blocks.now c.args.begun) in
+    all-written c.args.blocks.now c.args.begun c.write.result _ _ c.write.ensures.wrote c.write.ensures.ended_length_value c.requires.begun_value (omega (arith, c.requires.begun_in_bounds, c.put.auto.1.0))
+    ∙ ap (λ (f : List ℕ). placed f (ended_length * c.args.begun.count) t)
+    (c.put.ensures
+    ∙ within c.args.file.now 0 (take (ended_length * c.args.begun.count) c.args.kept.now)
+    (rw (length-take-le (ended_length * c.args.begun.count) c.args.kept.now c.requires.count_in_bounds) (omega (arith, c.requires.begun_in_bounds))))

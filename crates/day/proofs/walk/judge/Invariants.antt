@@ -1,0 +1,19 @@
+-- `day::walk::judge` meets its contract: the verdict stays what it was.
+-- Assumes nothing.
+use mathlib.Core.Path.{◌≡◌, refl, sym, ◌∙◌}
+use Prim.Native.Nat.{◌-◌, ◌<◌}
+use native.Mathlib.Omega.{arith}
+use lib.ListN.{length}
+use borrow.Author.Tests.{ltb-true, eqb-true}
+use Rattle.limits.proofs.Laws.{both}
+use Rattle.columns.specs.Text.{ended_length}
+use Rattle.day.specs.Walk.{WithinBytes, verdict}
+use Rattle.day.proofs.Walking.{later, ahead, Stepped, stepped, verdict-end}
+use Rattle.day.proofs.walk.judge.Given as goal
+
+abbrev pub invariant-loop-state : goal.invariant-loop-state
+invariant-loop-state l =
+    WithinBytes l.blocks l.state × (verdict l.blocks l.initial.state ≡ verdict l.blocks l.state) × (length l.line ≡ ended_length)
+
+abbrev pub decreases-loop-state : goal.decreases-loop-state
+decreases-loop-state l = ahead l.blocks l.state

@@ -1,0 +1,22 @@
+-- `day::walk::write` meets its contract: the lines of the blocks that were seen are in their places.
+-- Assumes nothing.
+use mathlib.Core.Path.{◌≡◌, refl, sym, ap, ◌∙◌}
+use mathlib.Core.List.{List, [], ◌∷◌, ◌++◌}
+use Prim.Native.Nat.{ℕ, ◌+◌, ◌-◌, ◌*◌, ◌/◌, ◌≤◌, ◌<◌}
+use native.Mathlib.Omega.{arith}
+use lib.ListN.{length, drop}
+use borrow.Author.Rules.{rules}
+use borrow.Author.Tests.{ltb-true, eqb-true}
+use Rattle.limits.proofs.Laws.{both}
+use Rattle.columns.specs.Text.{line_length, ended_length, line_end}
+use Rattle.line.specs.Block.{block_line}
+use Rattle.day.specs.Walk.{next_block, Wrote}
+use Rattle.day.proofs.Walking.{later, ahead, Stepped, stepped, wrote_none, wrote_on}
+use Rattle.day.proofs.walk.write.Given as goal
+
+abbrev pub invariant-loop-state : goal.invariant-loop-state
+invariant-loop-state l =
+    Wrote l.blocks l.initial.state l.state l.initial.file l.file × (length l.file ≡ length l.initial.file) × (length l.line ≡ ended_length) × (drop line_length l.line ≡ line_end)
+
+abbrev pub decreases-loop-state : goal.decreases-loop-state
+decreases-loop-state l = ahead l.blocks l.state

@@ -1,0 +1,22 @@
+-- `decode::fill_past` meets its contract. The loop keeps the numbers stored, and those that follow from the next place on, together the whole.
+-- Assumes nothing.
+use mathlib.Core.Path.{◌≡◌, sym, ◌∙◌, ap}
+use mathlib.Core.List.{◌++◌}
+use Prim.Native.Nat.{ℕ, ◌≤◌, ◌-◌, min}
+use native.Mathlib.Omega.{arith}
+use lib.ListN.{length, take, length-set}
+use borrow.Author.Rules.{rules}
+use Rattle.decode.specs.Number.{signeds_at}
+use Rattle.whole.specs.Words.{back-of}
+use Rattle.decode.proofs.Signeds.{all_left, signeds-turn, signeds-done}
+use Rattle.decode.proofs.fill_past.Given as goal
+
+abbrev pub invariant-loop-i : goal.invariant-loop-i
+invariant-loop-i l =
+    (l.i ≤ length l.out)
+    × (length l.out ≡ length l.initial.out)
+    × (l.next ≤ length l.bytes)
+    × (signeds_at l.bytes l.at l.stride (length l.initial.out) ≡ take l.i l.out ++ signeds_at l.bytes l.next l.stride (length l.initial.out - l.i))
+
+abbrev pub decreases-loop-i : goal.decreases-loop-i
+decreases-loop-i l = length l.initial.out - l.i

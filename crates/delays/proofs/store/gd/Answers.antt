@@ -1,0 +1,13 @@
+-- `delays::store::gd` meets its contract: by its two cases.
+-- Assumes nothing.
+use mathlib.Core.Path.{◌∙◌}
+use Rattle.whole.specs.Words.{back-of}
+use borrow.Author.Tests.{eq-eqb, ne_eqb}
+use borrow.Author.Rules.{rules}
+use Rattle.delays.proofs.store.gd.Goals as goal
+
+pub returns-then-version-eq1 : goal.returns-then-version-eq1
+returns-then-version-eq1 c = simp (eq-eqb _ _ c.if-version-eq1.true)
+
+pub returns-else-version-eq1 : goal.returns-else-version-eq1
+returns-else-version-eq1 c = simp (ne_eqb _ _ c.if-version-eq1.false) (back-of c.signed64.type-inv ∙ c.signed64.ensures)

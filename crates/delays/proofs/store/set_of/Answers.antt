@@ -1,0 +1,45 @@
+-- `delays::store::set_of` meets its contract: the group begins as many numbers on as the groups before it hold.
+-- Assumes nothing.
+use Rattle.delays.proofs.Stores.{width-times, set_is}
+use Rattle.whole.specs.Words.{back-of}
+use Prim.Native.Nat.{◌*◌, ◌≤◌}
+use native.Mathlib.Omega.{arith}
+use mathlib.Core.Path.{ap, ◌∙◌}
+use mathlib.Core.List.{List}
+use lib.IntN.{ℤ}
+use borrow.Author.Rules.{rules}
+use Rattle.delays.proofs.store.set_of.Goals.{After-group_width}
+use Rattle.delays.proofs.store.set_of.Goals as goal
+
+-- where the group begins, in numbers of eight bytes
+product : (c : After-group_width) → c.group_width.result * c.args.k ≤ 262144
+product c = width-times c.group_width.ensures.upper_bound (omega arith)
+
+pub overflow_mul-at-2 : goal.overflow_mul-at-2
+overflow_mul-at-2 c = omega (arith, product c)
+
+pub overflow_mul-at-3 : goal.overflow_mul-at-3
+overflow_mul-at-3 c = omega (arith, product c)
+
+pub overflow_add-at-2 : goal.overflow_add-at-2
+overflow_add-at-2 c = omega (arith, product c)
+
+pub overflow_add-at-3 : goal.overflow_add-at-3
+overflow_add-at-3 c = omega (arith, product (goal.at.overflow_add-at-3 c).After-group_width)
+
+pub overflow_add-at-4 : goal.overflow_add-at-4
+overflow_add-at-4 c = omega (arith, product (goal.at.overflow_add-at-4 c).After-group_width)
+
+pub overflow_add-at-5 : goal.overflow_add-at-5
+overflow_add-at-5 c = omega (arith, product (goal.at.overflow_add-at-5 c).After-group_width)
+
+pub returns : goal.returns
+returns c = record {
+      result_value = ap (λ (v : List ℤ). record { number = 0; values = v })
+          (set_is c.args.store.now c.args.k c.unsigned16-version.ensures c.count.ensures.value c.group_width.ensures.value
+          (back-of c.signed64.type-inv ∙ c.signed64.ensures)
+          (back-of c.signed64-2.type-inv ∙ c.signed64-2.ensures)
+          (back-of c.signed64-3.type-inv ∙ c.signed64-3.ensures)
+          (back-of c.gd.type-inv ∙ c.gd.ensures));
+      delays_numbered = tt;
+    }

@@ -1,0 +1,9 @@
+-- `delays::store::start` meets its contract: by the offset.
+-- Assumes nothing.
+use Rattle.delays.specs.Store.{start}
+use borrow.Author.Rules.{rules}
+use Rattle.delays.proofs.store.start.Goals as goal
+
+pub returns : goal.returns
+unfolding start
+returns c = c.unsigned32.ensures

@@ -1,0 +1,18 @@
+-- `encode::unsigned` meets its contract: what is written, and the bytes of the rest, give the whole.
+-- Assumes nothing.
+use mathlib.Core.Path.{◌≡◌, sym, ap, ◌∙◌}
+use mathlib.Core.List.{◌++◌}
+use Prim.Native.Nat.{ℕ, ◌≤◌, ◌-◌}
+use lib.ListN.{length, take, length-set}
+use native.Mathlib.Omega.{arith}
+use Rattle.encode.proofs.Bytes.{bytes-turn, bytes-done}
+use borrow.Author.Rules.{rules}
+use Rattle.encode.specs.Encode.{little_bytes}
+use Rattle.encode.proofs.unsigned.Given as goal
+
+abbrev pub invariant-loop-i : goal.invariant-loop-i
+invariant-loop-i l =
+    (l.i ≤ length l.out) × (length l.out ≡ length l.initial.out) × (little_bytes (length l.initial.out) l.value ≡ take l.i l.out ++ little_bytes (length l.initial.out - l.i) l.rest)
+
+abbrev pub decreases-loop-i : goal.decreases-loop-i
+decreases-loop-i l = length l.initial.out - l.i

@@ -1,0 +1,20 @@
+-- `fields::decimal` meets its contract. The loop writes from the right: what is still to be written, the first i digits of the
+-- rest, and what is written give the whole.
+-- Assumes nothing.
+use mathlib.Core.Path.{◌≡◌, sym, ◌∙◌}
+use mathlib.Core.List.{◌++◌, append-nil}
+use Prim.Native.Nat.{◌≤◌}
+use lib.ListN.{length, drop, length-set}
+use lib.Seq.{drop-length}
+use native.Mathlib.Omega.{arith}
+use Rattle.fields.proofs.Laws.{decimal-turn, decimal-done}
+use borrow.Author.Rules.{rules}
+use Rattle.fields.specs.Text.{decimal}
+use Rattle.fields.proofs.decimal.Given as goal
+
+abbrev pub invariant-loop-i : goal.invariant-loop-i
+invariant-loop-i l =
+    (l.i ≤ length l.out) × (length l.out ≡ length l.initial.out) × (decimal (length l.initial.out) l.value ≡ decimal l.i l.rest ++ drop l.i l.out)
+
+abbrev pub decreases-loop-i : goal.decreases-loop-i
+decreases-loop-i l = l.i

@@ -1,0 +1,30 @@
+-- `lent::put` meets its contract: where the bytes fit, the part is as long as they are.
+-- Assumes nothing.
+use mathlib.Core.Path.{◌≡◌, sym, ◌∙◌}
+use mathlib.Core.Bool.{true}
+use Prim.Native.Nat.{◌+◌, ◌≤◌}
+use lib.ListN.{length}
+use borrow.Author.Tests.{leb-true, leb-false}
+use borrow.Author.Rules.{rules}
+use Rattle.lent.proofs.Placing.{within, not_within, put-part}
+use Rattle.lent.proofs.put.Goals as goal
+
+-- where the test is passed, the bytes fit
+room : (c : tie.After-fits2) → c.fits2.result ≡ true → c.args.at + length c.args.bytes.now ≤ length c.args.lent.now
+room c t = leb-true (c.args.at + length c.args.bytes.now) (length c.args.lent.now) (sym c.fits2.ensures ∙ t)
+
+pub overflow_add-end : goal.overflow_add-end
+overflow_add-end c = let r = room c c.if-fits.true in search (rules, r)
+
+pub slice_bounds-copy_from_slice-end : goal.slice_bounds-copy_from_slice-end
+slice_bounds-copy_from_slice-end c = room c c.if-fits.true
+
+pub returns-then-fits : goal.returns-then-fits
+returns-then-fits c =
+    let r = room c c.if-fits.true in
+    put-part c.args.lent.now c.args.bytes.now _ c.args.at r c.copy.ensures.1
+    ∙ sym (within c.args.lent.now c.args.at c.args.bytes.now r)
+
+pub returns-else-fits : goal.returns-else-fits
+returns-else-fits c =
+    sym (not_within c.args.lent.now c.args.at c.args.bytes.now (leb-false (c.args.at + length c.args.bytes.now) (length c.args.lent.now) (sym c.fits2.ensures ∙ c.if-fits.false)))

@@ -1,0 +1,13 @@
+-- `reading::values::decimal8` meets its contract: a number of so few digits fits.
+-- Assumes nothing.
+use native.Mathlib.Omega.{arith}
+use lib.Dec.{lit≤}
+use Rattle.reading.proofs.Columns.{at_most, field_bound}
+use borrow.Author.Rules.{rules}
+use Rattle.reading.proofs.values.decimal8.Goals as goal
+
+pub decimal-requires : goal.decimal-requires
+decimal-requires c = at_most 10 (lit≤ tt) c.requires
+
+pub overflow_cast-result : goal.overflow_cast-result
+overflow_cast-result c = omega (arith, c.decimal.ensures, field_bound c.requires)

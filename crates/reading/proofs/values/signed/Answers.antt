@@ -1,0 +1,38 @@
+-- `reading::values::signed` meets its contract: the sign tells whether the number is taken from 0.
+-- Assumes nothing.
+use mathlib.Core.Path.{refl, sym, ap, ◌∙◌}
+use native.Mathlib.Omega.{arith}
+use lib.IntN.{+ℤ_idl}
+use Rattle.whole.specs.Words.{Word, count, equal, fits, plain-is, bounds}
+use Rattle.fields.specs.Read.{read_signed}
+use Rattle.fields.proofs.Signs.{minus-read, plus-read}
+use Rattle.reading.proofs.Columns.{within-line, field-most, signed-field}
+use borrow.Author.Rules.{rules}
+use Rattle.reading.proofs.values.signed.Goals.{After-natural-size}
+use Rattle.reading.proofs.values.signed.Goals as goal
+
+pub overflow_add-first : goal.overflow_add-first
+overflow_add-first c = omega (arith, c.requires.digits.ordered, within-line c.requires.digits)
+
+pub bounds-line-first : goal.bounds-line-first
+bounds-line-first c = omega (arith, c.requires.counted, c.requires.digits.ordered, within-line c.requires.digits)
+
+-- the magnitude is what the digits say
+abbrev size : (c : After-natural-size) → Word c.natural-size.result
+size c = equal c.natural-size.ensures (count (field-most 9999999999 c.requires.digits refl))
+
+pub overflow_sub-result : goal.overflow_sub-result
+overflow_sub-result c = let w = size (goal.at.overflow_sub-result c).After-natural-size in fits (search bounds depth 9) tt
+
+pub returns-then-line-first-eq45 : goal.returns-then-line-first-eq45
+returns-then-line-first-eq45 c =
+    let w = size (goal.at.returns-then-line-first-eq45 c).After-natural-size in
+    plain-is (search bounds depth 9) tt
+    ∙ +ℤ_idl _
+    ∙ sym (ap read_signed (signed-field c.requires) ∙ minus-read _ _ c.if-line-first-eq45.true)
+
+pub returns : goal.returns
+returns c =
+    let w = size (goal.at.returns c).After-natural-size in
+    plain-is (search bounds depth 9) tt
+    ∙ sym (ap read_signed (signed-field c.requires) ∙ plus-read _ _ c.if-line-first-eq45.false)

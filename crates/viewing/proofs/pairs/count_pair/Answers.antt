@@ -1,0 +1,56 @@
+-- `viewing::pairs::count_pair` meets its contract: TRKL is compared as its digits stand.
+-- Assumes nothing.
+use mathlib.Core.Path.{◌≡◌, sym, ap, ap₂, subst, ◌∙◌}
+use mathlib.Core.Bool.{Bool, cond, ◌&&◌}
+use Prim.Native.Nat.{◌≤◌}
+use lib.Dec.{lit<}
+use lib.IntN.{ℤ, nat_abs, ◌-ℤ◌}
+use mir.Syntax.{w64}
+use mir.Val.{SFits, to_z, of_z}
+use mir.Facts.{to_z-of_z}
+use Rattle.whole.specs.Words.{fits-of, back-of}
+use Rattle.viewing.specs.View.{refsys_of}
+use Rattle.viewing.specs.Gather.{counted, widest}
+use Rattle.viewing.proofs.Values.{refsys-bound, trkl-same, trkl-other}
+use Rattle.viewing.proofs.Gathering.{difference-bound}
+use borrow.Author.Rules.{rules}
+use Rattle.viewing.proofs.pairs.count_pair.Goals.{After-refsys-then-trkl}
+use Rattle.viewing.proofs.pairs.count_pair.Goals as goal
+
+-- the difference as the machine has it
+abbrev difference : After-refsys-then-trkl → ℤ
+difference c =
+    refsys_of c.args.line.now -ℤ refsys_of c.args.other.now
+
+difference-is : (c : After-refsys-then-trkl) → to_z w64 (of_z w64 c.refsys.result) -ℤ to_z w64 (of_z w64 c.refsys-then-trkl.result) ≡ difference c
+difference-is c =
+    ap₂ ◌-ℤ◌ (back-of c.refsys.type-inv ∙ c.refsys.ensures) (back-of c.refsys-then-trkl.type-inv ∙ c.refsys-then-trkl.ensures)
+
+small : (c : After-refsys-then-trkl) → nat_abs (difference c) ≤ widest
+small c =
+    difference-bound (refsys_of c.args.line.now) (refsys_of c.args.other.now) (refsys-bound _ c.requires.line_value) (refsys-bound _ c.requires.other_value)
+
+passed : (c : After-refsys-then-trkl)
+    → to_z w64 (of_z w64 (to_z w64 (of_z w64 c.refsys.result) -ℤ to_z w64 (of_z w64 c.refsys-then-trkl.result))) ≡ difference c
+passed c = ap (λ (z : ℤ). to_z w64 (of_z w64 z)) (difference-is c) ∙ to_z-of_z (fits-of (small c) (lit< tt))
+
+pub overflow_sub-refsys : goal.overflow_sub-refsys
+overflow_sub-refsys c = subst (SFits w64) (sym (difference-is c)) (fits-of (small c) (lit< tt))
+
+pub count-requires : goal.count-requires
+count-requires c = record {
+      bounded = c.requires.bounded;
+      difference_bound = subst (λ (z : ℤ). nat_abs z ≤ widest) (sym (passed c)) (small c);
+    }
+
+pub returns-then-trkl : goal.returns-then-trkl
+returns-then-trkl c =
+    c.count.ensures
+    ∙ ap (counted c.args.figures) (passed (goal.at.returns-then-trkl c).After-refsys-then-trkl)
+    ∙ ap₂ (λ (b e : Bool). cond (b && e) (counted c.args.figures (refsys_of c.args.line.now -ℤ refsys_of c.args.other.now)) c.args.figures) (sym c.if-level.true)
+    (sym (trkl-same c.args.line.now c.args.other.now c.trkl.ensures c.trkl-then-level.ensures c.if-trkl.true))
+
+pub returns-else-trkl : goal.returns-else-trkl
+returns-else-trkl c =
+    ap₂ (λ (b e : Bool). cond (b && e) (counted c.args.figures (refsys_of c.args.line.now -ℤ refsys_of c.args.other.now)) c.args.figures) (sym c.if-level.true)
+    (sym (trkl-other c.args.line.now c.args.other.now c.trkl.ensures c.trkl-then-level.ensures c.if-trkl.false))
