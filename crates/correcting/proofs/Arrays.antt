@@ -12,7 +12,7 @@ use lib.IntN.{ℤ, pos, nat_abs}
 use lib.ListN.{length, get_or, set, replicate, length-append, length-replicate, get_or-append}
 use lib.Seq.{append_snoc, get_or-append-add, set_at}
 use Rattle.whole.specs.Table.{tabulate}
-use Rattle.whole.specs.Tables.{tabulate-suc, tabulate-length, tabulate-get_or}
+use Rattle.whole.proofs.Tables.{tabulate-suc, tabulate-length, tabulate-get_or}
 use Rattle.correcting.specs.Correct.{places}
 use Rattle.correcting.specs.Answer.{filled}
 

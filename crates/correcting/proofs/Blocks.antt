@@ -9,7 +9,7 @@ use lib.IntN.{ℤ, pos, nat_abs, ◌*ℤ◌}
 use lib.ListN.{length, take, drop, length-drop}
 use lib.Seq.{length-take-le, get_or-take, get_or-drop}
 use Rattle.whole.specs.Nearest.{nearest}
-use Rattle.whole.specs.Sums.{sum-cong}
+use Rattle.whole.proofs.Sums.{sum-cong}
 use Rattle.series.specs.declared.Smoothed.{Smoothed}
 use Rattle.whole.specs.Table.{at}
 use Rattle.exact.specs.Corrected.{steps}

@@ -8,7 +8,8 @@ use Prim.Native.Nat.{ℕ, ◌+◌, ◌*◌, ◌≤◌}
 use native.Mathlib.Nat.{le_trans}
 use lib.Dec.{lit≤}
 use lib.IntN.{ℤ, nat_abs}
-use Rattle.whole.specs.Words.{Word, Within, known, bound, bounds}
+use Rattle.whole.specs.Words.{Within}
+use Rattle.whole.proofs.Words.{Word, known, bound, bounds}
 use Rattle.whole.specs.Table.{at}
 use Rattle.exact.specs.Corrected.{Given, block, to_a, to_b, steps}
 use Rattle.limits.specs.Limits.{measurement_limit, delay_limit}

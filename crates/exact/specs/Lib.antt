@@ -5,11 +5,3 @@ pub mod Corrected
 pub mod Accurate
 -- The table of the program's weights, which none of those uses.
 pub mod Weights
--- The theorems.
-pub mod LeastSquares
-pub mod Smoothing
-pub mod Places
-pub mod Fitting
-pub mod Bounds
-pub mod Scattering
-pub mod Accuracy

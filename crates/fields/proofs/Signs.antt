@@ -7,7 +7,7 @@ use Prim.Native.Nat.{ℕ}
 use lib.Dec.{eqb}
 use lib.IntN.{pos, neg_ℤ, nat_abs}
 use borrow.Author.Tests.{eqb-true, eqb-false, eq-eqb, ne_eqb}
-use Rattle.whole.specs.Magnitude.{nat_abs-neg}
+use Rattle.whole.proofs.Magnitudes.{nat_abs-neg}
 use Rattle.fields.specs.Read.{read_decimal, read_signed}
 
 pub minus-read : (b : ℕ) (text : List ℕ) → b ≡ 45 → read_signed (b ∷ text) ≡ neg_ℤ (pos (read_decimal text))

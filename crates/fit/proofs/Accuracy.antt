@@ -8,17 +8,17 @@ use lib.Dec.{lit<}
 use lib.IntN.{ℤ, pos, ◌+ℤ◌, ◌-ℤ◌, ◌*ℤ◌}
 use Rattle.whole.specs.Square.{squared}
 use Rattle.whole.specs.Sum.{sum}
-use Rattle.whole.specs.Identity.{identity, quote}
-use Rattle.whole.specs.Order.{◌⩽◌, ◌⋖◌, le_of_lt, zero-le-pos, pos-le-is}
-use Rattle.whole.specs.Rounding.{nearest-within}
+use Rattle.whole.proofs.Identity.{identity, quote}
+use Rattle.whole.proofs.Order.{◌⩽◌, ◌⋖◌, le_of_lt, zero-le-pos, pos-le-is}
+use Rattle.whole.proofs.Rounding.{nearest-within}
 use Rattle.whole.specs.Table.{at}
 use Rattle.exact.specs.Corrected.{Given, block, to_a, to_b, steps}
 use Rattle.exact.specs.Accurate.{AccurateTrack}
-use Rattle.exact.specs.Accuracy.{RoundedFit, RoundedScatter, accurate-track, EarlierTrack, earlier-track}
+use Rattle.exact.proofs.Accuracy.{RoundedFit, RoundedScatter, accurate-track, EarlierTrack, earlier-track}
 use Rattle.exact.specs.Weights.{weights, place}
-use Rattle.exact.specs.Places.{span}
-use Rattle.exact.specs.Bounds.{Rounded}
-use Rattle.exact.specs.Scattering.{spread}
+use Rattle.exact.proofs.Places.{span}
+use Rattle.exact.proofs.Bounds.{Rounded}
+use Rattle.exact.proofs.Scattering.{spread}
 use Rattle.series.specs.Smooth.{smoothed}
 use Rattle.series.specs.Fit.{total, moment, midpoint, slope}
 use Rattle.series.specs.Scatter.{residual, squares, threshold, dsg}

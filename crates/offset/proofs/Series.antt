@@ -8,14 +8,14 @@ use lib.IntN.{ℤ, pos, ◌+ℤ◌, ◌-ℤ◌, ◌*ℤ◌, +ℤ_idr, *ℤ-zero,
 use Rattle.whole.specs.Square.{squared}
 use Rattle.whole.specs.Sum.{sum}
 use Rattle.whole.specs.Nearest.{nearest}
-use Rattle.whole.specs.Rounding.{nearest-shift}
-use Rattle.whole.specs.Identity.{identity, quote}
-use Rattle.whole.specs.Sums.{sum-cong, sum-eq, sums}
+use Rattle.whole.proofs.Rounding.{nearest-shift}
+use Rattle.whole.proofs.Identity.{identity, quote}
+use Rattle.whole.proofs.Sums.{sum-cong, sum-eq, sums}
 use Rattle.whole.specs.Table.{at}
 use Rattle.exact.specs.Corrected.{steps}
 use Rattle.exact.specs.Weights.{weights, place}
-use Rattle.exact.specs.Places.{sum-place}
-use Rattle.exact.specs.Smoothing.{weights-rule}
+use Rattle.exact.proofs.Places.{sum-place}
+use Rattle.exact.proofs.Smoothing.{weights-rule}
 use Rattle.series.specs.Smooth.{smoothed}
 use Rattle.series.specs.Fit.{total, moment, midpoint, slope}
 use Rattle.series.specs.Scatter.{residual, squares}

@@ -6,7 +6,7 @@ use Prim.Native.Nat.{ℕ, ◌+◌, ◌*◌, ◌≤◌, ◌<◌}
 use native.Mathlib.Omega.{arith}
 use lib.IntN.{ℤ, pos, ◌+ℤ◌, ◌-ℤ◌, ◌*ℤ◌}
 use lib.ListN.{length}
-use Rattle.whole.specs.Identity.{identity, quote}
+use Rattle.whole.proofs.Identity.{identity, quote}
 use Rattle.whole.specs.Table.{at}
 use Rattle.limits.proofs.Parts.{map_at}
 use Rattle.exact.specs.Corrected.{Given, block, to_a, to_b, steps}

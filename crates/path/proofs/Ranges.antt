@@ -14,8 +14,8 @@ use borrow.Author.Tests.{ltb-true, ltb-false, eqb-true, eqb-false, lt-ltb, le-le
 use mir.Syntax.{w64}
 use mir.Val.{to_z, of_z}
 use mir.Facts.{to_z-of_z}
-use Rattle.whole.specs.Magnitude.{nat_abs-add, nat_abs-neg}
-use Rattle.whole.specs.Words.{fits-of}
+use Rattle.whole.proofs.Magnitudes.{nat_abs-add, nat_abs-neg}
+use Rattle.whole.proofs.Words.{fits-of}
 use Rattle.limits.proofs.Laws.{not-leb, eqb-turned}
 use Rattle.path.specs.Coordinate.{coordinate_beyond, millimetres, coordinate_limit}
 use Rattle.path.specs.Wide.{difference_limit}

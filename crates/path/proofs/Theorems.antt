@@ -12,8 +12,8 @@ use lib.Ieee.Exact.{HasValue}
 use lib.Ieee.Back.{round_whole}
 use borrow.Author.Tests.{eqb-true}
 use Rattle.whole.specs.Square.{squared}
-use Rattle.whole.specs.Magnitude.{nat_abs-neg, square-magnitude}
-use Rattle.whole.specs.Ring.{sub-turned, eq-of-sub}
+use Rattle.whole.proofs.Magnitudes.{nat_abs-neg, square-magnitude}
+use Rattle.whole.proofs.Ring.{sub-turned, eq-of-sub}
 use Rattle.limits.specs.Reply.{Reply, reply}
 use Rattle.limits.specs.Refusal.{◌when◌, ◌then◌}
 use Rattle.limits.proofs.Replies.{reply-accepted, reply-values}

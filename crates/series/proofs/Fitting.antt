@@ -13,18 +13,19 @@ use lib.ListN.{length, take}
 use lib.Seq.{length-take-le, get_or-take}
 use Rattle.whole.specs.Square.{magnitude}
 use Rattle.whole.specs.Sum.{sum}
-use Rattle.whole.specs.Sums.{sum-cong, sum-eq, sums, sum-le, sum-scale, magnitude-sum}
+use Rattle.whole.proofs.Sums.{sum-cong, sum-eq, sums, sum-le, sum-scale, magnitude-sum}
 use Rattle.whole.specs.Nearest.{nearest}
-use Rattle.whole.specs.Identity.{identity, quote}
-use Rattle.whole.specs.Linear.{le-by}
-use Rattle.whole.specs.Order.{◌⩽◌, pos-le, pos-le-is, zero-le-pos, mul-le, le_trans as ⩽-trans, le_of_eq as ⩽-of-eq}
-use Rattle.whole.specs.Magnitude.{nat_abs_mul, magnitude-le}
-use Rattle.whole.specs.Rounding.{nearest-scale}
-use Rattle.whole.specs.Words.{Word, Within, told, partial}
+use Rattle.whole.proofs.Identity.{identity, quote}
+use Rattle.whole.proofs.Linear.{le-by}
+use Rattle.whole.proofs.Order.{◌⩽◌, pos-le, pos-le-is, zero-le-pos, mul-le, le_trans as ⩽-trans, le_of_eq as ⩽-of-eq}
+use Rattle.whole.proofs.Magnitudes.{nat_abs_mul, magnitude-le}
+use Rattle.whole.proofs.Rounding.{nearest-scale}
+use Rattle.whole.specs.Words.{Within}
+use Rattle.whole.proofs.Words.{Word, told, partial}
 use Rattle.whole.specs.Table.{at}
 use Rattle.exact.specs.Corrected.{steps}
 use Rattle.exact.specs.Weights.{place}
-use Rattle.exact.specs.Places.{sum-magnitude-place}
+use Rattle.exact.proofs.Places.{sum-magnitude-place}
 use Rattle.limits.specs.Blocks.{blocks_fit_lem}
 use Rattle.limits.specs.Refusal.{◌when◌, ◌then◌}
 use Rattle.limits.specs.Lists.{any_beyond_lem, range_number}

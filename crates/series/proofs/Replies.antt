@@ -7,7 +7,7 @@ use lib.IntN.{ℤ}
 use lib.Signed.{mag}
 use mir.Syntax.{w64}
 use mir.Val.{to_z, of_z}
-use Rattle.whole.specs.Words.{back-of}
+use Rattle.whole.proofs.Words.{back-of}
 use Rattle.limits.specs.Reply.{Reply}
 use Rattle.series.specs.declared.Smoothed.{Smoothed}
 use Rattle.series.specs.declared.Fitted.{Fitted}

@@ -11,11 +11,11 @@ use lib.IntN.{ℤ, pos, nat_abs, ◌+ℤ◌, ◌-ℤ◌, ◌*ℤ◌, +ℤ_idl, +
 use Rattle.whole.specs.Sum.{sum}
 use Rattle.whole.specs.Square.{squared}
 use Rattle.whole.specs.Nearest.{nearest}
-use Rattle.whole.specs.Identity.{identity, quote}
-use Rattle.whole.specs.Order.{◌⩽◌, le_refl, add-le, square-nonneg, as-pos, pos-le-is}
-use Rattle.whole.specs.Magnitude.{square-magnitude}
-use Rattle.whole.specs.Sums.{sum-cong, sum-suc, sum-squares-nonneg}
-use Rattle.whole.specs.Rounding.{nearest-scale}
+use Rattle.whole.proofs.Identity.{identity, quote}
+use Rattle.whole.proofs.Order.{◌⩽◌, le_refl, add-le, square-nonneg, as-pos, pos-le-is}
+use Rattle.whole.proofs.Magnitudes.{square-magnitude}
+use Rattle.whole.proofs.Sums.{sum-cong, sum-suc, sum-squares-nonneg}
+use Rattle.whole.proofs.Rounding.{nearest-scale}
 use Rattle.exact.specs.Weights.{place}
 use Rattle.series.specs.Fit.{total, moment}
 use Rattle.series.specs.Scatter.{residual, squares}

@@ -10,8 +10,8 @@ use native.Mathlib.Omega.{arith}
 use lib.IntN.{ℤ, pos, nat_abs, ◌+ℤ◌, ◌-ℤ◌, ◌*ℤ◌}
 use lib.ListN.{length, get_or-eq_default}
 use Rattle.whole.specs.Sum.{sum}
-use Rattle.whole.specs.Sums.{sum-eq, sums, nat_abs-sum}
-use Rattle.whole.specs.Identity.{identity, quote}
+use Rattle.whole.proofs.Sums.{sum-eq, sums, nat_abs-sum}
+use Rattle.whole.proofs.Identity.{identity, quote}
 use Rattle.whole.specs.Table.{at}
 use Rattle.exact.specs.Weights.{place}
 use Rattle.limits.specs.Limits.{beyond}

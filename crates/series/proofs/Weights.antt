@@ -7,11 +7,11 @@ use lib.Dec.{lit<, lit≤}
 use lib.IntN.{ℤ, pos, nat_abs, ◌*ℤ◌}
 use Rattle.whole.specs.Square.{magnitude}
 use Rattle.whole.specs.Sum.{sum}
-use Rattle.whole.specs.Sums.{sum-le, sum-scale, magnitude-sum}
-use Rattle.whole.specs.Order.{◌⩽◌, pos-le, pos-le-is, le_trans as ⩽-trans, le_of_eq as ⩽-of-eq}
-use Rattle.whole.specs.Magnitude.{nat_abs_mul}
-use Rattle.whole.specs.Rounding.{nearest-bound}
-use Rattle.whole.specs.Words.{partial}
+use Rattle.whole.proofs.Sums.{sum-le, sum-scale, magnitude-sum}
+use Rattle.whole.proofs.Order.{◌⩽◌, pos-le, pos-le-is, le_trans as ⩽-trans, le_of_eq as ⩽-of-eq}
+use Rattle.whole.proofs.Magnitudes.{nat_abs_mul}
+use Rattle.whole.proofs.Rounding.{nearest-bound}
+use Rattle.whole.proofs.Words.{partial}
 use Rattle.limits.specs.Limits.{outside, measurement_limit}
 use Rattle.whole.specs.Table.{at}
 use Rattle.exact.specs.Corrected.{steps}

@@ -11,9 +11,9 @@ use native.Mathlib.Omega.{arith}
 use lib.IntN.{ℤ, pos, neg_ℤ, ◌+ℤ◌, ◌*ℤ◌, neg_ℤ-+ℤ, pos-+ℤ-pos}
 use lib.Signed.{◌≤ℤ◌, lt_z, clash_ℤ}
 use lib.ListN.{length}
-use Rattle.whole.specs.Order.{le_refl, le_trans, le_of_lt, from-lt, from-not-lt, add-le}
-use Rattle.whole.specs.Identity.{identity, quote}
-use Rattle.whole.specs.Linear.{le-by, le_is}
+use Rattle.whole.proofs.Order.{le_refl, le_trans, le_of_lt, from-lt, from-not-lt, add-le}
+use Rattle.whole.proofs.Identity.{identity, quote}
+use Rattle.whole.proofs.Linear.{le-by, le_is}
 use Rattle.viewing.specs.View.{sum_of, smaller, larger, chosen, extreme}
 use Rattle.linefile.proofs.Ascending.{All}
 

@@ -12,7 +12,7 @@ use lib.ListN.{length, drop, get_or, length-append}
 use mir.Syntax.{w64}
 use mir.Val.{SFits}
 use borrow.Author.Tests.{le-ltb}
-use Rattle.whole.specs.Magnitude.{nat_abs-add, nat_abs-neg}
+use Rattle.whole.proofs.Magnitudes.{nat_abs-add, nat_abs-neg}
 use Rattle.viewing.specs.declared.Figures.{Figures}
 use Rattle.linefile.specs.declared.Next.{Next}
 use Rattle.linefile.specs.Partners.{partners}

@@ -10,7 +10,7 @@ use lib.Dec.{eqb}
 use lib.IntN.{ℤ, pos, neg_ℤ, ◌-ℤ◌, +ℤ_invr}
 use lib.ListN.{length, replicate}
 use borrow.Author.Tests.{eq-eqb}
-use Rattle.whole.specs.Ring.{sub-turned}
+use Rattle.whole.proofs.Ring.{sub-turned}
 use Rattle.limits.proofs.Laws.{eqb-turned}
 use Rattle.linefile.specs.Files.{keys, same}
 use Rattle.linefile.specs.Partners.{partners_of, partners}

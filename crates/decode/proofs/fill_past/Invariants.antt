@@ -7,7 +7,7 @@ use native.Mathlib.Omega.{arith}
 use lib.ListN.{length, take, length-set}
 use borrow.Author.Rules.{rules}
 use Rattle.decode.specs.Number.{signeds_at}
-use Rattle.whole.specs.Words.{back-of}
+use Rattle.whole.proofs.Words.{back-of}
 use Rattle.decode.proofs.Signeds.{all_left, signeds-turn, signeds-done}
 use Rattle.decode.proofs.fill_past.Given as goal
 

@@ -8,7 +8,7 @@ use mir.Syntax.{w64}
 use mir.Val.{to_z}
 use mir.Facts.{sfits_lit, to_z-of_z}
 use mir.ValLaws.{to_z_pos}
-use Rattle.whole.specs.Words.{minus-fits, minus-one-less}
+use Rattle.whole.proofs.Words.{minus-fits, minus-one-less}
 use Rattle.decode.proofs.Little.{lower-half, upper-half}
 use borrow.Author.Rules.{rules}
 use Rattle.decode.proofs.twos_complement.Goals.{Else-n-lt9223372036854775808}

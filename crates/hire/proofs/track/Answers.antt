@@ -8,7 +8,7 @@ use native.Mathlib.Omega.{arith}
 use lib.ListN.{length, take, drop}
 use mir.Syntax.{w64}
 use mir.Val.{to_z, of_z}
-use Rattle.whole.specs.Words.{back-of}
+use Rattle.whole.proofs.Words.{back-of}
 use Rattle.limits.proofs.Parts.{rest_part}
 use Rattle.exact.specs.Accurate.{AccurateTrack}
 use Rattle.exact.specs.Corrected.{Given, steps}

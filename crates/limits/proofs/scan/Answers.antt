@@ -1,13 +1,13 @@
 -- `limits::scan` meets its contract: what is asked of the whole list is asked of what is left of it.
 -- Assumes nothing.
-use borrow.Author.Rules.{rules, sfits_of}
+use borrow.Author.Rules.{rules}
 use mathlib.Core.Path.{◌≡◌, refl, sym, ◌∙◌}
 use Prim.Native.Nat.{◌≤◌, ◌-◌}
 use native.Mathlib.Nat.{zero-add}
 use lib.IntN.{pos}
 use lib.ListN.{length, drop, get_or}
 use mir.Syntax.{w64}
-use mir.Val.{to_z, of_z}
+use mir.Val.{to_z, of_z, SFits}
 use mir.Facts.{to_z-of_z}
 use Rattle.limits.specs.Limits.{outside}
 use Rattle.limits.specs.Lists.{any_outside_lem}
@@ -30,7 +30,8 @@ tested : (c : After-outside)
 tested c =
     let l = limits (goal.at.After-outside c).Start in
     let z = get_or c.args.values.now c.loop-read.read (pos 0) in
-    let e : to_z w64 (of_z w64 z) ≡ z = to_z-of_z (sfits_of c.outside-arg-1.given) in
+    let fits : SFits w64 z = search rules in
+    let e : to_z w64 (of_z w64 z) ≡ z = to_z-of_z fits in
     sym (simp (l.0, l.1, e) at c.outside.ensures)
 
 pub loop-read-init : goal.loop-read-init

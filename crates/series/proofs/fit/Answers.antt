@@ -12,7 +12,8 @@ use lib.ListN.{length}
 use mir.Syntax.{w64}
 use mir.Val.{to_z, of_z}
 use Rattle.whole.specs.Nearest.{nearest}
-use Rattle.whole.specs.Words.{Within, back-of, fits, bound, plain-is, bounds}
+use Rattle.whole.specs.Words.{Within}
+use Rattle.whole.proofs.Words.{back-of, fits, bound, plain-is, bounds}
 use Rattle.whole.specs.Table.{at}
 use Rattle.exact.specs.Corrected.{steps}
 use Rattle.limits.specs.Lists.{any_beyond_lem}

@@ -8,10 +8,10 @@ use native.Mathlib.Nat.{le_refl}
 use lib.Dec.{lit<}
 use lib.IntN.{ℤ, pos, ◌*ℤ◌}
 use Rattle.whole.specs.Nearest.{nearest}
-use Rattle.whole.specs.Ring.{*ℤ-assoc}
-use Rattle.whole.specs.Rounding.{nearest-scale}
+use Rattle.whole.proofs.Ring.{*ℤ-assoc}
+use Rattle.whole.proofs.Rounding.{nearest-scale}
 use Rattle.whole.specs.Sum.{sum}
-use Rattle.whole.specs.Words.{Word, known, equal, back-of, fits, bound, plain-is, bounds}
+use Rattle.whole.proofs.Words.{Word, known, equal, back-of, fits, bound, plain-is, bounds}
 use Rattle.whole.specs.Table.{at}
 use Rattle.exact.specs.Corrected.{steps}
 use Rattle.exact.specs.Weights.{weights}

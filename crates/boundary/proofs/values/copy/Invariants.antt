@@ -10,7 +10,7 @@ use lib.IntN.{ℤ, pos}
 use lib.ListN.{length, take, drop, get_or, set, length-set}
 use lib.Seq.{take-length}
 use borrow.Author.Rules.{rules}
-use Rattle.whole.specs.Words.{back-of}
+use Rattle.whole.proofs.Words.{back-of}
 use Rattle.boundary.proofs.values.copy.Given as goal
 
 abbrev pub invariant-loop-i : goal.invariant-loop-i

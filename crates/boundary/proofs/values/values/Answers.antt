@@ -8,7 +8,7 @@ use mir.Val.{to_z}
 use lib.IntN.{pos}
 use mir.Facts.{to_z-of_z}
 use borrow.Author.Rules.{rules}
-use Rattle.whole.specs.Words.{count, count-read, fits, plain-is}
+use Rattle.whole.proofs.Words.{count, count-read, fits, plain-is}
 use Rattle.labels.specs.declared.Labels.{Labels}
 use Rattle.limits.proofs.Laws.{Fits}
 use Rattle.boundary.proofs.values.values.Goals.{Start}

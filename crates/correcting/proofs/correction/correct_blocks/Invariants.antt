@@ -12,7 +12,7 @@ use lib.ListN.{length, take, drop, length-set}
 use mir.Syntax.{w64}
 use mir.Val.{to_z, of_z}
 use mir.Facts.{to_z-of_z}
-use Rattle.whole.specs.Words.{Word, known, equal, read, sum_of, negation-of, bound, back-of}
+use Rattle.whole.proofs.Words.{Word, known, equal, read, sum_of, negation-of, bound, back-of}
 use Rattle.limits.specs.Limits.{measurement_limit, measurement_least, measurement_most}
 use Rattle.limits.specs.Lists.{any_beyond_lem}
 use Rattle.limits.specs.Scan.{read_to, scan_rule}

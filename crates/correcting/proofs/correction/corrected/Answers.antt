@@ -5,8 +5,8 @@ use mathlib.Core.List.{[], ◌∷◌}
 use lib.IntN.{ℤ, ◌+ℤ◌}
 use mir.Syntax.{w64}
 use mir.Val.{to_z, of_z}
-use Rattle.whole.specs.Identity.{identity, quote}
-use Rattle.whole.specs.Words.{Word, known, literal, read, sum_of, product-of, negation-of, fits, plain-is, bounds}
+use Rattle.whole.proofs.Identity.{identity, quote}
+use Rattle.whole.proofs.Words.{Word, known, literal, read, sum_of, product-of, negation-of, fits, plain-is, bounds}
 use Rattle.exact.specs.Corrected.{to_a, to_b, steps}
 use Rattle.correcting.proofs.correction.corrected.Goals.{Start}
 use Rattle.correcting.proofs.correction.corrected.Goals as goal

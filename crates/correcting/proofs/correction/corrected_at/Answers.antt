@@ -6,7 +6,7 @@ use lib.IntN.{ℤ, pos, ◌*ℤ◌}
 use mir.Syntax.{w64}
 use mir.Val.{to_z, of_z}
 use mir.Facts.{to_z-of_z}
-use Rattle.whole.specs.Words.{Word, known, read, back, bound}
+use Rattle.whole.proofs.Words.{Word, known, read, back, bound}
 use Rattle.whole.specs.Table.{at}
 use Rattle.exact.specs.Corrected.{steps, to_a, to_b}
 use Rattle.limits.specs.Limits.{delay_limit}

@@ -3,7 +3,7 @@
 use mathlib.Core.Bool.{false}
 use mathlib.Core.Path.{◌≡◌, sym, ap, ◌∙◌}
 use Rattle.correcting.specs.Correct.{geometry_limit}
-use Rattle.whole.specs.Words.{back-of}
+use Rattle.whole.proofs.Words.{back-of}
 use Rattle.whole.specs.Table.{at}
 use Rattle.limits.specs.Limits.{beyond, delay_limit}
 use borrow.Author.Rules.{rules}

@@ -8,7 +8,7 @@ use lib.IntN.{ℤ, pos, nat_abs, ◌*ℤ◌}
 use mir.Syntax.{w64}
 use mir.Val.{SFits}
 use mir.Facts.{to_z-of_z}
-use Rattle.whole.specs.Words.{Word, known, read, bound, back}
+use Rattle.whole.proofs.Words.{Word, known, read, bound, back}
 use Rattle.limits.specs.Refusal.{◌when◌}
 use Rattle.limits.specs.Limits.{beyond, delays_beyond_lem, delay_limit}
 use Rattle.limits.proofs.Laws.{or-false, magnitude-within}

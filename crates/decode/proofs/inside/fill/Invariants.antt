@@ -9,7 +9,7 @@ use borrow.Author.Rules.{rules}
 use borrow.Author.Tests.{le-leb}
 use mir.Syntax.{w64}
 use mir.Val.{to_z, of_z}
-use Rattle.whole.specs.Words.{back-of}
+use Rattle.whole.proofs.Words.{back-of}
 use Rattle.decode.specs.Number.{twos_complement_lem, signeds_at, signed_at_lem}
 use Rattle.decode.proofs.Little.{unsigned-inside}
 use Rattle.decode.proofs.Signeds.{signeds-step, signeds-done, row-places}

@@ -1,7 +1,7 @@
 -- `delays::judge::any_beyond` meets its contract: a turn tests one delay more.
 -- Assumes nothing.
 use Rattle.limits.specs.Limits.{beyond, delay_limit}
-use Rattle.whole.specs.Words.{back-of}
+use Rattle.whole.proofs.Words.{back-of}
 use Rattle.delays.proofs.Stores.{beyond-turn, beyond-done}
 use Rattle.decode.specs.Number.{signed_at_lem, signeds_at}
 use Rattle.decode.proofs.Pieces.{signed_part}

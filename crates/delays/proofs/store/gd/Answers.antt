@@ -1,7 +1,7 @@
 -- `delays::store::gd` meets its contract: by its two cases.
 -- Assumes nothing.
 use mathlib.Core.Path.{◌∙◌}
-use Rattle.whole.specs.Words.{back-of}
+use Rattle.whole.proofs.Words.{back-of}
 use borrow.Author.Tests.{eq-eqb, ne_eqb}
 use borrow.Author.Rules.{rules}
 use Rattle.delays.proofs.store.gd.Goals as goal

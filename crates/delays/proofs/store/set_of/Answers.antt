@@ -1,7 +1,7 @@
 -- `delays::store::set_of` meets its contract: the group begins as many numbers on as the groups before it hold.
 -- Assumes nothing.
 use Rattle.delays.proofs.Stores.{width-times, set_is}
-use Rattle.whole.specs.Words.{back-of}
+use Rattle.whole.proofs.Words.{back-of}
 use Prim.Native.Nat.{◌*◌, ◌≤◌}
 use native.Mathlib.Omega.{arith}
 use mathlib.Core.Path.{ap, ◌∙◌}

@@ -3,7 +3,7 @@
 use borrow.Author.Rules.{rules}
 use mathlib.Core.Path.{◌∙◌}
 use mir.Facts.{to_z-of_z}
-use Rattle.whole.specs.Words.{back-of}
+use Rattle.whole.proofs.Words.{back-of}
 use Rattle.fit.proofs.packed.correct_group.Goals as goal
 
 pub returns : goal.returns

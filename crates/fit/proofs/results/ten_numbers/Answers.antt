@@ -7,7 +7,7 @@ use native.Mathlib.Omega.{arith}
 use lib.IntN.{ℤ, pos}
 use mir.Syntax.{w64}
 use mir.Val.{to_z, of_z}
-use Rattle.whole.specs.Words.{count, count-read, fits, plain-is, back-of}
+use Rattle.whole.proofs.Words.{count, count-read, fits, plain-is, back-of}
 use Rattle.limits.specs.declared.Numbers.{Numbers}
 use Rattle.limits.specs.Limits.{limits_number, dsg_number}
 use Rattle.limits.specs.Refusal.{◌then◌}

@@ -8,7 +8,7 @@ use borrow.Author.Rules.{rules}
 use mir.Syntax.{w64}
 use mir.Val.{to_z, of_z}
 use mir.Facts.{to_z-of_z}
-use Rattle.whole.specs.Words.{fits-of}
+use Rattle.whole.proofs.Words.{fits-of}
 use Rattle.path.specs.Coordinate.{millimetres}
 use Rattle.path.specs.Wide.{difference_limit}
 use Rattle.path.specs.Path.{difference}

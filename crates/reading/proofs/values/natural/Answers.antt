@@ -4,7 +4,7 @@ use mathlib.Core.Path.{refl, ap, ◌∙◌}
 use lib.IntN.{pos}
 use Prim.Native.Nat.{◌≤◌}
 use native.Mathlib.Omega.{arith}
-use Rattle.whole.specs.Words.{count, count-read, fits, plain-is}
+use Rattle.whole.proofs.Words.{count, count-read, fits, plain-is}
 use Rattle.reading.proofs.Columns.{field-most}
 use borrow.Author.Rules.{rules}
 use Rattle.reading.proofs.values.natural.Goals.{After-decimal}

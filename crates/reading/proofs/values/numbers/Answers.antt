@@ -2,7 +2,7 @@
 -- Assumes nothing.
 use mathlib.Core.Path.{◌∙◌}
 use lib.Dec.{lit≤}
-use Rattle.whole.specs.Words.{back-of}
+use Rattle.whole.proofs.Words.{back-of}
 use Rattle.columns.specs.Columns.{read_numbers}
 use Rattle.reading.proofs.Columns.{Columns, columns_of_lem, at_most, at-most-signed}
 use Rattle.reading.proofs.values.numbers.Goals.{Start}

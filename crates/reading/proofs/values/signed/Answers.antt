@@ -3,7 +3,7 @@
 use mathlib.Core.Path.{refl, sym, ap, ◌∙◌}
 use native.Mathlib.Omega.{arith}
 use lib.IntN.{+ℤ_idl}
-use Rattle.whole.specs.Words.{Word, count, equal, fits, plain-is, bounds}
+use Rattle.whole.proofs.Words.{Word, count, equal, fits, plain-is, bounds}
 use Rattle.fields.specs.Read.{read_signed}
 use Rattle.fields.proofs.Signs.{minus-read, plus-read}
 use Rattle.reading.proofs.Columns.{within-line, field-most, signed-field}

@@ -12,7 +12,7 @@ use lib.Signed.{mag, lt_z, shr_z}
 use mir.Syntax.{w64}
 use mir.Val.{SFits, to_z}
 use mir.Facts.{to_z-of_z}
-use Rattle.whole.specs.Words.{Word, count, count-read, fits, plain-is, minus-one-less}
+use Rattle.whole.proofs.Words.{Word, count, count-read, fits, plain-is, minus-one-less}
 use Rattle.series.proofs.number.floor.Goals.{After-folded}
 use Rattle.series.proofs.number.floor.Goals as goal
 

@@ -8,7 +8,7 @@ use lib.Signed.{mag, lt_z}
 use mir.Syntax.{w64}
 use mir.Val.{SFits, Fits}
 use mir.Facts.{to_z-of_z}
-use Rattle.whole.specs.Words.{turned}
+use Rattle.whole.proofs.Words.{turned}
 use Rattle.whole.proofs.Negative.{cast-above}
 use Rattle.series.proofs.number.folded.Goals.{Then-v-lt0}
 use Rattle.series.proofs.number.folded.Goals as goal

@@ -8,8 +8,8 @@ use lib.IntN.{ℤ, pos, ◌+ℤ◌}
 use lib.Signed.{shr_z}
 use mir.Syntax.{w64}
 use mir.Val.{to_z, of_z}
-use Rattle.whole.specs.Words.{Word, known, count-read, back-of, fits, plain-is, bounds}
-use Rattle.whole.specs.Rounding.{nearest-floor}
+use Rattle.whole.proofs.Words.{Word, known, count-read, back-of, fits, plain-is, bounds}
+use Rattle.whole.proofs.Rounding.{nearest-floor}
 use Rattle.series.proofs.number.nearest.Goals.{Start}
 use Rattle.series.proofs.number.nearest.Goals as goal
 

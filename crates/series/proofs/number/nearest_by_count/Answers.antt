@@ -8,7 +8,7 @@ use lib.IntN.{ℤ}
 use mir.Facts.{to_z-of_z}
 use Rattle.whole.specs.Nearest.{nearest}
 use Rattle.exact.specs.Corrected.{steps}
-use Rattle.whole.specs.Words.{Word, known, read, back-of, bound}
+use Rattle.whole.proofs.Words.{Word, known, read, back-of, bound}
 use Rattle.series.proofs.number.nearest_by_count.Goals.{Start}
 use Rattle.series.proofs.number.nearest_by_count.Goals as goal
 

@@ -7,7 +7,7 @@ use native.Mathlib.Omega.{arith}
 use lib.IntN.{ℤ}
 use mir.Facts.{to_z-of_z}
 use Rattle.whole.specs.Nearest.{nearest}
-use Rattle.whole.specs.Words.{Word, known, read, back-of, bound}
+use Rattle.whole.proofs.Words.{Word, known, read, back-of, bound}
 use Rattle.exact.specs.Corrected.{steps}
 use Rattle.series.proofs.Fitting.{span-bound, span-some}
 use Rattle.series.proofs.number.nearest_by_span.Goals.{Start}

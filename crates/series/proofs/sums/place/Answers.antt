@@ -5,7 +5,7 @@ use Prim.Native.Nat.{◌-◌, ◌≤◌}
 use native.Mathlib.Omega.{arith}
 use mir.Syntax.{w64}
 use mir.Val.{to_z}
-use Rattle.whole.specs.Words.{Word, count-read, fits, plain-is, bounds}
+use Rattle.whole.proofs.Words.{Word, count-read, fits, plain-is, bounds}
 use Rattle.exact.specs.Weights.{place}
 use Rattle.series.proofs.sums.place.Goals.{Start}
 use Rattle.series.proofs.sums.place.Goals as goal

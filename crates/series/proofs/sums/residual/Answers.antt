@@ -9,8 +9,9 @@ use lib.IntN.{ℤ, pos, ◌-ℤ◌, ◌*ℤ◌}
 use mir.Syntax.{w64}
 use mir.Val.{to_z}
 use Rattle.whole.specs.Nearest.{nearest}
-use Rattle.whole.specs.Rounding.{nearest-bound, value-apart}
-use Rattle.whole.specs.Words.{Word, Within, known, count, count-read, equal, fits, bound, plain-is, bounds}
+use Rattle.whole.proofs.Rounding.{nearest-bound, value-apart}
+use Rattle.whole.specs.Words.{Within}
+use Rattle.whole.proofs.Words.{Word, known, count, count-read, equal, fits, bound, plain-is, bounds}
 use Rattle.series.proofs.Fitting.{square-bound, span-some}
 use Rattle.series.proofs.sums.residual.Goals.{After-nearest_by_span, Start}
 use Rattle.series.proofs.sums.residual.Goals as goal

@@ -11,7 +11,7 @@ use lib.ListN.{length}
 use Rattle.whole.specs.Sum.{sum}
 use Rattle.whole.specs.Square.{squared}
 use Rattle.whole.specs.Nearest.{nearest}
-use Rattle.whole.specs.Words.{Word, known, count as count_of, equal, back-of, bound, plain-is, bounds}
+use Rattle.whole.proofs.Words.{Word, known, count as count_of, equal, back-of, bound, plain-is, bounds}
 use Rattle.whole.specs.Table.{at}
 use Rattle.series.specs.Fit.{value_limit}
 use Rattle.series.specs.Scatter.{residual, squares}

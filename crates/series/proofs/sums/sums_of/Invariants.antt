@@ -13,8 +13,8 @@ use lib.ListN.{length}
 use mir.Syntax.{w64}
 use mir.Val.{to_z, of_z}
 use Rattle.whole.specs.Sum.{sum}
-use Rattle.whole.specs.Sums.{sum-suc}
-use Rattle.whole.specs.Words.{Word, known, count, count-read, equal, back-of, fits, bound, plain-is, bounds}
+use Rattle.whole.proofs.Sums.{sum-suc}
+use Rattle.whole.proofs.Words.{Word, known, count, count-read, equal, back-of, fits, bound, plain-is, bounds}
 use Rattle.whole.specs.Table.{at}
 use Rattle.limits.specs.Limits.{beyond}
 use Rattle.limits.specs.Lists.{any_beyond_lem}

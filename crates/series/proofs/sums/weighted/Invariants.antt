@@ -11,8 +11,8 @@ use lib.ListN.{length}
 use mir.Syntax.{w64}
 use mir.Val.{to_z}
 use Rattle.whole.specs.Sum.{sum}
-use Rattle.whole.specs.Words.{Word, known, equal, fits, plain-is, bounds}
-use Rattle.whole.specs.Sums.{sum-suc}
+use Rattle.whole.proofs.Words.{Word, known, equal, fits, plain-is, bounds}
+use Rattle.whole.proofs.Sums.{sum-suc}
 use Rattle.whole.specs.Table.{at}
 use Rattle.exact.specs.Weights.{weights}
 use Rattle.limits.specs.Limits.{measurement_limit}

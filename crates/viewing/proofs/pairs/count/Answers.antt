@@ -7,7 +7,7 @@ use lib.Signed.{lt_z}
 use mir.Syntax.{w64}
 use mir.Val.{to_z, of_z}
 use mir.Facts.{to_z-of_z}
-use Rattle.whole.specs.Words.{Word, known, literal, sum_of, fits, back-of}
+use Rattle.whole.proofs.Words.{Word, known, literal, sum_of, fits, back-of}
 use Rattle.viewing.specs.Gather.{counted}
 use Rattle.viewing.proofs.Gathering.{Fits}
 use borrow.Author.Rules.{rules}

@@ -8,7 +8,7 @@ use lib.IntN.{ℤ, nat_abs, ◌-ℤ◌}
 use mir.Syntax.{w64}
 use mir.Val.{SFits, to_z, of_z}
 use mir.Facts.{to_z-of_z}
-use Rattle.whole.specs.Words.{fits-of, back-of}
+use Rattle.whole.proofs.Words.{fits-of, back-of}
 use Rattle.viewing.specs.View.{refsys_of}
 use Rattle.viewing.specs.Gather.{counted, widest}
 use Rattle.viewing.proofs.Values.{refsys-bound, trkl-same, trkl-other}

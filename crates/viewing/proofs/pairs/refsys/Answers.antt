@@ -3,7 +3,7 @@
 use mathlib.Core.Path.{sym, ◌∙◌}
 use native.Mathlib.Omega.{arith}
 use lib.IntN.{+ℤ_idl}
-use Rattle.whole.specs.Words.{Word, count, equal, fits, plain-is, bounds}
+use Rattle.whole.proofs.Words.{Word, count, equal, fits, plain-is, bounds}
 use Rattle.viewing.proofs.Values.{line-long, size-bound, refsys-minus, refsys-plus}
 use borrow.Author.Rules.{rules}
 use Rattle.viewing.proofs.pairs.refsys.Goals.{After-refsys_size-size}

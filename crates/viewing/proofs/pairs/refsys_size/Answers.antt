@@ -5,7 +5,7 @@ use mathlib.Core.List.{List}
 use lib.IntN.{pos}
 use Prim.Native.Nat.{ℕ, ◌+◌, ◌*◌, ◌-◌, ◌≤◌}
 use native.Mathlib.Omega.{arith}
-use Rattle.whole.specs.Words.{count, count-read, fits, plain-is}
+use Rattle.whole.proofs.Words.{count, count-read, fits, plain-is}
 use Rattle.fields.specs.Read.{read_decimal}
 use Rattle.columns.specs.Columns.{field}
 use Rattle.linefile.specs.Files.{columns_of}

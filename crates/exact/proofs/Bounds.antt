@@ -6,14 +6,14 @@ use Rattle.std.specs.Prelude.{◌≡◌, refl, [], ◌∷◌, ℕ, ◌≤◌, �
 use Rattle.std.proofs.Common.{sym, ap, ◌∙◌, subst, arith}
 use Rattle.whole.specs.Square.{magnitude}
 use Rattle.whole.specs.Sum.{sum}
-use Rattle.whole.specs.Identity.{identity, quote}
-use Rattle.whole.specs.Order.{◌⩽◌, ◌⋖◌, le_trans, le_of_eq, le_of_lt, pos-lt, zero-le-pos, mul-nonneg, mul-pos, mul-le}
-use Rattle.whole.specs.Magnitude.{magnitude-mul, magnitude-nonneg, magnitude-combined}
-use Rattle.whole.specs.Sums.{sum-eq, sums-le, sums, sum-scale, magnitude-sum, magnitude-sum-le}
+use Rattle.whole.proofs.Identity.{identity, quote}
+use Rattle.whole.proofs.Order.{◌⩽◌, ◌⋖◌, le_trans, le_of_eq, le_of_lt, pos-lt, zero-le-pos, mul-nonneg, mul-pos, mul-le}
+use Rattle.whole.proofs.Magnitudes.{magnitude-mul, magnitude-nonneg, magnitude-combined}
+use Rattle.whole.proofs.Sums.{sum-eq, sums-le, sums, sum-scale, magnitude-sum, magnitude-sum-le}
 use Rattle.exact.specs.Line.{LeastLine}
 use Rattle.exact.specs.Weights.{place}
-use Rattle.exact.specs.Places.{span, sum-magnitude-place}
-use Rattle.exact.specs.Fitting.{midpoint-exact, slope-exact}
+use Rattle.exact.proofs.Places.{span, sum-magnitude-place}
+use Rattle.exact.proofs.Fitting.{midpoint-exact, slope-exact}
 
 -- twice the difference of v and Y / e, times e
 abbrev pub gap : (ℕ → ℤ) → (ℕ → ℤ) → ℤ → ℕ → ℤ

@@ -4,8 +4,8 @@ use mathlib.Core.Path.{◌≡◌}
 use Rattle.std.specs.Prelude.{[], ◌∷◌, ℕ, ℤ, pos, ◌+ℤ◌, ◌-ℤ◌, ◌*ℤ◌}
 use Rattle.whole.specs.Square.{squared}
 use Rattle.whole.specs.Sum.{sum}
-use Rattle.whole.specs.Identity.{identity, quote}
-use Rattle.whole.specs.Sums.{sum-eq, sums}
+use Rattle.whole.proofs.Identity.{identity, quote}
+use Rattle.whole.proofs.Sums.{sum-eq, sums}
 
 -- Σ(f - c g)² = Σf² - 2c Σfg + c² Σg²
 expanded : (n : ℕ) (f g : ℕ → ℤ) (c : ℤ)

@@ -6,8 +6,8 @@
 pub mod Examples
 use Rattle.std.specs.Prelude.{◌≡◌, List, ℕ, suc, ◌+◌, ◌*◌, ◌≤◌, ◌<◌, ℤ, pos, negsuc, neg_ℤ, ◌+ℤ◌, ◌*ℤ◌, ◌≤ℤ◌, ◌<ℤ◌}
 use Rattle.std.proofs.Common.{sym, ap, ap₂, ◌∙◌, subst₂}
-use Rattle.whole.specs.Differences.{above, below, dif, dif-of, dif-add, dif-mul, dif_neg, dif-eq, dif-eq-is, dif-le, dif-le-is, dif-lt, dif-lt-is}
-use Rattle.whole.specs.Identity.{Term, sum_of, product-of, negation-of, literal, minus-literal, atom, Sides, sides}
+use Rattle.whole.proofs.Differences.{above, below, dif, dif-of, dif-add, dif-mul, dif_neg, dif-eq, dif-eq-is, dif-le, dif-le-is, dif-lt, dif-lt-is}
+use Rattle.whole.proofs.Identity.{Term, sum_of, product-of, negation-of, literal, minus-literal, atom, Sides, sides}
 
 -- an expression's part above 0 and its part below
 abbrev pub parts : {ρ : List ℤ} {z : ℤ} → Term ρ z → ℕ × ℕ

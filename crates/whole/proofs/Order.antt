@@ -7,9 +7,9 @@ use Rattle.std.proofs.Math.Decide.{dec_le}
 use Rattle.std.proofs.Math.IntN.{*ℤ-zero, *ℤ_comm}
 use Rattle.std.specs.Int.Signed.{le_z, lt_z, ≤ℤ_refl, <ℤ-≤ℤ_trans, <ℤ_irrefl, yes_non_neg, pos-nat_abs}
 use Rattle.whole.specs.Square.{squared}
-use Rattle.whole.specs.Differences.{Dif, of, view, dif-le, dif-lt}
-use Rattle.whole.specs.Identity.{identity, quote}
-use Rattle.whole.specs.Linear.{le-by, lt_by, eq-by, le_is, lt-is, eq_is}
+use Rattle.whole.proofs.Differences.{Dif, of, view, dif-le, dif-lt}
+use Rattle.whole.proofs.Identity.{identity, quote}
+use Rattle.whole.proofs.Linear.{le-by, lt_by, eq-by, le_is, lt-is, eq_is}
 
 -- The library's orders bind tighter than sums; these two do not. They are used in laws alone.
 infix 4 ◌⩽◌ ◌⋖◌

@@ -1,7 +1,7 @@
 -- Worked examples of `identity`.
 -- Assumes nothing.
 use Rattle.std.specs.Prelude.{◌≡◌, [], ◌∷◌, ℕ, ℤ, pos, ◌+ℤ◌, ◌-ℤ◌, ◌*ℤ◌}
-use Rattle.whole.specs.Identity.{identity, quote}
+use Rattle.whole.proofs.Identity.{identity, quote}
 
 square-of-sum : (a b : ℤ) → (a +ℤ b) *ℤ (a +ℤ b) ≡ a *ℤ a +ℤ pos 2 *ℤ (a *ℤ b) +ℤ b *ℤ b
 square-of-sum a b = identity (a ∷ b ∷ []) (search quote depth 20) tt

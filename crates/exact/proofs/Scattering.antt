@@ -9,16 +9,16 @@ use Rattle.std.proofs.Common.{sym, ◌∙◌, subst, subst₂, arith}
 use Rattle.std.proofs.Math.IntN.{pos}
 use Rattle.whole.specs.Square.{squared, magnitude}
 use Rattle.whole.specs.Sum.{sum}
-use Rattle.whole.specs.Identity.{identity, quote}
-use Rattle.whole.specs.Linear.{le-by, le_is}
-use Rattle.whole.specs.Order.{◌⩽◌, ◌⋖◌, lt-le-trans, le_trans, le_of_eq, le-slack, le-shift, add-le, sub-nonneg, zero-le-pos, mul-nonneg, mul-le, cancel-le, square-nonneg, square_le, square-mul, square-pos}
-use Rattle.whole.specs.Magnitude.{magnitude-nonneg, square-magnitude}
-use Rattle.whole.specs.Sums.{sum-eq, sums-le, sums, sum-squares-nonneg}
+use Rattle.whole.proofs.Identity.{identity, quote}
+use Rattle.whole.proofs.Linear.{le-by, le_is}
+use Rattle.whole.proofs.Order.{◌⩽◌, ◌⋖◌, lt-le-trans, le_trans, le_of_eq, le-slack, le-shift, add-le, sub-nonneg, zero-le-pos, mul-nonneg, mul-le, cancel-le, square-nonneg, square_le, square-mul, square-pos}
+use Rattle.whole.proofs.Magnitudes.{magnitude-nonneg, square-magnitude}
+use Rattle.whole.proofs.Sums.{sum-eq, sums-le, sums, sum-squares-nonneg}
 use Rattle.exact.specs.Line.{line_residual, line_misfit, LeastLine}
 use Rattle.exact.specs.Weights.{place}
-use Rattle.exact.specs.Places.{span, sum-place, sum-place²}
-use Rattle.exact.specs.Fitting.{line, residual-is, midpoint-exact, slope-exact, span_pos}
-use Rattle.exact.specs.Bounds.{gap, sum-gap, moment-gap, Near, Rounded}
+use Rattle.exact.proofs.Places.{span, sum-place, sum-place²}
+use Rattle.exact.proofs.Fitting.{line, residual-is, midpoint-exact, slope-exact, span_pos}
+use Rattle.exact.proofs.Bounds.{gap, sum-gap, moment-gap, Near, Rounded}
 
 -- The residual of value j from the least line through the whole values u, times n (n² - 1).
 unfoldable pub spread : ℕ → (ℕ → ℤ) → ℕ → ℤ

@@ -2,8 +2,8 @@
 -- Assumes nothing.
 use Rattle.std.specs.Prelude.{◌≡◌, List, [], ◌∷◌, ℤ, pos, ◌+ℤ◌, ◌-ℤ◌, ◌*ℤ◌, ◌≤ℤ◌, ◌<ℤ◌}
 use Rattle.std.proofs.Common.{arith}
-use Rattle.whole.specs.Identity.{quote}
-use Rattle.whole.specs.Linear.{le-by, lt_by, eq-by, le_is, lt-is, eq_is}
+use Rattle.whole.proofs.Identity.{quote}
+use Rattle.whole.proofs.Linear.{le-by, lt_by, eq-by, le_is, lt-is, eq_is}
 
 -- from a ≤ b and b < c: 2a - 3 < b + c
 chain : (a b c : ℤ) → a ≤ℤ b → b <ℤ c → (pos 2 *ℤ a -ℤ pos 3) <ℤ (b +ℤ c)

@@ -3,7 +3,8 @@
 use Rattle.std.specs.Prelude.{◌≡◌, ℕ, ◌*◌, ◌^◌, ◌≤◌, ℤ, pos, nat_abs, ◌+ℤ◌, ◌-ℤ◌, ◌*ℤ◌}
 use Rattle.std.specs.Int.{w64}
 use Rattle.std.proofs.Common.{SFits, to_z, of_z}
-use Rattle.whole.specs.Words.{Word, Within, known, fits, bound, plain-is, bounds}
+use Rattle.whole.specs.Words.{Within}
+use Rattle.whole.proofs.Words.{Word, known, fits, bound, plain-is, bounds}
 
 -- a product and a difference of numbers that are known to within a bound fit 64 bits
 product-fits : (a b : ℤ) → nat_abs a ≤ 2 * 10 ^ 12 → nat_abs b ≤ 10 ^ 17 → SFits w64 (pos 46852 *ℤ a -ℤ b)

@@ -4,7 +4,7 @@
 use Rattle.std.specs.Prelude.{◌≡◌, ℤ, pos, negsuc, neg_ℤ, ◌+ℤ◌, ◌-ℤ◌, ◌*ℤ◌}
 use Rattle.std.proofs.Common.{sym, ap, ap₂, ◌∙◌, arith}
 use Rattle.std.proofs.Math.IntN.{+ℤ_idl, +ℤ_comm, *ℤ_comm, neg_ℤ-neg_ℤ, neg_ℤ-+ℤ}
-use Rattle.whole.specs.Differences.{dif-eq, dif-eq-is, Dif, of, view, difs}
+use Rattle.whole.proofs.Differences.{dif-eq, dif-eq-is, Dif, of, view, difs}
 
 pub *ℤ-assoc : (x y z : ℤ) → (x *ℤ y) *ℤ z ≡ x *ℤ (y *ℤ z)
 *ℤ-assoc x y z = go (view x) (view y) (view z)

@@ -6,13 +6,13 @@ use Rattle.std.proofs.Math.IntN.{+ℤ_idl}
 use Rattle.whole.specs.Square.{squared}
 use Rattle.whole.specs.Sum.{sum}
 use Rattle.whole.specs.Table.{tabulate, at}
-use Rattle.whole.specs.Identity.{identity, quote}
-use Rattle.whole.specs.Order.{◌⋖◌, cancel-eq}
-use Rattle.whole.specs.Sums.{sum-eq, sums, sum-cong}
-use Rattle.whole.specs.Tables.{tabulate-get_or}
+use Rattle.whole.proofs.Identity.{identity, quote}
+use Rattle.whole.proofs.Order.{◌⋖◌, cancel-eq}
+use Rattle.whole.proofs.Sums.{sum-eq, sums, sum-cong}
+use Rattle.whole.proofs.Tables.{tabulate-get_or}
 use Rattle.exact.specs.Parabola.{second, parabola_misfit, LeastParabola, ExactSmoothed}
 use Rattle.exact.specs.Weights.{weights}
-use Rattle.exact.specs.LeastSquares.{misfit, Kind, Orthogonal, orthogonal, least}
+use Rattle.exact.proofs.LeastSquares.{misfit, Kind, Orthogonal, orthogonal, least}
 
 -- ---- parabolas are a kind of curve
 

@@ -9,7 +9,7 @@ use Rattle.std.specs.Prelude.{◌≡◌, refl, Bool, true, false, ◌&&◌, List
 use Rattle.std.proofs.Common.{sym, ap, ap₂, ◌∙◌, eqb→eq}
 use Rattle.std.proofs.Math.IntN.{+ℤ_idl, +ℤ_idr, *ℤ-zero, zero-*ℤ, *ℤ_comm}
 use Rattle.std.proofs.Math.Facts.{and_yes}
-use Rattle.whole.specs.Ring.{one-*ℤ, negℤ-is, horner-*ℤ, horner-+ℤ, horner-scale, eq-of-sub}
+use Rattle.whole.proofs.Ring.{one-*ℤ, negℤ-is, horner-*ℤ, horner-+ℤ, horner-scale, eq-of-sub}
 
 -- ---- polynomials: in no variable a number; in one variable more, the list of coefficients, the constant's first
 

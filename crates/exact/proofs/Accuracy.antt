@@ -4,10 +4,10 @@ use Rattle.std.specs.Prelude.{◌≡◌, List, [], ◌∷◌, ℕ, ◌+◌, ◌*
 use Rattle.std.proofs.Common.{sym, ap, ◌∙◌, subst, subst₂, mul-le-mul_left, arith}
 use Rattle.whole.specs.Square.{squared, magnitude}
 use Rattle.whole.specs.Sum.{sum}
-use Rattle.whole.specs.Identity.{identity, quote}
-use Rattle.whole.specs.Linear.{le-by, le_is, lt-is}
-use Rattle.whole.specs.Order.{◌⩽◌, ◌⋖◌, le_refl, le_of_eq, le_of_lt, lt-le-trans, le-shift, cancel-le, pos-le, pos-lt, pos-sub, zero-le-pos, mul-le, mul-le-mul, mul-nonneg, add-le, sub-nonneg, le_trans, square-nonneg, square-pos, square_le}
-use Rattle.whole.specs.Magnitude.{magnitude-mul, magnitude-combined}
+use Rattle.whole.proofs.Identity.{identity, quote}
+use Rattle.whole.proofs.Linear.{le-by, le_is, lt-is}
+use Rattle.whole.proofs.Order.{◌⩽◌, ◌⋖◌, le_refl, le_of_eq, le_of_lt, lt-le-trans, le-shift, cancel-le, pos-le, pos-lt, pos-sub, zero-le-pos, mul-le, mul-le-mul, mul-nonneg, add-le, sub-nonneg, le_trans, square-nonneg, square-pos, square_le}
+use Rattle.whole.proofs.Magnitudes.{magnitude-mul, magnitude-combined}
 use Rattle.limits.specs.declared.Numbers.{Numbers}
 use Rattle.exact.specs.Parabola.{LeastParabola, ExactSmoothed}
 use Rattle.exact.specs.Line.{LeastLine, line_misfit}
@@ -15,11 +15,11 @@ use Rattle.whole.specs.Table.{at}
 use Rattle.exact.specs.Corrected.{Given, block, to_a, to_b, steps}
 use Rattle.exact.specs.Accurate.{AccurateLine, AccurateScatter, AccurateTrack}
 use Rattle.exact.specs.Weights.{weights, place}
-use Rattle.exact.specs.Smoothing.{weights-exact}
-use Rattle.exact.specs.Places.{span, span-is}
-use Rattle.exact.specs.Fitting.{misfit-scaled, least-scaled}
-use Rattle.exact.specs.Bounds.{Near, Rounded, midpoint-bound, slope-bound}
-use Rattle.exact.specs.Scattering.{spread, scatter-above, scatter-below}
+use Rattle.exact.proofs.Smoothing.{weights-exact}
+use Rattle.exact.proofs.Places.{span, span-is}
+use Rattle.exact.proofs.Fitting.{misfit-scaled, least-scaled}
+use Rattle.exact.proofs.Bounds.{Near, Rounded, midpoint-bound, slope-bound}
+use Rattle.exact.proofs.Scattering.{spread, scatter-above, scatter-below}
 
 -- ---- smoothed and corrected values are within half a step of the exact ones
 

@@ -8,14 +8,14 @@ use Rattle.std.proofs.Math.Nat.{one-le-mul}
 use Rattle.std.proofs.Math.IntN.{pos, *ℤ-zero, *ℤ_comm}
 use Rattle.whole.specs.Square.{squared}
 use Rattle.whole.specs.Sum.{sum}
-use Rattle.whole.specs.Ring.{eq-of-sub}
-use Rattle.whole.specs.Identity.{identity, quote}
-use Rattle.whole.specs.Order.{◌⩽◌, ◌⋖◌, mul-pos, cancel-eq, pos-lt, square-mul}
-use Rattle.whole.specs.Sums.{sum-eq, sums, sum-cong}
+use Rattle.whole.proofs.Ring.{eq-of-sub}
+use Rattle.whole.proofs.Identity.{identity, quote}
+use Rattle.whole.proofs.Order.{◌⩽◌, ◌⋖◌, mul-pos, cancel-eq, pos-lt, square-mul}
+use Rattle.whole.proofs.Sums.{sum-eq, sums, sum-cong}
 use Rattle.exact.specs.Line.{twice_seconds, line_residual, line_misfit, LeastLine}
-use Rattle.exact.specs.LeastSquares.{misfit, Kind, Orthogonal, orthogonal, least}
+use Rattle.exact.proofs.LeastSquares.{misfit, Kind, Orthogonal, orthogonal, least}
 use Rattle.exact.specs.Weights.{place}
-use Rattle.exact.specs.Places.{seconds-place, span, sum-place, sum-place²}
+use Rattle.exact.proofs.Places.{seconds-place, span, sum-place, sum-place²}
 
 -- ---- lines are a kind of curve
 

@@ -9,9 +9,9 @@ use Rattle.std.proofs.Math.Nat.{le_step}
 use Rattle.std.proofs.Math.IntN.{+ℤ_idl, +ℤ_idr, +ℤ_assoc, *ℤ-zero, zero-*ℤ, neg_ℤ-+ℤ, suc_ℤ-*ℤ, *ℤ_comm}
 use Rattle.whole.specs.Square.{squared, magnitude}
 use Rattle.whole.specs.Sum.{sum}
-use Rattle.whole.specs.Ring.{*ℤ-+ℤ, +ℤ-swap}
-use Rattle.whole.specs.Order.{◌⩽◌, le_refl, le_trans, add-le, square-nonneg, pos-le, pos-le-is}
-use Rattle.whole.specs.Magnitude.{magnitude-add}
+use Rattle.whole.proofs.Ring.{*ℤ-+ℤ, +ℤ-swap}
+use Rattle.whole.proofs.Order.{◌⩽◌, le_refl, le_trans, add-le, square-nonneg, pos-le, pos-le-is}
+use Rattle.whole.proofs.Magnitudes.{magnitude-add}
 
 -- ---- terms
 
