@@ -15,3 +15,12 @@ use Rattle.decode.proofs.twos_complement.Goals as goal
 
 pub returns-then-n-lt9223372036854775808 : goal.returns-then-n-lt9223372036854775808
 returns-then-n-lt9223372036854775808 c = to_z_pos w64 c.args.n c.if-n-lt9223372036854775808.true ∙ lower-half c.args.n c.if-n-lt9223372036854775808.true
+
+-- what is left of the largest pattern is in the lower half
+low : (c : Else-n-lt9223372036854775808) → to_z w64 (18446744073709551615 - c.args.n) ≡ pos (18446744073709551615 - c.args.n)
+low c = to_z_pos w64 _ (omega arith)
+
+pub returns : goal.returns
+returns c =
+    let l = low (goal.at.returns c).Else-n-lt9223372036854775808 in
+    ?
