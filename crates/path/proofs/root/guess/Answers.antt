@@ -11,7 +11,7 @@ use Rattle.path.proofs.root.guess.Goals.{Start}
 use Rattle.path.proofs.root.guess.Goals as goal
 
 held : (c : Start) → T (fits binary64 c.args.n)
-held c = subst T (sym c.well-formed.0.1) tt
+held c = subst T (sym c.well_formed.0.1) tt
 
 pub float_to_bits-half : goal.float_to_bits-half
 float_to_bits-half c = no-nan-above _ c.args.n c.if-n.true
