@@ -13,7 +13,6 @@ use native.Mathlib.Numerals.{add-one}
 use native.Mathlib.Omega.{arith}
 use Prim.Native.Nat.{ℕ, suc}
 use mathlib.Core.Path.{◌≡◌, refl, sym, ap, ap₂, ◌∙◌}
-use borrow.Author.Rules.{rules}
 use Rattle.delays.proofs.append.Goals.{After-append_refusal-refusal, Else-refusal-ne0}
 use Rattle.delays.proofs.append.Goals as goal
 

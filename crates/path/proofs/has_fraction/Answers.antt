@@ -2,7 +2,6 @@
 -- Assumes nothing.
 use mathlib.Core.Path.{sym, ap, ◌∙◌}
 use mathlib.Core.Bool.{Bool, not, ◌||◌}
-use borrow.Author.Rules.{rules}
 use Rattle.path.specs.Coordinate.{whole}
 use Rattle.path.specs.Path.{fractional}
 use Rattle.path.proofs.has_fraction.Goals as goal

@@ -4,7 +4,6 @@ use mathlib.Core.Path.{sym, ap, subst, ◌∙◌}
 use Prim.Native.Nat.{ℕ, ◌<◌}
 use native.Mathlib.Nat.{pos_of_ne-zero}
 use lib.Ieee.{Float}
-use borrow.Author.Rules.{rules}
 use Rattle.limits.proofs.Replies.{reply-accepted, reply-refused}
 use Rattle.path.specs.Path.{length_of, plus_zero, path_rule}
 use Rattle.path.proofs.path.Goals as goal

@@ -1,7 +1,6 @@
 -- `path::sum_of_squares` meets its contract: each difference is at most 10^11, and the sum of the three squares is the definition's.
 -- Assumes nothing.
 use native.Mathlib.Omega.{arith}
-use borrow.Author.Rules.{rules}
 use Rattle.path.proofs.Points.{Usable, usable, accepted, part, squares-are}
 use Rattle.path.proofs.Products.{square-bound}
 use Rattle.path.proofs.sum_of_squares.Goals.{Start}

@@ -3,7 +3,6 @@
 use native.Mathlib.Numerals.{add-one}
 use Rattle.delays.specs.Append.{append_number}
 use mir.Facts.{to_z-of_z}
-use borrow.Author.Rules.{rules}
 use Rattle.delays.proofs.judge.append_refusal.Goals as goal
 
 pub returns : goal.returns

@@ -1,7 +1,7 @@
 -- `delays::judge::rising` meets its contract: a turn looks at a start and the one before.
 -- Assumes nothing.
 use Rattle.delays.proofs.Stores.{start-part, rising-one, rising-turn, rising-done}
-use Rattle.delays.specs.Store.{start, rising}
+use Rattle.delays.specs.Store.{start}
 use native.Mathlib.Omega.{arith}
 use Prim.Native.Nat.{ℕ, ◌+◌, ◌*◌, ◌-◌, ◌≤◌}
 use mathlib.Core.Path.{◌≡◌, ◌∙◌}

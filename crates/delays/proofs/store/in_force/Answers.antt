@@ -1,7 +1,6 @@
 -- `delays::store::in_force` meets its contract: what lies behind the walk starts after the date.
 -- Assumes nothing.
 use Rattle.delays.proofs.Stores.{start-part, in-force-none, in-force-here, in-force-before}
-use Rattle.delays.specs.Lookup.{in_force_lem}
 use Rattle.delays.specs.Store.{start}
 use native.Mathlib.Omega.{arith}
 use lib.ListN.{length}

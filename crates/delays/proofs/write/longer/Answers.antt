@@ -9,7 +9,6 @@ use Prim.Native.Nat.{◌+◌}
 use mathlib.Core.List.{[], ◌∷◌}
 use mathlib.Core.Path.{◌∙◌}
 use Rattle.delays.proofs.Writing.{store-written}
-use borrow.Author.Rules.{rules}
 use Rattle.delays.proofs.write.longer.Goals as goal
 
 pub returns : goal.returns

@@ -10,7 +10,6 @@ use lib.ListN.{length, take}
 use Prim.Native.Nat.{ℕ, ◌≤◌}
 use mathlib.Core.List.{[], ◌∷◌}
 use mathlib.Core.Path.{◌≡◌, sym, ap, ◌∙◌}
-use borrow.Author.Rules.{rules}
 use Rattle.delays.proofs.write.put_group.Goals.{After-put_delay-3, Start}
 use Rattle.delays.proofs.write.put_group.Goals as goal
 

@@ -1,10 +1,9 @@
 -- `path::coordinate::apart` meets its contract: both are read back from their bits, the difference fits, and its magnitude is at most 10^11.
 -- Assumes nothing.
-use mathlib.Core.Path.{◌≡◌, sym, ap, ap₂, ◌∙◌, subst}
+use mathlib.Core.Path.{◌≡◌, sym, ap, ◌∙◌, subst}
 use Prim.Native.Nat.{ℕ, ◌≤◌}
 use lib.Dec.{lit<}
-use lib.IntN.{ℤ, nat_abs, ◌-ℤ◌}
-use borrow.Author.Rules.{rules}
+use lib.IntN.{nat_abs, ◌-ℤ◌}
 use mir.Syntax.{w64}
 use mir.Val.{to_z, of_z}
 use mir.Facts.{to_z-of_z}

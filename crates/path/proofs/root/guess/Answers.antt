@@ -5,7 +5,6 @@ use native.Mathlib.Omega.{arith}
 use lib.Dec.{T}
 use lib.Ieee.{binary64, fits}
 use lib.Ieee.Bits.{to_bits-lt}
-use borrow.Author.Rules.{rules}
 use Rattle.path.proofs.Patterns.{no-nan-above, low-pattern}
 use Rattle.path.proofs.root.guess.Goals.{Start}
 use Rattle.path.proofs.root.guess.Goals as goal
