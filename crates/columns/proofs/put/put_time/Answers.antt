@@ -19,7 +19,7 @@ returns c =
     let hour = decimal 2 (c.args.second / 3600) in
     let minute = decimal 2 (c.args.second / 60 % 60) in
     let second = decimal 2 (c.args.second % 60) in
-    subst (λ (t : List ℕ). Put c.args.line.now c.put_decimal.new.0 13 t)
+    subst (λ (t : List ℕ). Put c.args.line.now c.put_decimal.new.line 13 t)
     (append_assoc hour minute (with_space second)
     ∙ ap (λ (t : List ℕ). hour ++ t) (sym (append_assoc minute second (32 ∷ [])))
     ∙ sym (append_assoc hour (minute ++ second) (32 ∷ [])))
