@@ -22,14 +22,13 @@ use Rattle.trackline.specs.Buffer.{Text, Pushed}
 -- ---- texts
 
 -- a text copied to the front
-pub copied : (text out after : List ℕ) (n : ℕ) → n ≡ length text → length text ≤ ended_length → length out ≡ ended_length
-    → after ≡ take (length text) text ++ drop (length text) out → Text after n text
-copied text out after n e h l a =
-    let is : after ≡ text ++ drop (length text) out = a ∙ ap (λ (x : List ℕ). x ++ drop (length text) out) (take-length text) in
+pub copied : (text out : List ℕ) {front : List ℕ} → front ≡ text → length text ≤ ended_length → length out ≡ ended_length
+    → Text (front ++ drop (length text) out) (length text) text
+copied text out e h l =
     record {
-      is = ap (take n) is ∙ take_at text (drop (length text) out) n (sym e);
-      ends = e;
-      long = ap length is ∙ simp (length-append, length-drop) (omega arith);
+      is = ap (λ (x : List ℕ). take (length text) (x ++ drop (length text) out)) e ∙ take_at text (drop (length text) out) (length text) refl;
+      ends = refl;
+      long = ap (λ (x : List ℕ). length (x ++ drop (length text) out)) e ∙ simp (length-append, length-drop) (omega arith);
     }
 
 -- one byte more

@@ -1,0 +1,20 @@
+-- `trackline::put_answer` meets its contract: what Block answers decides.
+-- Assumes nothing.
+use Rattle.std.proofs.Common.{◌≡◌, length, replicate, arith, refl, sym, ap, ◌∙◌}
+use Rattle.columns.specs.Text.{line_length}
+use Rattle.trackline.specs.Printed.{answer}
+use Rattle.trackline.proofs.Texts.{retext, refused-answer, written-answer, answer-length}
+use Rattle.trackline.proofs.put_answer.Goals.{After-block-number}
+use Rattle.trackline.proofs.put_answer.Goals as goal
+
+pub returns-then-number-ne0 : goal.returns-then-number-ne0
+returns-then-number-ne0 c =
+    retext c.put_refusal.ensures (refused-answer c.args.block.now c.block-number.result c.block-number.ensures.answer c.if-number-ne0.true)
+
+pub copy-requires-clause-fits : goal.copy-requires-clause-fits
+copy-requires-clause-fits c = ?
+
+pub returns : goal.returns
+returns c =
+    let is : c.block-number.new.line ≡ answer c.args.block.now = written-answer c.args.block.now (replicate line_length 0) c.block-number.new.line refl (sym c.block-number.ensures.answer ∙ c.if-number-ne0.false) c.block-number.ensures.written in
+    retext c.copy.ensures is
