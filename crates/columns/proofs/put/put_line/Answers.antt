@@ -1,6 +1,6 @@
 -- `columns::put::put_line` meets its contract: the three groups of columns make all of them, whose sum the last two columns hold.
 -- Assumes nothing.
-use mathlib.Core.Path.{refl, sym}
+use mathlib.Core.Path.{sym}
 use native.Mathlib.Omega.{arith}
 use lib.Seq.{length-take-le}
 use mir.Syntax.{w64}

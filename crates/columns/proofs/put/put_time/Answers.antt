@@ -10,7 +10,6 @@ use Rattle.fields.proofs.Laws.{length-decimal}
 use Rattle.columns.specs.Placed.{with_space, Put}
 use Rattle.columns.specs.Text.{time_of_day}
 use Rattle.columns.proofs.Placing.{onto}
-use borrow.Author.Rules.{rules}
 use Rattle.columns.proofs.put.put_time.Goals as goal
 
 pub returns : goal.returns
