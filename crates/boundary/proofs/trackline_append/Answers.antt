@@ -38,7 +38,7 @@ returns-in_default c = let n = c.appended_number.ensures ∙ ap (λ (r : Appende
 
 pub returns : goal.returns
 returns c = let r = append-bytes-case c.args.store.now c.args.mjd c.args.intdly c.args.cabdly c.args.refdly c.args.gd (length c.args.longer.now) c.in-Bytes.is (answer (goal.at.returns c).After-append-appended) in record {
-      answer = sym r.0;
-      longer = after (goal.at.returns c).After-append-appended;
-      written = r.1;
-    }
+  answer = sym r.0;
+  longer = after (goal.at.returns c).After-append-appended;
+  written = r.1;
+}
