@@ -1,6 +1,6 @@
 -- The figures of a track are accurate: what Smooth, Correct, Fit and Scatter of document 01 round, put together.
 -- Assumes nothing.
-use Rattle.std.specs.Prelude.{◌≡◌, List, [], ◌∷◌, ℕ, ◌+◌, ◌*◌, ◌≤◌, ◌<◌, ℤ, pos, ◌+ℤ◌, ◌-ℤ◌, ◌*ℤ◌}
+use Rattle.std.specs.Prelude.{◌≡◌, List, [], ◌∷◌, ℕ, ◌*◌, ◌≤◌, ◌<◌, ℤ, pos, ◌+ℤ◌, ◌-ℤ◌, ◌*ℤ◌}
 use Rattle.std.proofs.Common.{sym, ap, ◌∙◌, subst, subst₂, mul-le-mul_left, arith}
 use Rattle.whole.specs.Square.{squared, magnitude}
 use Rattle.whole.specs.Sum.{sum}
@@ -322,7 +322,7 @@ pub record EarlierTrack (n : ℕ) (g : Given) (f : Numbers) : Type 0 where
   pub d : EarlierLine n (at g.ionosphere) (pos 1) f.mdio f.smdi
 
 -- with one step a picosecond a midpoint is within 0.505, and the rest is word for word what it was
-earlier-line : (n : ℕ) {Y : ℕ → ℤ} {e midpoint slope : ℤ} → AccurateLine 1 n Y e midpoint slope → EarlierLine n Y e midpoint slope
+pub earlier-line : (n : ℕ) {Y : ℕ → ℤ} {e midpoint slope : ℤ} → AccurateLine 1 n Y e midpoint slope → EarlierLine n Y e midpoint slope
 earlier-line n {midpoint = midpoint} {slope = slope} f =
     record {
       midpoint_near = λ P Q d l.
@@ -337,7 +337,7 @@ earlier-line n {midpoint = midpoint} {slope = slope} f =
         → (m +ℤ pos 2 *ℤ n) *ℤ d -ℤ pos 2 *ℤ m *ℤ u ≡ (pos 1 *ℤ m +ℤ pos 2 *ℤ n) *ℤ d -ℤ pos 2 *ℤ pos 1 *ℤ m *ℤ u
     units m n u d = identity (m ∷ n ∷ u ∷ d ∷ []) (search quote depth 20 fits 4000) tt
 
-earlier-scatter : (n : ℕ) {Y : ℕ → ℤ} {e dsg : ℤ} → AccurateScatter 1 n Y e dsg → EarlierScatter n Y e dsg
+pub earlier-scatter : (n : ℕ) {Y : ℕ → ℤ} {e dsg : ℤ} → AccurateScatter 1 n Y e dsg → EarlierScatter n Y e dsg
 earlier-scatter n {Y} {e} {dsg} f =
     record {
       at_most = λ P Q d l. le-shift (f.at_most P Q d l) (above (pos n) dsg (squared (pos 2 *ℤ d *ℤ e)) (line_misfit n Y e P Q d));
@@ -353,17 +353,6 @@ earlier-scatter n {Y} {e} {dsg} f =
         → W -ℤ n *ℤ squared (pos 100 *ℤ g -ℤ pos 51) *ℤ M
         ≡ squared (pos 1) *ℤ W -ℤ n *ℤ squared (pos 1 *ℤ (pos 100 *ℤ g -ℤ pos 50) -ℤ pos 1) *ℤ M
     below n g M W = identity (n ∷ g ∷ M ∷ W ∷ []) (search quote depth 20 fits 4000) tt
-
-pub earlier-track : (s n : ℕ) → 0 < s → {g : Given} {f : Numbers} → pos 0 ⩽ f.dsg → AccurateTrack s n g f → EarlierTrack n g f
-earlier-track s n s-pos {g} {f} dsg-pos t =
-    let u : AccurateTrack 1 n g f = coarser s n s-pos dsg-pos t in
-    record {
-      a = λ Y e x. earlier-line n (u.a Y e x);
-      b = λ Y e x. earlier-line n (u.b Y e x);
-      scatter = λ Y e x. earlier-scatter n (u.scatter Y e x);
-      c = earlier-line n u.c;
-      d = earlier-line n u.d;
-    }
 
 -- ---- a full track's bound on slopes: 0.502 of a unit
 
@@ -409,15 +398,3 @@ slope-thousandths n h {slope = slope} f P Q d l =
   where
     above : pos 0 ⋖ squared (pos n) -ℤ pos 1
     above = lt-le-trans (pos-lt {m = 0} {n = 50 * n} (omega arith)) (tilt n h)
-
--- The four slopes of a full track.
-pub full-track-slopes : (g : Given) (f : Numbers) → AccurateTrack steps 52 g f
-    → ((Y : ℕ → ℤ) (e : ℤ) → ExactSmoothed 52 (block g) Y e
-    → SlopeWithin502 52 (λ j. to_a g e j (Y j)) e f.srsv × SlopeWithin502 52 (λ j. to_b g e j (Y j)) e f.srsys)
-    × SlopeWithin502 52 (at g.troposphere) (pos 1) f.smdt
-    × SlopeWithin502 52 (at g.ionosphere) (pos 1) f.smdi
-full-track-slopes g f t = (
-  λ Y e x. (slope-thousandths 52 (omega arith) (t.a Y e x), slope-thousandths 52 (omega arith) (t.b Y e x)),
-  slope-thousandths 52 (omega arith) t.c,
-  slope-thousandths 52 (omega arith) t.d,
-)

@@ -14,7 +14,8 @@ use Rattle.whole.proofs.Rounding.{nearest-within}
 use Rattle.whole.specs.Table.{at}
 use Rattle.exact.specs.Corrected.{Given, block, to_a, to_b, steps}
 use Rattle.exact.specs.Accurate.{AccurateTrack}
-use Rattle.exact.proofs.Accuracy.{RoundedFit, RoundedScatter, accurate-track, EarlierTrack, earlier-track}
+use Rattle.exact.proofs.Accuracy.{RoundedFit, RoundedScatter, accurate-track, EarlierTrack}
+use Rattle.exact.proofs.Tracks.{earlier-track}
 use Rattle.exact.specs.Weights.{weights, place}
 use Rattle.exact.proofs.Places.{span}
 use Rattle.exact.proofs.Bounds.{Rounded}

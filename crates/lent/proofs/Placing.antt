@@ -89,12 +89,12 @@ length-placed d at s h =
 
 -- a part into which a text was copied, put back
 pub put-part : (d text part : List ℕ) (at : ℕ) → at + length text ≤ length d
-    → part ≡ take (length text) text ++ drop (length text) (mid_of at (at + length text - at) d)
+    → part ≡ text
     → put_mid at (at + length text - at) d part ≡ placed d at text
 unfolding placed
 put-part d text part at h e =
     ap₂ (λ (x y : List ℕ). take at d ++ (x ++ y))
-    (e ∙ ap₂ ◌++◌ (take-length text) (drop_of_length-le (mid_of at (at + length text - at) d) (le_of_eq (mid_len at (at + length text) d h ∙ width))) ∙ append-nil text)
+    e
     (drop-drop (at + length text - at) at d ∙ ap (λ (n : ℕ). drop n d) (ap (λ (n : ℕ). at + n) width))
   where
     width : at + length text - at ≡ length text

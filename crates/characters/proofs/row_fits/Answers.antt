@@ -8,4 +8,4 @@ use Rattle.characters.proofs.row_fits.Goals as goal
 
 pub returns : goal.returns
 returns c =
-    c.columns_fit.ensures ∙ ap (allowed c.args.kinds.now) (rest_part c.args.line.now c.args)
+    c.columns_fit.ensures ∙ ap (allowed c.args.kinds.now) (rest_part c.args.line.now c.args.before)

@@ -11,7 +11,6 @@ use Rattle.lent.specs.Placed.{placed, placed_within}
 use Rattle.lent.proofs.Placing.{within, not_within}
 use Rattle.columns.specs.Text.{line_length, line_text}
 use Rattle.columns.proofs.Widths.{line-width}
-use borrow.Author.Rules.{rules}
 use Rattle.columns.proofs.write.Goals as goal
 
 -- a text of a line's length in the place of the first bytes

@@ -75,14 +75,17 @@ returns-then-columns_beyond-delays_beyond c =
 
 pub correct_blocks-requires : goal.correct_blocks-requires
 correct_blocks-requires c =
-    simp (to_z-of_z c.ranges.int, to_z-of_z c.ranges.cab, to_z-of_z c.ranges.refdly, to_z-of_z c.ranges.gd) (sizes-fit (goal.at.correct_blocks-requires c).Else-sizes_wrong, sym (others-are (goal.at.correct_blocks-requires c).After-delays_beyond) ∙ c.if-columns_beyond-delays_beyond.false)
+    simp (to_z-of_z c.ranges.int, to_z-of_z c.ranges.cab, to_z-of_z c.ranges.refdly, to_z-of_z c.ranges.gd) (record {
+      clock_value = sizes-fit (goal.at.correct_blocks-requires c).Else-sizes_wrong;
+      clock_value_2 = sym (others-are (goal.at.correct_blocks-requires c).After-delays_beyond) ∙ c.if-columns_beyond-delays_beyond.false;
+    })
 
 pub returns : goal.returns
 returns c =
     let r = by-measurements (g (goal.at.returns c).Start) (sizes-fit (goal.at.returns c).Else-sizes_wrong) (sym (others-are (goal.at.returns c).After-delays_beyond) ∙ c.if-columns_beyond-delays_beyond.false) in record {
       value = c.correct_blocks.ensures.value ∙ r.0;
-      a_after = (simp (to_z-of_z c.ranges.int, to_z-of_z c.ranges.cab, to_z-of_z c.ranges.refdly, to_z-of_z c.ranges.gd) at c.correct_blocks.ensures.a_after) ∙ ap (λ (c : ℕ). filled c (value_a (g (goal.at.returns c).Start)) c.args.a.now) (sym r.1);
-      b_after = (simp (to_z-of_z c.ranges.int, to_z-of_z c.ranges.cab, to_z-of_z c.ranges.refdly, to_z-of_z c.ranges.gd) at c.correct_blocks.ensures.b_after) ∙ ap (λ (c : ℕ). filled c (value_b (g (goal.at.returns c).Start)) c.args.b.now) (sym r.1);
-      c_after = (simp (to_z-of_z c.ranges.int, to_z-of_z c.ranges.cab, to_z-of_z c.ranges.refdly, to_z-of_z c.ranges.gd) at c.correct_blocks.ensures.c_after) ∙ ap (λ (c : ℕ). filled c (value_c (g (goal.at.returns c).Start)) c.args.c.now) (sym r.1);
-      d_after = (simp (to_z-of_z c.ranges.int, to_z-of_z c.ranges.cab, to_z-of_z c.ranges.refdly, to_z-of_z c.ranges.gd) at c.correct_blocks.ensures.d_after) ∙ ap (λ (c : ℕ). filled c (value_d (g (goal.at.returns c).Start)) c.args.d.now) (sym r.1);
+      a_after = (simp (to_z-of_z c.ranges.int, to_z-of_z c.ranges.cab, to_z-of_z c.ranges.refdly, to_z-of_z c.ranges.gd) at c.correct_blocks.ensures.a_after) ∙ ap (λ (k : ℕ). filled k (value_a (g (goal.at.returns c).Start)) c.args.a.now) (sym r.1);
+      b_after = (simp (to_z-of_z c.ranges.int, to_z-of_z c.ranges.cab, to_z-of_z c.ranges.refdly, to_z-of_z c.ranges.gd) at c.correct_blocks.ensures.b_after) ∙ ap (λ (k : ℕ). filled k (value_b (g (goal.at.returns c).Start)) c.args.b.now) (sym r.1);
+      c_after = (simp (to_z-of_z c.ranges.int, to_z-of_z c.ranges.cab, to_z-of_z c.ranges.refdly, to_z-of_z c.ranges.gd) at c.correct_blocks.ensures.c_after) ∙ ap (λ (k : ℕ). filled k (value_c (g (goal.at.returns c).Start)) c.args.c.now) (sym r.1);
+      d_after = (simp (to_z-of_z c.ranges.int, to_z-of_z c.ranges.cab, to_z-of_z c.ranges.refdly, to_z-of_z c.ranges.gd) at c.correct_blocks.ensures.d_after) ∙ ap (λ (k : ℕ). filled k (value_d (g (goal.at.returns c).Start)) c.args.d.now) (sym r.1);
     }

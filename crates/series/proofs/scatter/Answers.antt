@@ -40,12 +40,12 @@ first l number h e =
 
 pub returns-then-not-blocks_fit : goal.returns-then-not-blocks_fit
 returns-then-not-blocks_fit c = record {
-      answer = first c.args.values.now 1 (lit< tt) (values-miscounted c.args.values.now (ap not (sym c.blocks_fit.ensures) ∙ c.if-not-blocks_fit.true));
+      answer = first c.args.values.now 1 (lit< tt) (values-miscounted c.args.values.now (ap not (sym c.blocks_fit.ensures ∙ c.if-not-blocks_fit.true)));
       variant = lit< tt;
     }
 
 counted : (c : Else-not-blocks_fit) → not (blocks_fit_lem (length c.args.values.now)) ≡ false
-counted c = ap not (sym c.blocks_fit.ensures) ∙ c.if-not-blocks_fit.false
+counted c = ap not (sym c.blocks_fit.ensures ∙ c.if-not-blocks_fit.false)
 
 pub sums-s-requires : goal.sums-s-requires
 sums-s-requires c = let b = blocks-within _ (counted c) in (omega (arith, b.0), b.1)

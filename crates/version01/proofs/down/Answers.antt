@@ -33,10 +33,13 @@ returns-in_default c =
     let some = refused-case c.args.line.now c.in_default.is c.read-reading.ensures.answer c.read-reading.ensures.variant in
     let number = c.reading_number.ensures ∙ ap (λ (r : Reading). (read_reply r).number) c.in_default.is ∙ refused-number c.args.line.now c.in_default.is c.read-reading.ensures.answer in
     let answer = unread c.args.line.now (length c.args.old.now) some in
-    (number ∙ answer, sym (after-refused _ _ (λ z. above some (answer ∙ z))))
+    record {
+      answer = number ∙ answer;
+      written = sym (after-refused _ _ (λ z. above some (answer ∙ z)));
+    }
   where
     above : {n : ℕ} → 0 < n → n ≡ 0 → ⊥
-    above h c.in_default.is = omega arith
+    above h e = omega arith
 
 -- in a line that is read the letter is looked at, and then the room
 answer-is : (c : After-then-number) → c.then-number.result ≡ down_answer c.args.line.now (length c.args.old.now)

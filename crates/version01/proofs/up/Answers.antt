@@ -27,7 +27,7 @@ behind-is : {digits : List ℕ} (hc frc1 frc2 frc3 : ℕ) → digits ≡ decimal
 unfolding supplied spaced decimal
 behind-is hc frc1 frc2 frc3 e = ap (λ (t : List ℕ). 48 ∷ 48 ∷ 32 ∷ (t ++ (32 ∷ frc1 ∷ frc2 ∷ frc3 ∷ 32 ∷ []))) e
 
-put-behind : (c : After-decimal) → 48 ∷ 48 ∷ 32 ∷ (c.decimal.new.1.0 ++ (32 ∷ c.args.frc1 ∷ c.args.frc2 ∷ c.args.frc3 ∷ 32 ∷ [])) ≡ supplied c.args.hc c.args.frc1 c.args.frc2 c.args.frc3
+put-behind : (c : After-decimal) → 48 ∷ 48 ∷ 32 ∷ (c.decimal.new.out ++ (32 ∷ c.args.frc1 ∷ c.args.frc2 ∷ c.args.frc3 ∷ 32 ∷ [])) ≡ supplied c.args.hc c.args.frc1 c.args.frc2 c.args.frc3
 put-behind c = behind-is _ _ _ _ c.decimal.ensures
 
 pub slice_bounds-write-end : goal.slice_bounds-write-end

@@ -1,6 +1,6 @@
 -- `columns::put::put_delays` meets its contract: its columns, one behind the other.
 -- Assumes nothing.
-use mathlib.Core.Path.{refl, sym, ◌∙◌}
+use mathlib.Core.Path.{refl}
 use mir.Syntax.{w64}
 use mir.Val.{SFits}
 use mir.Facts.{to_z-of_z}
@@ -19,9 +19,6 @@ numbers_fit : (c : Start) → SFits w64 c.args.numbers.mdtr
     × SFits w64 c.args.numbers.smdi
 numbers_fit c = (search rules, search rules, search rules, search rules)
 
-pub shape_of-line : goal.shape_of-line
-shape_of-line c = c.put_code.ensures.long ∙ sym c.requires
-
 pub returns : goal.returns
 unfolding delay_columns
 returns c =
@@ -39,9 +36,9 @@ returns c =
           (begin (delay_columns c.args.labels c.args.numbers) c.args.line.now 77 c.requires (omega arith))
           c.put_decimal.ensures)
           (simp (c.magnitude.ensures, to_z-of_z f.0) at c.put_decimal-2.ensures))
-          (simp (to_z-of_z f.1, to_z-of_z f.3) at c.put_signed.ensures))
+          (simp (to_z-of_z f.1) at c.put_signed.ensures))
           (simp (c.magnitude-2.ensures, to_z-of_z f.2) at c.put_decimal-3.ensures))
-          (simp (to_z-of_z f.1, to_z-of_z f.3) at c.put_signed-2.ensures))
+          (simp (to_z-of_z f.3) at c.put_signed-2.ensures))
           c.put_decimal-4.ensures)
           c.put_decimal-5.ensures)
           c.put_code.ensures);

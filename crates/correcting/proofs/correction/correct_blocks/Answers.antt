@@ -10,7 +10,7 @@ use native.Mathlib.Omega.{arith}
 use lib.IntN.{ℤ, pos, nat_abs}
 use lib.ListN.{length, take, drop, length-set}
 use mir.Syntax.{w64}
-use mir.Val.{to_z, of_z}
+use mir.Val.{SFits, to_z, of_z}
 use mir.Facts.{to_z-of_z}
 use Rattle.whole.proofs.Words.{Word, known, equal, read, sum_of, negation-of, bound, back-of}
 use Rattle.limits.specs.Limits.{measurement_limit, measurement_least, measurement_most}
@@ -69,7 +69,7 @@ words c = let l = limits c in (known l.in-int, known l.in-cab, known l.in-refdly
 rows : (c : At-loop-j) (k : ℕ) → c.loop-j.j ≡ k
     → Rows (g (goal.at.At-loop-j c).Start) k c.args.a.now c.args.b.now c.args.c.now c.args.d.now c.loop-j.a c.loop-j.b c.loop-j.c c.loop-j.d
 rows c k e =
-    let c.loop-j = c.loop-j in
+    let l = c.loop-j in
     subst (λ (m : ℕ). Rows (g (goal.at.At-loop-j c).Start) m c.args.a.now c.args.b.now c.args.c.now c.args.d.now l.a l.b l.c l.d) e
     (subst (λ (t : Given). Rows t l.j c.args.a.now c.args.b.now c.args.c.now c.args.d.now l.a l.b l.c l.d) (same (goal.at.At-loop-j c).Start) l.invariant.4)
 
@@ -126,7 +126,8 @@ value-bound c =
 smooth-is : (c : In-Value)
     → to_z w64 (of_z w64 c.in-Value.value) ≡ value-at (goal.at.In-Value c).At-loop-j
 smooth-is c =
-    let back : to_z w64 (of_z w64 c.in-Value.value) ≡ c.in-Value.value = back-of c.known_told-1.given.0.1 in
+    let fits : SFits w64 c.in-Value.value = search rules in
+    let back : to_z w64 (of_z w64 c.in-Value.value) ≡ c.in-Value.value = to_z-of_z fits in
     let same : c.in-Value.value ≡ value-at (goal.at.In-Value c).At-loop-j = cc (answered (goal.at.In-Value c).After-smooth-answer) in
     back ∙ same
 
@@ -148,10 +149,14 @@ overflow_add-read c = record { fits = omega (arith, c.loop-j.invariant.2, read-m
 pub returns-then-seen : goal.returns-then-seen
 returns-then-seen c =
     let r = room (goal.at.returns-then-seen c).In-loop-j in
-    let o = sym (any-is (goal.at.returns-then-seen c).After-scan-seen) ∙ c.if-seen.true in (
-      (λ z. Corrected.Refused 2 (c.loop-j.invariant.2 z + read_is (goal.at.returns-then-seen c).After-scan-seen z)) ∙ found c.args.measurements.now c.loop-j.j r c.loop-j.invariant.3 o,
-      rows (goal.at.returns-then-seen c).At-loop-j (whole_blocks c.args.measurements.now) (sym (found-blocks c.args.measurements.now c.loop-j.j r c.loop-j.invariant.3 o)),
-    )
+    let o = sym (any-is (goal.at.returns-then-seen c).After-scan-seen) ∙ c.if-seen.true in
+    let w = rows (goal.at.returns-then-seen c).At-loop-j (whole_blocks c.args.measurements.now) (sym (found-blocks c.args.measurements.now c.loop-j.j r c.loop-j.invariant.3 o)) in record {
+      value = (λ z. Corrected.Refused 2 (c.loop-j.invariant.2 z + read_is (goal.at.returns-then-seen c).After-scan-seen z)) ∙ found c.args.measurements.now c.loop-j.j r c.loop-j.invariant.3 o;
+      a_after = w.0;
+      b_after = w.1.0;
+      c_after = w.1.1.0;
+      d_after = w.1.1.1;
+    }
 
 pub returns-in_default : goal.returns-in_default
 returns-in_default c = absurd (smooth-cases (answered (goal.at.returns-in_default c).After-smooth-answer) c.in_default.is)
@@ -201,7 +206,11 @@ pub returns : goal.returns
 returns c =
     let e : c.loop-j.j ≡ blocks (g (goal.at.returns c).Start) = le_antisymm c.loop-j.invariant.0 c.loop-j-test.false in
     let p = subst (Passed c.args.measurements.now) e c.loop-j.invariant.3 in
-    let all = (sizes (goal.at.returns c).Start).size-measurements in (
-      (λ z. Corrected.Values ((c.loop-j.invariant.2 ∙ ap (λ (k : ℕ). 15 * k) e) z)) ∙ done c.args.measurements.now (blocks (g (goal.at.returns c).Start)) all p,
-      rows (goal.at.returns c).At-loop-j (whole_blocks c.args.measurements.now) (e ∙ sym (done-blocks c.args.measurements.now (blocks (g (goal.at.returns c).Start)) all p)),
-    )
+    let all = (sizes (goal.at.returns c).Start).size-measurements in
+    let w = rows (goal.at.returns c).At-loop-j (whole_blocks c.args.measurements.now) (e ∙ sym (done-blocks c.args.measurements.now (blocks (g (goal.at.returns c).Start)) all p)) in record {
+      value = (λ z. Corrected.Values ((c.loop-j.invariant.2 ∙ ap (λ (k : ℕ). 15 * k) e) z)) ∙ done c.args.measurements.now (blocks (g (goal.at.returns c).Start)) all p;
+      a_after = w.0;
+      b_after = w.1.0;
+      c_after = w.1.1.0;
+      d_after = w.1.1.1;
+    }

@@ -21,7 +21,7 @@ slice_bounds-put-end c = search (rules, length-take-le)
 pub returns : goal.returns
 returns c =
     let t = file_of (left c.args.blocks.now c.args.begun) in
-    all-written c.args.blocks.now c.args.begun c.write.result _ _ c.write.ensures.wrote c.write.ensures.ended_length_value c.requires.begun_value (omega (arith, c.requires.begun_in_bounds, c.put.auto.1.0))
+    all-written c.args.blocks.now c.args.begun c.write.result _ _ c.write.ensures.wrote c.write.ensures.ended_length_value c.requires.begun_value (omega (arith, c.requires.begun_in_bounds, c.put.auto.lent))
     ∙ ap (λ (f : List ℕ). placed f (ended_length * c.args.begun.count) t)
     (c.put.ensures
     ∙ within c.args.file.now 0 (take (ended_length * c.args.begun.count) c.args.kept.now)

@@ -30,14 +30,14 @@ turn c = let t = both _ _ c.loop-state-test.true in (eqb-true _ 0 t.0, later (lt
 next : (c : After-step-state)
     → Stepped c.args.blocks.now c.loop-state.state c.step-state.result
 next c =
-    stepped l.args.blocks.now l.loop.state c.step-state.result l.loop.invariant.0 (turn (goal.at.After-step-state c).In-loop-state).0 (turn (goal.at.After-step-state c).In-loop-state).1 c.step-state.ensures.value
+    stepped c.args.blocks.now c.loop-state.state c.step-state.result c.loop-state.invariant.0 (turn (goal.at.After-step-state c).In-loop-state).0 (turn (goal.at.After-step-state c).In-loop-state).1 c.step-state.ensures.value
 
 pub step-state-requires : goal.step-state-requires
 step-state-requires c = record {
-      within_bytes = c.loop-state.invariant.0;
-      at_in_bounds = (turn (goal.at.step-state-requires c).In-loop-state).1;
-      line_length_in_bounds = omega (arith, c.loop-state.invariant.2);
-    }
+  within_bytes = c.loop-state.invariant.0;
+  at_in_bounds = (turn (goal.at.step-state-requires c).In-loop-state).1;
+  line_length_in_bounds = omega (arith, c.loop-state.invariant.2);
+}
 
 pub loop-state-smaller : goal.loop-state-smaller
 loop-state-smaller c = (next (goal.at.loop-state-smaller c).After-step-state).less
@@ -45,7 +45,7 @@ loop-state-smaller c = (next (goal.at.loop-state-smaller c).After-step-state).le
 pub loop-state-preserved : goal.loop-state-preserved
 loop-state-preserved c =
     let n = (next (goal.at.loop-state-preserved c).After-step-state).walked in
-    (n.within, c.loop-state.invariant.1 ∙ n.same, c.step-state.auto.1.1.0 ∙ c.loop-state.invariant.2)
+    (n.within, c.loop-state.invariant.1 ∙ n.same, c.step-state.auto.lent ∙ c.loop-state.invariant.2)
 
 pub returns : goal.returns
 returns c =

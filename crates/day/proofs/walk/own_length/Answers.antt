@@ -13,8 +13,7 @@ pub returns-then-own-bytes : goal.returns-then-own-bytes
 returns-then-own-bytes c = (omega arith, ap (λ (n : ℕ). take n c.args.bytes.now) c.length-own.ensures)
 
 pub returns-else-own-bytes : goal.returns-else-own-bytes
-returns-else-own-bytes c =
-    (
-      le_refl _,
-      take-length c.args.bytes.now ∙ sym (ap (λ (n : ℕ). take n c.args.bytes.now) (sym c.length-own.ensures) ∙ take_all c.length-own.result c.args.bytes.now (omega arith)),
-    )
+returns-else-own-bytes c = (
+  le_refl _,
+  take-length c.args.bytes.now ∙ sym (ap (λ (n : ℕ). take n c.args.bytes.now) (sym c.length-own.ensures) ∙ take_all c.length-own.result c.args.bytes.now (omega arith)),
+)

@@ -45,24 +45,24 @@ turn c =
 next : (c : After-step-next)
     → Stepped c.args.blocks.now c.loop-state.state c.step-next.result
 next c =
-    stepped l.args.blocks.now l.loop.state c.step-next.result l.loop.invariant.0.walked.within (turn (goal.at.After-step-next c).In-loop-state).0 (turn (goal.at.After-step-next c).In-loop-state).1 c.step-next.ensures.value
+    stepped c.args.blocks.now c.loop-state.state c.step-next.result c.loop-state.invariant.0.walked.within (turn (goal.at.After-step-next c).In-loop-state).0 (turn (goal.at.After-step-next c).In-loop-state).1 c.step-next.ensures.value
 
 pub step-next-requires : goal.step-next-requires
 step-next-requires c = record {
-      within_bytes = c.loop-state.invariant.0.walked.within;
-      at_in_bounds = (turn (goal.at.step-next-requires c).In-loop-state).1;
-      line_length_in_bounds = omega (arith, c.loop-state.invariant.2);
-    }
+  within_bytes = c.loop-state.invariant.0.walked.within;
+  at_in_bounds = (turn (goal.at.step-next-requires c).In-loop-state).1;
+  line_length_in_bounds = omega (arith, c.loop-state.invariant.2);
+}
 
 pub slice_bounds-keep-end : goal.slice_bounds-keep-end
 slice_bounds-keep-end c =
-    sym (c.step-next.auto.1.1.0 ∙ c.loop-state.invariant.2)
+    sym (c.step-next.auto.lent ∙ c.loop-state.invariant.2)
 
 pub keep-requires : goal.keep-requires
 keep-requires c = record {
-      line_len = c.step-next.auto.1.1.0 ∙ c.loop-state.invariant.2;
-      k_in_bounds = place (turn (goal.at.keep-requires c).In-loop-state).2 c.loop-state.invariant.1;
-    }
+  line_len = c.step-next.auto.lent ∙ c.loop-state.invariant.2;
+  k_in_bounds = place (turn (goal.at.keep-requires c).In-loop-state).2 c.loop-state.invariant.1;
+}
 
 pub loop-state-smaller : goal.loop-state-smaller
 loop-state-smaller c = (next (goal.at.loop-state-smaller c).After-step-next).less
@@ -73,8 +73,8 @@ loop-state-preserved c =
       wrote_on c.args.blocks.now c.args.from c.loop-state.state c.step-next.result c.args.file.now c.loop-state.file _ c.requires.count_in_bounds c.loop-state.invariant.0 e.walked
           (e.written _ c.loop-state.file _ (λ z. c.step-next.ensures.lent_after z ∙ ap (λ (end : List ℕ). block_line (next_block c.args.blocks.now c.loop-state.state) ++ end) c.loop-state.invariant.3) c.keep.ensures)
           (room-left (turn (goal.at.loop-state-preserved c).In-loop-state).2 e.one),
-      c.keep.auto.1.1.0 ∙ c.loop-state.invariant.1,
-      c.step-next.auto.1.1.0 ∙ c.loop-state.invariant.2,
+      c.keep.auto.file ∙ c.loop-state.invariant.1,
+      c.step-next.auto.lent ∙ c.loop-state.invariant.2,
       c.step-next.ensures.lent_unchanged ∙ c.loop-state.invariant.3,
     )
 
@@ -83,6 +83,6 @@ shape_of-file c = c.loop-state.invariant.1
 
 pub returns : goal.returns
 returns c = record {
-      wrote = c.loop-state.invariant.0;
-      ended_length_value = c.loop-state-test.false;
-    }
+  wrote = c.loop-state.invariant.0;
+  ended_length_value = c.loop-state-test.false;
+}

@@ -9,7 +9,6 @@ use Prim.Native.Nat.{◌+◌}
 use mathlib.Core.List.{[], ◌∷◌}
 use mathlib.Core.Path.{◌∙◌}
 use Rattle.delays.proofs.Writing.{store-written}
-use borrow.Author.Rules.{rules}
 use Rattle.delays.proofs.write.longer.Goals as goal
 
 pub returns : goal.returns
@@ -18,5 +17,5 @@ returns c = store-written c.args.store.now c.args.entries c.requires.entries_val
     c.put_dates.ensures
     c.put.ensures
     (c.put_group.ensures
-    ∙ (λ i. placed c.put.new.1.0 (length c.args.store.now + 4)
+    ∙ (λ i. placed c.put.new.lent (length c.args.store.now + 4)
     (group_bytes (take (group_width_lem c.args.version) (to_z-of_z c.ranges.int i ∷ to_z-of_z c.ranges.cab i ∷ to_z-of_z c.ranges.refdly i ∷ to_z-of_z c.ranges.gd i ∷ [])))))

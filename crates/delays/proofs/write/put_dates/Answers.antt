@@ -4,7 +4,6 @@ use Prim.Native.Nat.{ℕ, ◌+◌, ◌*◌, ◌≤◌}
 use native.Mathlib.Omega.{arith}
 use lib.ListN.{length}
 use Rattle.delays.proofs.Writing.{dates-written}
-use borrow.Author.Rules.{rules}
 use Rattle.delays.proofs.write.put_dates.Goals as goal
 
 head-room : (entries store file : ℕ) → 4 + 4 * entries ≤ store → store + 4 ≤ file → 8 + 4 * entries ≤ file

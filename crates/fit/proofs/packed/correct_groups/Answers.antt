@@ -11,9 +11,8 @@ use lib.Dec.{lit≤}
 use lib.IntN.{ℤ, pos, ◌*ℤ◌}
 use lib.ListN.{length, take, drop}
 use mir.Syntax.{w64}
-use mir.Val.{to_z, of_z}
+use mir.Val.{SFits, to_z, of_z}
 use mir.Facts.{to_z-of_z}
-use Rattle.whole.proofs.Words.{back-of}
 use Rattle.limits.specs.Limits.{beyond, delays_beyond_lem}
 use Rattle.limits.specs.Refusal.{◌when◌}
 use Rattle.limits.proofs.Laws.{within-magnitude}
@@ -95,6 +94,7 @@ group-is : (c : After-correct_group-values)
     ≡ block_values_rule (at c.args.smoothed.now c.loop-j.j) c.args.int c.args.cab c.args.refdly c.args.gd (at t.geometry c.loop-j.j) (at t.relativity c.loop-j.j) (at t.ionosphere c.loop-j.j)
     (at t.troposphere c.loop-j.j) (at t.clock c.loop-j.j)
 group-is c =
+    let fits : SFits w64 (at c.args.smoothed.now c.loop-j.j) = search rules in
     let e : 40 * c.loop-j.j + 40 - 40 * c.loop-j.j ≡ 40 = omega arith in
     let read = unpacked-group c.args.corrections.now c.args.n c.loop-j.j in
     let h = in_group c in
@@ -102,7 +102,7 @@ group-is c =
     ≡ block_values_rule (to_z w64 (of_z w64 (at c.args.smoothed.now c.loop-j.j))) (to_z w64 (of_z w64 c.args.int)) (to_z w64 (of_z w64 c.args.cab)) (to_z w64 (of_z w64 c.args.refdly))
     (to_z w64 (of_z w64 c.args.gd)) (signed_at_lem (take m (drop (40 * c.loop-j.j) c.args.corrections.now)) 0) (signed_at_lem (take m (drop (40 * c.loop-j.j) c.args.corrections.now)) 8) (signed_at_lem (take m (drop (40 * c.loop-j.j) c.args.corrections.now)) 16)
     (signed_at_lem (take m (drop (40 * c.loop-j.j) c.args.corrections.now)) 24) (signed_at_lem (take m (drop (40 * c.loop-j.j) c.args.corrections.now)) 32)) e c.correct_group-values.ensures
-    ∙ (λ z. block_values_rule (back-of {z = at c.args.smoothed.now c.loop-j.j} c.correct_group-arg-in-loop-j-1.given z) (to_z-of_z c.ranges.int z) (to_z-of_z c.ranges.cab z) (to_z-of_z c.ranges.refdly z) (to_z-of_z c.ranges.gd z)
+    ∙ (λ z. block_values_rule (to_z-of_z fits z) (to_z-of_z c.ranges.int z) (to_z-of_z c.ranges.cab z) (to_z-of_z c.ranges.refdly z) (to_z-of_z c.ranges.gd z)
     (read 0 c.requires.1 h (lit≤ tt) z) (read 8 c.requires.1 h (lit≤ tt) z) (read 16 c.requires.1 h (lit≤ tt) z) (read 24 c.requires.1 h (lit≤ tt) z) (read 32 c.requires.1 h (lit≤ tt) z))
 
 -- the smoothed value is inside
@@ -112,7 +112,7 @@ inside c =
 
 -- what is left of the columns tells with this group
 row_is : (c : After-correct_group-values)
-    → let t = g (c) in
+    → let t = g (goal.at.After-correct_group-values c).Start in
     Left t c.loop-j.j ≡ group_beyond_lem (at t.geometry c.loop-j.j) (at t.relativity c.loop-j.j) (at t.ionosphere c.loop-j.j) (at t.troposphere c.loop-j.j) (at t.clock c.loop-j.j) || Left t (c.loop-j.j + 1)
 row_is c =
     let t = g (goal.at.After-correct_group-values c).Start in
@@ -121,19 +121,23 @@ row_is c =
 
 -- the values of this group, as they are put
 values-are : (w : In-Values)
-    → let t = h (w) in
+    → let t = h (goal.at.In-Values w).Start in
     let y = at w.args.smoothed.now w.loop-j.j in
     (to_z w64 (of_z w64 w.in-Values.va) ≡ to_a t (pos steps) w.loop-j.j y) × (to_z w64 (of_z w64 w.in-Values.vb) ≡ to_b t (pos steps) w.loop-j.j y)
     × (to_z w64 (of_z w64 w.in-Values.vc) ≡ pos steps *ℤ at t.troposphere w.loop-j.j) × (to_z w64 (of_z w64 w.in-Values.vd) ≡ pos steps *ℤ at t.ionosphere w.loop-j.j)
 unfolding to_a to_b
 values-are w =
+    let fva : SFits w64 w.in-Values.va = search rules in
+    let fvb : SFits w64 w.in-Values.vb = search rules in
+    let fvc : SFits w64 w.in-Values.vc = search rules in
+    let fvd : SFits w64 w.in-Values.vd = search rules in
     let y = at w.args.smoothed.now w.loop-j.j in
     let r = group-values _ _ _ _ _ _ _ _ _ _ (inside (goal.at.In-Values w).After-correct_group-values) (delays-left (goal.at.In-Values w).Else-delays_beyond) (group-is (goal.at.In-Values w).After-correct_group-values) w.in-Values.is in
     (
-      back-of w.known_told-1.given.0.1 ∙ r.1 ∙ ap (λ (u : Given). to_a u (pos steps) w.loop-j.j y) (sym (same (goal.at.In-Values w).Start)),
-      back-of w.known_told-1.given.1.0.1 ∙ r.2 ∙ ap (λ (u : Given). to_b u (pos steps) w.loop-j.j y) (sym (same (goal.at.In-Values w).Start)),
-      back-of w.known_told-1.given.1.1.0.1 ∙ r.3,
-      back-of w.known_told-1.given.1.1.1.0.1 ∙ r.4,
+      to_z-of_z fva ∙ r.1 ∙ ap (λ (u : Given). to_a u (pos steps) w.loop-j.j y) (sym (same (goal.at.In-Values w).Start)),
+      to_z-of_z fvb ∙ r.2 ∙ ap (λ (u : Given). to_b u (pos steps) w.loop-j.j y) (sym (same (goal.at.In-Values w).Start)),
+      to_z-of_z fvc ∙ r.3,
+      to_z-of_z fvd ∙ r.4,
     )
 
 pub returns-then-delays_beyond : goal.returns-then-delays_beyond
@@ -148,7 +152,7 @@ loop-j-init c =
 
 pub returns-in_default : goal.returns-in_default
 returns-in_default c =
-    let t = g (c) in
+    let t = g (goal.at.returns-in_default c).Start in
     let r = group-refused _ _ _ _ _ _ _ _ _ _ (inside (goal.at.returns-in_default c).After-correct_group-values) (delays-left (goal.at.returns-in_default c).Else-delays_beyond) (group-is (goal.at.returns-in_default c).After-correct_group-values) c.in_default.is in
     let left : Left t 0 ≡ true = c.loop-j.invariant.3 ∙ row_is (goal.at.returns-in_default c).After-correct_group-values ∙ ap (λ (b : Bool). b || Left t (c.loop-j.j + 1)) r.1 in
     let e : c.block_values_number.result ≡ 2 = c.block_values_number.ensures ∙ ap block_values_number_lem c.in_default.is ∙ r.0 in record {

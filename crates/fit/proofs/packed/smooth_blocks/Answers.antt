@@ -10,8 +10,8 @@ use native.Mathlib.Omega.{arith}
 use lib.IntN.{ℤ}
 use lib.ListN.{length, take, drop}
 use mir.Syntax.{w64}
-use mir.Val.{to_z, of_z}
-use Rattle.whole.proofs.Words.{back-of}
+use mir.Val.{SFits, to_z, of_z}
+use mir.Facts.{to_z-of_z}
 use Rattle.limits.specs.Limits.{measurement_limit, measurement_least, measurement_most}
 use Rattle.limits.specs.Lists.{any_beyond_lem}
 use Rattle.limits.specs.Scan.{read_to, scan_rule}
@@ -85,15 +85,16 @@ answered c =
 smooth-is : (c : In-Value)
     → to_z w64 (of_z w64 c.in-Value.value) ≡ smoothed_of (list (goal.at.In-Value c).At-loop-j) c.loop-j.j
 smooth-is c =
+    let fits : SFits w64 c.in-Value.value = search rules in
     let same : c.in-Value.value ≡ smoothed_of (list (goal.at.In-Value c).At-loop-j) c.loop-j.j = cc (answered (goal.at.In-Value c).After-smooth-answer) in
-    back-of c.known_told-1.given.0.1 ∙ same
+    to_z-of_z fits ∙ same
 
 pub loop-j-init : goal.loop-j-init
 loop-j-init c = (search rules, c.requires.0, c.requires.1, refl, none_passed _, filled_none _ _)
 
 pub overflow_add-read : goal.overflow_add-read
 overflow_add-read c =
-    record { fits = omega (arith, c.loop-j.invariant.3, read-most (goal.at.overflow_add-read c).After-scan-seen, room (goal.at.overflow_add-read c).In-loop-j, list_length (c), c.loop-j.invariant.1) }
+    record { fits = omega (arith, c.loop-j.invariant.3, read-most (goal.at.overflow_add-read c).After-scan-seen, room (goal.at.overflow_add-read c).In-loop-j, list_length (goal.at.overflow_add-read c).At-loop-j, c.loop-j.invariant.1) }
 
 pub returns-then-seen : goal.returns-then-seen
 returns-then-seen c =

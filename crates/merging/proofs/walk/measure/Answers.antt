@@ -33,7 +33,11 @@ next c =
     walked c.args.first.now c.args.second.now c.requires.first_value c.requires.second_value _ _ t.0 t.1 c.step-next.ensures
 
 pub partners_differ-found-requires : goal.partners_differ-found-requires
-partners_differ-found-requires c = turn (goal.at.partners_differ-found-requires c).In-loop-m
+partners_differ-found-requires c =
+    let t = turn (goal.at.partners_differ-found-requires c).In-loop-m in record {
+      m_in_bounds = t.0;
+      n_in_bounds = t.1;
+    }
 
 pub overflow_add-count : goal.overflow_add-count
 overflow_add-count c = let t = turn (goal.at.overflow_add-count c).In-loop-m in omega arith

@@ -11,7 +11,7 @@ use lib.ListN.{length}
 use Rattle.whole.specs.Sum.{sum}
 use Rattle.whole.specs.Square.{squared}
 use Rattle.whole.specs.Nearest.{nearest}
-use Rattle.whole.proofs.Words.{Word, known, count as count_of, equal, back-of, bound, plain-is, bounds}
+use Rattle.whole.proofs.Words.{Word, known, count as count_of, equal, bound, plain-is, bounds, back-of}
 use Rattle.whole.specs.Table.{at}
 use Rattle.series.specs.Fit.{value_limit}
 use Rattle.series.specs.Scatter.{residual, squares}
@@ -63,7 +63,7 @@ r-is c =
     let k = count (goal.at.After-magnitude-r c).Start in
     c.magnitude-r.ensures
     ∙ ap nat_abs
-    (back-of c.residual.type-inv
+    (back-of c.residual.type_inv
     ∙ c.residual.ensures
     ∙ ap (λ (z : ℤ). nearest z (k * (k * k - 1))) (plain-is (search bounds depth 12) tt))
 

@@ -29,7 +29,7 @@ weight-word i = known (weight-bound i)
 abbrev measurement-word : (c : Start) (i : ℕ) → Word (at c.args.measurements.now i)
 measurement-word c i = known (within-limit measurement_limit c.args.measurements.now c.requires.1 i)
 
-abbrev sum-word : (c : At-loop-i) → Word (to_z w64 c.loop-i.sum)
+abbrev sum-word : (c : At-loop-i) → Word (to_z w64 c.loop-i.sum-bits)
 sum-word c =
     equal c.loop-i.invariant.2
     (known (weighted-bound (at c.args.measurements.now) (within-limit measurement_limit c.args.measurements.now c.requires.1) c.loop-i.i c.loop-i.invariant.0))

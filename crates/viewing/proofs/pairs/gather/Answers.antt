@@ -59,13 +59,11 @@ second-line c =
 
 pub count_pair-gathered-requires : goal.count_pair-gathered-requires
 count_pair-gathered-requires c =
-    let t = turn (goal.at.count_pair-gathered-requires c).In-loop-m in (
-      more-bounded (c.loop-m.m + c.loop-m.n) most_steps (few t c.requires.first_len_bound c.requires.second_len_bound) c.loop-m.invariant.2,
-      (
-        subst Accepted (sym (line-part c.args.first.now c.loop-m.m t.0)) (first-line (goal.at.count_pair-gathered-requires c).In-loop-m),
-        subst Accepted (sym (line-part c.args.second.now c.loop-m.n t.1)) (second-line (goal.at.count_pair-gathered-requires c).In-loop-m),
-      ),
-    )
+    let t = turn (goal.at.count_pair-gathered-requires c).In-loop-m in record {
+      bounded = more-bounded (c.loop-m.m + c.loop-m.n) most_steps (few t c.requires.first_len_bound c.requires.second_len_bound) c.loop-m.invariant.2;
+      line_value = subst Accepted (sym (line-part c.args.first.now c.loop-m.m t.0)) (first-line (goal.at.count_pair-gathered-requires c).In-loop-m);
+      other_value = subst Accepted (sym (line-part c.args.second.now c.loop-m.n t.1)) (second-line (goal.at.count_pair-gathered-requires c).In-loop-m);
+    }
   where
     few : {m n p q : ℕ} → (m < p / ended_length) × (n < q / ended_length) → p ≤ longest → q ≤ longest → m + n ≤ most_steps
     few t h k = omega (arith, t.0, t.1)
