@@ -11,10 +11,7 @@ pub returns-then-number-ne0 : goal.returns-then-number-ne0
 returns-then-number-ne0 c =
     retext c.put_refusal.ensures (refused-answer c.args.block.now c.block-number.result c.block-number.ensures.answer c.if-number-ne0.true)
 
-pub copy-requires-clause-fits : goal.copy-requires-clause-fits
-copy-requires-clause-fits c = ?
-
 pub returns : goal.returns
 returns c =
-    let is : c.block-number.new.line ≡ answer c.args.block.now = written-answer c.args.block.now (replicate line_length 0) c.block-number.new.line refl (sym c.block-number.ensures.answer ∙ c.if-number-ne0.false) c.block-number.ensures.written in
+    let is : c.block-number.new.lent ≡ answer c.args.block.now = written-answer c.args.block.now (replicate line_length 0) c.block-number.new.lent refl (sym c.block-number.ensures.answer ∙ c.if-number-ne0.false) c.block-number.ensures.written in
     retext c.copy.ensures is

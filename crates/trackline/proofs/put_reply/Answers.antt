@@ -1,13 +1,11 @@
 -- `trackline::put_reply` meets its contract: two bytes end the answer, for which there is room.
 -- Assumes nothing.
-use native.Mathlib.Omega.{arith}
+use Rattle.std.proofs.Common.{arith}
 use Rattle.trackline.proofs.Texts.{pushed, retext, room, printed-is}
-use borrow.Author.Rules.{rules}
 use Rattle.trackline.proofs.put_reply.Goals as goal
 
 pub push-next-requires : goal.push-next-requires
-push-next-requires c =
-    omega (arith, c.put_answer-at.ensures.long, room c.args.block.now c.put_answer-at.ensures)
+push-next-requires c = omega (arith, c.put_answer-at.ensures.long, room c.args.block.now c.put_answer-at.ensures)
 
 pub push-requires : goal.push-requires
 push-requires c =
