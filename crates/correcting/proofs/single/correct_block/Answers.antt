@@ -116,8 +116,8 @@ pub corrected-values-requires : goal.corrected-values-requires
 corrected-values-requires c =
     let o = other-words c in
     let g = group-words c in record {
-      within = (bound (read o.0) tt, bound (read o.1) tt, bound (read o.2) tt, bound (read o.3) tt, bound (read o.4) tt);
-      within_2 = (bound (read g.0) tt, bound (read g.1) tt, bound (read g.2) tt, bound (read g.3) tt, bound (read g.4) tt);
+      smoothed_and_delays = (bound (read o.0) tt, bound (read o.1) tt, bound (read o.2) tt, bound (read o.3) tt, bound (read o.4) tt);
+      corrections = (bound (read g.0) tt, bound (read g.1) tt, bound (read g.2) tt, bound (read g.3) tt, bound (read g.4) tt);
     }
 
 -- the values read back from their bits
