@@ -7,12 +7,13 @@ use mathlib.Core.List.{[]}
 use Prim.Native.Nat.{ℕ, ◌+◌, ◌*◌, ◌-◌, ◌≤◌, ◌<◌}
 use native.Mathlib.Nat.{le_antisymm}
 use native.Mathlib.Omega.{arith}
-use lib.Dec.{lit≤}
+use lib.Dec.{lit≤, lit<}
 use lib.IntN.{pos, ◌*ℤ◌}
 use lib.ListN.{length, take, drop}
 use mir.Syntax.{w64}
 use mir.Val.{SFits, to_z, of_z}
 use mir.Facts.{to_z-of_z}
+use Rattle.whole.proofs.Words.{fits-of}
 use Rattle.limits.specs.Limits.{beyond, delays_beyond_lem}
 use Rattle.limits.specs.Refusal.{◌when◌}
 use Rattle.limits.proofs.Laws.{within-magnitude}
@@ -93,7 +94,7 @@ group-is : (c : After-correct_group-values)
     ≡ block_values_rule (at c.args.smoothed.now c.loop-j.j) c.args.int c.args.cab c.args.refdly c.args.gd (at t.geometry c.loop-j.j) (at t.relativity c.loop-j.j) (at t.ionosphere c.loop-j.j)
     (at t.troposphere c.loop-j.j) (at t.clock c.loop-j.j)
 group-is c =
-    let fits : SFits w64 (at c.args.smoothed.now c.loop-j.j) = search rules in
+    let fits : SFits w64 (at c.args.smoothed.now c.loop-j.j) = fits-of (within-limit value_limit c.args.smoothed.now c.requires.2 c.loop-j.j) (lit< tt) in
     let e : 40 * c.loop-j.j + 40 - 40 * c.loop-j.j ≡ 40 = omega arith in
     let read = unpacked-group c.args.corrections.now c.args.n c.loop-j.j in
     let h = in_group c in
