@@ -2,17 +2,16 @@
 -- Assumes nothing.
 use mathlib.Core.Bool.{false, ◌||◌}
 use mathlib.Core.List.{List}
-use mathlib.Core.Path.{◌≡◌, refl, sym, ap, ap₂, ◌∙◌, subst}
+use mathlib.Core.Path.{◌≡◌, sym, ap, ap₂, ◌∙◌}
 use Prim.Native.Nat.{ℕ}
 use lib.IntN.{ℤ}
 use mir.Facts.{to_z-of_z}
 use Rattle.limits.specs.Limits.{beyond, delay_limit}
 use Rattle.exact.specs.Corrected.{Given}
 use Rattle.correcting.specs.Correct.{given, wrong_sizes, value_a, value_b, value_c, value_d}
-use Rattle.correcting.specs.Answer.{others_beyond, filled, whole_blocks, corrected_blocks}
+use Rattle.correcting.specs.Answer.{others_beyond, filled}
 use Rattle.correcting.proofs.Arrays.{filled_none}
 use Rattle.correcting.proofs.Refusals.{sized, sizes-refused, others-refused, by-measurements}
-use borrow.Author.Rules.{rules}
 use Rattle.correcting.proofs.correct.Goals.{After-delays_beyond, After-sizes_wrong, Else-sizes_wrong, Start}
 use Rattle.correcting.proofs.correct.Goals as goal
 

@@ -1,6 +1,5 @@
 -- `fit::track` meets its contract: its answer is the rule's, and so accurate where it is accepted.
 -- Assumes nothing.
-use borrow.Author.Rules.{rules}
 use mathlib.Core.Path.{◌≡◌, sym, ap, ◌∙◌}
 use mathlib.Core.Bool.{false}
 use mathlib.Core.List.{List}
@@ -104,7 +103,7 @@ returns-in_default c =
     let r = corrected-refused (g (goal.at.returns-in_default c).Start) (corrected-is (goal.at.returns-in_default c).After-correct-corrected) c.in_default.is in
     let k = c.corrected_number.ensures ∙ ap corrected_number_lem c.in_default.is in
     let b = both (goal.at.returns-in_default c).Start c.refused.result
-        (c.refused.ensures ∙ ap (λ (k : ℕ). record { refusal = k; «record» = zeros }) k ∙ track-refused (g (goal.at.returns-in_default c).Start) _ r.0 r.1) in
+    (c.refused.ensures ∙ ap (λ (k : ℕ). record { refusal = k; «record» = zeros }) k ∙ track-refused (g (goal.at.returns-in_default c).Start) _ r.0 r.1) in
     record { answer = b.0; accurate = b.1 }
 
 pub slice_bounds-ten_numbers-end : goal.slice_bounds-ten_numbers-end
@@ -133,10 +132,10 @@ pub returns-in_default-found : goal.returns-in_default-found
 returns-in_default-found c =
     let k = c.found_number.ensures ∙ ap found_number_lem c.in_default-found.is in
     let b = both (goal.at.returns-in_default-found c).Start c.refused-in_default-found.result
-        (c.refused-in_default-found.ensures
-        ∙ ap (λ (k : ℕ). record { refusal = k; «record» = zeros }) k
-        ∙ found-refused (results (g (goal.at.returns-in_default-found c).Start)) (found-is (goal.at.returns-in_default-found c).After-ten_numbers-found) c.in_default-found.is
-        ∙ track-judged (g (goal.at.returns-in_default-found c).Start) (number (goal.at.returns-in_default-found c).In-Values)) in
+    (c.refused-in_default-found.ensures
+    ∙ ap (λ (k : ℕ). record { refusal = k; «record» = zeros }) k
+    ∙ found-refused (results (g (goal.at.returns-in_default-found c).Start)) (found-is (goal.at.returns-in_default-found c).After-ten_numbers-found) c.in_default-found.is
+    ∙ track-judged (g (goal.at.returns-in_default-found c).Start) (number (goal.at.returns-in_default-found c).In-Values)) in
     record { answer = b.0; accurate = b.1 }
 
 pub returns : goal.returns

@@ -1,23 +1,21 @@
 -- `correcting::correction::correct_blocks` meets its contract: after j turns the first j blocks are inside, and their values stand in the rows.
 -- Assumes nothing.
-use borrow.Author.Rules.{rules, sfits_of}
+use borrow.Author.Rules.{rules}
 use mathlib.Core.Path.{◌≡◌, refl, sym, ap, ◌∙◌, subst}
-use mathlib.Core.Bool.{true, false}
-use mathlib.Core.List.{List}
+use mathlib.Core.Bool.{false}
 use Prim.Native.Nat.{ℕ, ◌+◌, ◌*◌, ◌-◌, ◌≤◌, ◌<◌}
 use native.Mathlib.Nat.{le_antisymm}
 use native.Mathlib.Omega.{arith}
 use lib.IntN.{ℤ, pos, nat_abs}
-use lib.ListN.{length, take, drop, length-set}
+use lib.ListN.{length, take, drop}
 use mir.Syntax.{w64}
 use mir.Val.{SFits, to_z, of_z}
 use mir.Facts.{to_z-of_z}
-use Rattle.whole.proofs.Words.{Word, known, equal, read, sum_of, negation-of, bound, back-of}
+use Rattle.whole.proofs.Words.{Word, known, equal, read, bound}
 use Rattle.limits.specs.Limits.{measurement_limit, measurement_least, measurement_most}
 use Rattle.limits.specs.Lists.{any_beyond_lem}
 use Rattle.limits.specs.Scan.{read_to, scan_rule}
 use Rattle.limits.specs.declared.Scanned.{Scanned}
-use Rattle.limits.proofs.Lists.{within-limit}
 use Rattle.series.specs.declared.Smoothed.{Smoothed}
 use Rattle.series.specs.Answers.{smooth_reply}
 use Rattle.series.specs.Smooth.{smoothed, smooth_rule}
@@ -27,7 +25,7 @@ use Rattle.whole.specs.Table.{at}
 use Rattle.exact.specs.Corrected.{Given, steps, block, to_a, to_b}
 use Rattle.correcting.specs.declared.Corrected.{Corrected}
 use Rattle.correcting.specs.Correct.{given, blocks, smoothed_at, value_a, value_b, value_c, value_d}
-use Rattle.correcting.specs.Answer.{filled, whole_blocks}
+use Rattle.correcting.specs.Answer.{whole_blocks}
 use Rattle.correcting.proofs.Arrays.{filled_none, filled_more}
 use Rattle.correcting.proofs.Blocks.{part-value, part-bound}
 use Rattle.correcting.proofs.Parts.{Passed, part-read, part-most, none_passed, passed, found, found-blocks, done, done-blocks}
@@ -184,8 +182,7 @@ overflow_add-j c = record { fits = omega (arith, c.loop-j-test.true, c.loop-j.in
 
 pub loop-j-preserved : goal.loop-j-preserved
 loop-j-preserved c =
-    let v = values-are (goal.at.loop-j-preserved c).After-corrected_at-values in
-    (
+    let v = values-are (goal.at.loop-j-preserved c).After-corrected_at-values in (
       omega (arith, c.loop-j-test.true),
       c.loop-j.invariant.1,
       omega (arith, c.loop-j.invariant.2, all_read (goal.at.loop-j-preserved c).Else-seen),

@@ -3,16 +3,17 @@
 use borrow.Author.Rules.{rules}
 use mathlib.Core.Path.{◌≡◌, refl, sym, ap, ap₂, ◌∙◌, subst}
 use mathlib.Core.Bool.{Bool, true, false, ◌||◌, or-true}
-use mathlib.Core.List.{List, []}
+use mathlib.Core.List.{[]}
 use Prim.Native.Nat.{ℕ, ◌+◌, ◌*◌, ◌-◌, ◌≤◌, ◌<◌}
 use native.Mathlib.Nat.{le_antisymm}
 use native.Mathlib.Omega.{arith}
-use lib.Dec.{lit≤}
-use lib.IntN.{ℤ, pos, ◌*ℤ◌}
+use lib.Dec.{lit≤, lit<}
+use lib.IntN.{pos, ◌*ℤ◌}
 use lib.ListN.{length, take, drop}
 use mir.Syntax.{w64}
 use mir.Val.{SFits, to_z, of_z}
 use mir.Facts.{to_z-of_z}
+use Rattle.whole.proofs.Words.{fits-of}
 use Rattle.limits.specs.Limits.{beyond, delays_beyond_lem}
 use Rattle.limits.specs.Refusal.{◌when◌}
 use Rattle.limits.proofs.Laws.{within-magnitude}
@@ -22,11 +23,10 @@ use Rattle.decode.specs.Number.{signed_at_lem}
 use Rattle.decode.proofs.Signeds.{length-signeds}
 use Rattle.whole.specs.Table.{at}
 use Rattle.exact.specs.Corrected.{Given, steps, to_a, to_b}
-use Rattle.correcting.specs.Answer.{filled, others_beyond}
+use Rattle.correcting.specs.Answer.{others_beyond}
 use Rattle.correcting.specs.Block.{group_beyond_lem, block_values_number_lem, block_values_rule}
-use Rattle.correcting.specs.declared.BlockValues.{BlockValues}
 use Rattle.correcting.proofs.Arrays.{filled_none, filled_more}
-use Rattle.correcting.proofs.Columns.{From, from_row, from-none}
+use Rattle.correcting.proofs.Columns.{from_row, from-none}
 use Rattle.correcting.proofs.Groups.{group-refused, group-values}
 use Rattle.fit.specs.Packed.{grouped}
 use Rattle.fit.proofs.Unpacked.{unpacked-group}
@@ -94,7 +94,7 @@ group-is : (c : After-correct_group-values)
     ≡ block_values_rule (at c.args.smoothed.now c.loop-j.j) c.args.int c.args.cab c.args.refdly c.args.gd (at t.geometry c.loop-j.j) (at t.relativity c.loop-j.j) (at t.ionosphere c.loop-j.j)
     (at t.troposphere c.loop-j.j) (at t.clock c.loop-j.j)
 group-is c =
-    let fits : SFits w64 (at c.args.smoothed.now c.loop-j.j) = search rules in
+    let fits : SFits w64 (at c.args.smoothed.now c.loop-j.j) = fits-of (within-limit value_limit c.args.smoothed.now c.requires.2 c.loop-j.j) (lit< tt) in
     let e : 40 * c.loop-j.j + 40 - 40 * c.loop-j.j ≡ 40 = omega arith in
     let read = unpacked-group c.args.corrections.now c.args.n c.loop-j.j in
     let h = in_group c in
@@ -132,8 +132,7 @@ values-are w =
     let fvc : SFits w64 w.in-Values.vc = search rules in
     let fvd : SFits w64 w.in-Values.vd = search rules in
     let y = at w.args.smoothed.now w.loop-j.j in
-    let r = group-values _ _ _ _ _ _ _ _ _ _ (inside (goal.at.In-Values w).After-correct_group-values) (delays-left (goal.at.In-Values w).Else-delays_beyond) (group-is (goal.at.In-Values w).After-correct_group-values) w.in-Values.is in
-    (
+    let r = group-values _ _ _ _ _ _ _ _ _ _ (inside (goal.at.In-Values w).After-correct_group-values) (delays-left (goal.at.In-Values w).Else-delays_beyond) (group-is (goal.at.In-Values w).After-correct_group-values) w.in-Values.is in (
       to_z-of_z fva ∙ r.1 ∙ ap (λ (u : Given). to_a u (pos steps) w.loop-j.j y) (sym (same (goal.at.In-Values w).Start)),
       to_z-of_z fvb ∙ r.2 ∙ ap (λ (u : Given). to_b u (pos steps) w.loop-j.j y) (sym (same (goal.at.In-Values w).Start)),
       to_z-of_z fvc ∙ r.3,
@@ -142,9 +141,9 @@ values-are w =
 
 pub returns-then-delays_beyond : goal.returns-then-delays_beyond
 returns-then-delays_beyond c = record {
-      answer = two (others_by (g (goal.at.returns-then-delays_beyond c).Start) (Left (g (goal.at.returns-then-delays_beyond c).Start) 0) true refl (sym (delays-are (goal.at.returns-then-delays_beyond c).After-delays_beyond) ∙ c.if-delays_beyond.true) ∙ or-true (Left (g (goal.at.returns-then-delays_beyond c).Start) 0));
-      rows_after = λ z. absurd (omega (arith, z));
-    }
+  answer = two (others_by (g (goal.at.returns-then-delays_beyond c).Start) (Left (g (goal.at.returns-then-delays_beyond c).Start) 0) true refl (sym (delays-are (goal.at.returns-then-delays_beyond c).After-delays_beyond) ∙ c.if-delays_beyond.true) ∙ or-true (Left (g (goal.at.returns-then-delays_beyond c).Start) 0));
+  rows_after = λ z. absurd (omega (arith, z));
+}
 
 pub loop-j-init : goal.loop-j-init
 loop-j-init c =

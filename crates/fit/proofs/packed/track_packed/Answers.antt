@@ -1,6 +1,5 @@
 -- `fit::packed::track_packed` meets its contract: what the two loops leave is what Track makes of the lists.
 -- Assumes nothing.
-use borrow.Author.Rules.{rules}
 use borrow.Author.Tests.{ne_eqb}
 use mathlib.Core.Path.{◌≡◌, refl, sym, ap, ap₂, ◌∙◌, subst}
 use mathlib.Core.Bool.{Bool, true, false, not, ◌||◌}
@@ -45,12 +44,11 @@ n c = length c.args.corrections.now / 40
 
 -- both clauses, from the answer
 both : (s : Start) (x : Found) → x ≡ found_rule (g s) → (x ≡ found_rule (g s)) × (found_number_lem x ≡ 0 → AccurateTrack steps (n s) (g s) (found_numbers x))
-both s x e =
-    (
-      e,
-      λ z. subst (λ (k : ℕ). AccurateTrack steps k (g s) (found_numbers x))
-          (packed-blocks s.args.measurements.now s.args.corrections.now s.args.int s.args.cab s.args.refdly s.args.gd) (found-accurate (g s) x e z),
-    )
+both s x e = (
+  e,
+  λ z. subst (λ (k : ℕ). AccurateTrack steps k (g s) (found_numbers x))
+      (packed-blocks s.args.measurements.now s.args.corrections.now s.args.int s.args.cab s.args.refdly s.args.gd) (found-accurate (g s) x e z),
+)
 
 -- the sizes have passed
 fit : (c : Else-not-blocks_fit) → not (blocks_fit_lem (n (goal.at.Else-not-blocks_fit c).Start)) ≡ false
@@ -201,18 +199,18 @@ ten_numbers-requires c =
       few_blocks = few (e t);
       lengths = (long t _ (a-is t), long t _ (b-is t), long t _ (c-is t), long t _ (d-is t));
       inside = (
-          ap (any_beyond_lem value_limit) (a-is t) ∙ i.in-a,
-          ap (any_beyond_lem value_limit) (b-is t) ∙ i.in_b,
-          ap (any_beyond_lem value_limit) (c-is t) ∙ i.in_c,
-          ap (any_beyond_lem value_limit) (d-is t) ∙ i.in-d,
-        );
+        ap (any_beyond_lem value_limit) (a-is t) ∙ i.in-a,
+        ap (any_beyond_lem value_limit) (b-is t) ∙ i.in_b,
+        ap (any_beyond_lem value_limit) (c-is t) ∙ i.in_c,
+        ap (any_beyond_lem value_limit) (d-is t) ∙ i.in-d,
+      );
     }
 
 pub returns : goal.returns
 returns c =
     let t = (goal.at.returns c).Else-number-ne0 in
     let b = both (s t) _
-        (c.ten_numbers.ensures
-        ∙ ap judged_rule (packed-results c.args.measurements.now c.args.corrections.now c.args.int c.args.cab c.args.refdly c.args.gd (fit (goal.at.returns c).Else-not-blocks_fit) (count (e t)) (a-is t) (b-is t) (c-is t) (d-is t))
-        ∙ judged-found (g (s t)) (sizes (e t)) (limits-left t)) in
+    (c.ten_numbers.ensures
+    ∙ ap judged_rule (packed-results c.args.measurements.now c.args.corrections.now c.args.int c.args.cab c.args.refdly c.args.gd (fit (goal.at.returns c).Else-not-blocks_fit) (count (e t)) (a-is t) (b-is t) (c-is t) (d-is t))
+    ∙ judged-found (g (s t)) (sizes (e t)) (limits-left t)) in
     record { answer = b.0; accurate = b.1 }

@@ -8,7 +8,7 @@ use lib.IntN.{ℤ, pos}
 use mir.Syntax.{w64}
 use mir.Val.{SFits, to_z, of_z}
 use mir.Facts.{to_z-of_z}
-use Rattle.whole.proofs.Words.{count, count-read, fits, plain-is}
+use Rattle.whole.proofs.Words.{count-read, plain-is}
 use Rattle.limits.specs.declared.Numbers.{Numbers}
 use Rattle.limits.specs.Limits.{limits_number, dsg_number}
 use Rattle.limits.specs.Refusal.{◌then◌}
@@ -144,12 +144,6 @@ fit_blocks-line_d-requires c = (c.requires.few_blocks.0, c.requires.few_blocks.1
 
 pub returns-in_default-line_d : goal.returns-in_default-line_d
 returns-in_default-line_d c = absurd (fit-never c.fit_blocks-line_d.ensures c.in_default-line_d.is)
-
-pub overflow_mul-numbers : goal.overflow_mul-numbers
-overflow_mul-numbers c = record { fits = omega (arith, seconds (goal.at.overflow_mul-numbers c).Start) }
-
-pub overflow_cast-numbers : goal.overflow_cast-numbers
-overflow_cast-numbers c = fits (count (seconds (goal.at.overflow_cast-numbers c).Start)) tt
 
 pub returns-then-refusal-ne0 : goal.returns-then-refusal-ne0
 returns-then-refusal-ne0 c =
