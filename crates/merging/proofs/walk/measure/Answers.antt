@@ -1,15 +1,11 @@
 -- `merging::walk::measure` meets its contract: what is left to merge is what is left of the two files.
 -- Assumes nothing.
-use mathlib.Core.Path.{◌≡◌, refl, sym}
-use mathlib.Core.Bool.{◌||◌}
-use Prim.Native.Nat.{◌+◌, ◌-◌, ◌/◌, ◌≤◌, ◌<◌}
+use mathlib.Core.Path.{refl, sym}
+use Prim.Native.Nat.{◌/◌, ◌<◌}
 use native.Mathlib.Omega.{arith}
-use lib.ListN.{length, drop}
-use borrow.Author.Rules.{rules}
+use lib.ListN.{length}
 use Rattle.columns.specs.Text.{ended_length}
 use Rattle.linefile.specs.Files.{lines}
-use Rattle.linefile.specs.Partners.{partners}
-use Rattle.merging.specs.Merge.{any_differ, merged}
 use Rattle.linefile.proofs.Lines.{length-lines, line-file, lines_left}
 use Rattle.merging.proofs.Walking.{Walked, walked, found-more, count-more, end-length, end-differ, length_merged}
 use native.Mathlib.Nat.{zero-add}

@@ -6,10 +6,9 @@ use native.Mathlib.Omega.{arith}
 use mathlib.Core.List.{◌++◌}
 use lib.ListN.{length, drop, length-append, length-drop}
 use Rattle.lent.specs.Placed.{placed}
-use borrow.Author.Rules.{rules}
 use Rattle.columns.specs.Text.{ended_length}
-use Rattle.linefile.specs.Files.{lines, joined}
-use Rattle.merging.specs.Merge.{merged, merged_file}
+use Rattle.linefile.specs.Files.{lines}
+use Rattle.merging.specs.Merge.{merged_file}
 use Rattle.linefile.proofs.Lines.{length-lines, lines_long, line-file, lines_left}
 use Rattle.lent.proofs.Written.{Written, nothing_written, room, more-written, rests-written}
 use Rattle.merging.proofs.Walking.{Walked, walked, line-room, line-written, end-text}
@@ -34,8 +33,7 @@ place : (c : After-step-next)
     → (ended_length * (c.loop-m.k + 1) ≤ length c.loop-m.file)
     × (length c.loop-m.file ≡ length c.args.file.now)
 place c =
-    let t = turn (goal.at.After-step-next c).In-loop-m in
-    (
+    let t = turn (goal.at.After-step-next c).In-loop-m in (
       line-room (lines c.args.first.now) (lines c.args.second.now) c.loop-m.m c.loop-m.n _ (next c) (lines_long c.args.first.now) (lines_long c.args.second.now) (rw (length-lines c.args.first.now) t.0) (rw (length-lines c.args.second.now) t.1) c.loop-m.k c.requires.second_in_bounds c.loop-m.invariant.2,
       (room c.requires.second_in_bounds c.loop-m.invariant.2).1,
     )
@@ -101,9 +99,9 @@ places c =
 
 pub put_rest-requires : goal.put_rest-requires
 put_rest-requires c = record {
-      i_in_bounds = omega (arith, c.loop-m.invariant.0, (line-file c.args.first.now c.requires.first_value).whole);
-      source_in_bounds = (places (goal.at.put_rest-requires c).After-loop-m).fits;
-    }
+  i_in_bounds = omega (arith, c.loop-m.invariant.0, (line-file c.args.first.now c.requires.first_value).whole);
+  source_in_bounds = (places (goal.at.put_rest-requires c).After-loop-m).fits;
+}
 
 pub overflow_sub-a : goal.overflow_sub-a
 overflow_sub-a c = c.loop-m.invariant.0

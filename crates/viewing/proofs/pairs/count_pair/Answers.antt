@@ -41,9 +41,9 @@ overflow_sub-refsys c = subst (SFits w64) (sym (difference-is c)) (fits-of (smal
 
 pub count-requires : goal.count-requires
 count-requires c = record {
-      bounded = c.requires.bounded;
-      difference_bound = subst (λ (z : ℤ). nat_abs z ≤ widest) (sym (passed c)) (small c);
-    }
+  bounded = c.requires.bounded;
+  difference_bound = subst (λ (z : ℤ). nat_abs z ≤ widest) (sym (passed c)) (small c);
+}
 
 pub returns-then-trkl : goal.returns-then-trkl
 returns-then-trkl c =

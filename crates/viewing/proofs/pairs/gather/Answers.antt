@@ -2,18 +2,18 @@
 -- Assumes nothing.
 use mathlib.Core.Path.{sym, subst}
 use mathlib.Core.List.{[]}
-use Prim.Native.Nat.{ℕ, ◌+◌, ◌-◌, ◌/◌, ◌≤◌, ◌<◌}
+use Prim.Native.Nat.{ℕ, ◌+◌, ◌/◌, ◌≤◌, ◌<◌}
 use native.Mathlib.Omega.{arith}
 use lib.ListN.{length, get_or}
 use borrow.Author.Rules.{rules}
 use Rattle.columns.specs.Text.{ended_length}
 use Rattle.linefile.specs.Files.{lines}
 use Rattle.viewing.specs.View.{pairs_of, viewed, longest}
-use Rattle.viewing.specs.Gather.{Bounded, most_steps}
+use Rattle.viewing.specs.Gather.{most_steps}
 use Rattle.linefile.proofs.Ascending.{Accepted}
 use Rattle.linefile.proofs.Lines.{length-lines, line-file, line-part, line-accepted, lines_left}
 use Rattle.linefile.proofs.Steps.{Stepped, stepped}
-use Rattle.viewing.proofs.Gathering.{Gathered, viewed_from, nothing-gathered, nothing-bounded, more-bounded, pair-gathered, pair-bounded, all-gathered, end-viewed}
+use Rattle.viewing.proofs.Gathering.{nothing-gathered, nothing-bounded, more-bounded, pair-gathered, pair-bounded, all-gathered, end-viewed}
 use Rattle.viewing.proofs.pairs.gather.Goals.{After-step-next, In-loop-m}
 use Rattle.viewing.proofs.pairs.gather.Goals as goal
 
