@@ -23,7 +23,7 @@ answer c =
     ∙ (λ i. append_rule c.args.store.now c.args.mjd (to_z-of_z c.ranges.intdly i) (to_z-of_z c.ranges.cabdly i) (to_z-of_z c.ranges.refdly i) (to_z-of_z c.ranges.gd i) (length c.args.longer.now))
 
 after : (c : After-append-appended)
-    → c.append-appended.new.1.1.1.1.1.1.0 ≡ append_after c.args.store.now c.args.mjd c.args.intdly c.args.cabdly c.args.refdly c.args.gd c.args.longer.now
+    → c.append-appended.new.longer ≡ append_after c.args.store.now c.args.mjd c.args.intdly c.args.cabdly c.args.refdly c.args.gd c.args.longer.now
 after c =
     c.append-appended.ensures.written
     ∙ (λ i. append_after c.args.store.now c.args.mjd (to_z-of_z c.ranges.intdly i) (to_z-of_z c.ranges.cabdly i) (to_z-of_z c.ranges.refdly i) (to_z-of_z c.ranges.gd i) c.args.longer.now)
@@ -38,7 +38,7 @@ returns-in_default c = let n = c.appended_number.ensures ∙ ap (λ (r : Appende
 
 pub returns : goal.returns
 returns c = let r = append-bytes-case c.args.store.now c.args.mjd c.args.intdly c.args.cabdly c.args.refdly c.args.gd (length c.args.longer.now) c.in-Bytes.is (answer (goal.at.returns c).After-append-appended) in record {
-      answer = sym r.0;
-      longer = after (goal.at.returns c).After-append-appended;
-      written = r.1;
-    }
+  answer = sym r.0;
+  longer = after (goal.at.returns c).After-append-appended;
+  written = r.1;
+}

@@ -18,19 +18,14 @@ returns-in_default c =
     let room = length c.args.file.now in
     let n = c.written_number.ensures ∙ ap written_number_lem c.day-answer.ensures.answer ∙ answer-number c.args.blocks.now room in
     let r = refused-case c.args.blocks.now room c.day-answer.ensures.answer c.in_default.is in
-    let some : 0 < c.written_number.result = omega (arith, n, r.0) in (
-      n,
-      (
-        c.day-answer.ensures.written,
-        (
-          lent-kept c.written_number.result (length (day_file c.args.blocks.now)) c.args.written.now some,
-          (
-            place-named c.written_number.result c.args.block.now (c.written_block.ensures ∙ r.1) some,
-            ((λ z. absurd (none some z)), (λ z. absurd (none some z))),
-          ),
-        ),
-      ),
-    )
+    let some : 0 < c.written_number.result = omega (arith, n, r.0) in record {
+      answer = n;
+      file = c.day-answer.ensures.written;
+      written = lent-kept c.written_number.result (length (day_file c.args.blocks.now)) c.args.written.now some;
+      block = place-named c.written_number.result c.args.block.now (c.written_block.ensures ∙ r.1) some;
+      lines = λ z. absurd (none some z);
+      accurate = λ z. absurd (none some z);
+    }
   where
     none : {n : ℕ} → 0 < n → n ≡ 0 → ⊥
     none h z = omega arith

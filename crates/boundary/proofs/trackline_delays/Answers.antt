@@ -23,7 +23,8 @@ unfolding delays_answer delays_after set_of_lem
 returns-in_default c =
     let r = refused-case c.args.store.now c.args.mjd c.in_default.is c.lookup-found.ensures.answer c.lookup-found.ensures.variant in
     let number = c.delays_number.ensures ∙ ap (λ (r : Delays). (delays_reply r).number) c.in_default.is in
-    row-refused (lookup_number c.args.store.now c.args.mjd) (set_in_force c.args.store.now c.args.mjd) c.args.lent.now (number ∙ r.0) (omega (arith, number, r.1))
+    let e = row-refused (lookup_number c.args.store.now c.args.mjd) (set_in_force c.args.store.now c.args.mjd) c.args.lent.now (number ∙ r.0) (omega (arith, number, r.1)) in
+    record { answer = e.0; written = e.1 }
 
 -- the set reads back from its bits
 record Fits (z : List ℤ) : Type 0 where
@@ -48,5 +49,6 @@ pub returns : goal.returns
 unfolding delays_answer delays_after set_of_lem
 returns c =
     let v = set-case c.args.store.now c.args.mjd c.in-Set.is c.lookup-found.ensures.answer in
-    row_put (lookup_number c.args.store.now c.args.mjd) (set_in_force c.args.store.now c.args.mjd) c.args.lent.now v.0
-    (row_is (goal.at.returns c).In-Set ∙ v.1) c.put.ensures.answer c.put.ensures.written
+    let e = row_put (lookup_number c.args.store.now c.args.mjd) (set_in_force c.args.store.now c.args.mjd) c.args.lent.now v.0
+    (row_is (goal.at.returns c).In-Set ∙ v.1) c.put.ensures.answer c.put.ensures.written in
+    record { answer = e.0; written = e.1 }

@@ -29,7 +29,7 @@ returns-in_default c =
 
 pub returns : goal.returns
 returns c =
-    let r = length-case (satellite (goal.at.returns c).Start) (antenna (goal.at.returns c).Start) c.decreases.given.1 c.path-measured.ensures.answer in record {
+    let r = length-case (satellite (goal.at.returns c).Start) (antenna (goal.at.returns c).Start) c.in-Length.is c.path-measured.ensures.answer in record {
       answer = sym r.0;
       written = r.1;
     }

@@ -17,11 +17,13 @@ unfolding read_answer read_after
 returns-in_default c =
     let number = c.reading_number.ensures ∙ ap (λ (r : Reading). (read_reply r).number) c.in_default.is ∙ refused-number c.args.line.now c.in_default.is c.read-reading.ensures.answer in
     let some = refused-case c.args.line.now c.in_default.is c.read-reading.ensures.answer c.read-reading.ensures.variant in
-    row-refused (read_number c.args.line.now) (values_of (read_labels c.args.line.now) (read_numbers c.args.line.now)) c.args.lent.now number (omega arith)
+    let e = row-refused (read_number c.args.line.now) (values_of (read_labels c.args.line.now) (read_numbers c.args.line.now)) c.args.lent.now number (omega arith) in
+    record { answer = e.0; written = e.1 }
 
 pub returns : goal.returns
 unfolding read_answer read_after
 returns c =
     let v = accepted-values c.args.line.now c.in-Line.is c.read-reading.ensures.answer in
-    row_put (read_number c.args.line.now) _ c.args.lent.now (accepted-case c.args.line.now c.in-Line.is c.read-reading.ensures.answer)
-    (c.values-row.ensures ∙ ap₂ values_of v.0 v.1) c.put.ensures.answer c.put.ensures.written
+    let e = row_put (read_number c.args.line.now) _ c.args.lent.now (accepted-case c.args.line.now c.in-Line.is c.read-reading.ensures.answer)
+    (c.values-row.ensures ∙ ap₂ values_of v.0 v.1) c.put.ensures.answer c.put.ensures.written in
+    record { answer = e.0; written = e.1 }

@@ -23,8 +23,9 @@ unfolding view_answer view_after
 returns-in_default c =
     let r = refused-case c.args.first.now c.args.second.now c.in_default.is c.common_view-view.ensures.answer c.common_view-view.ensures.variant in
     let number = c.view_number.ensures ∙ ap (λ (r : View). (view_reply r).number) c.in_default.is in
-    row-refused (view_number_lem c.args.first.now c.args.second.now) (report_of (figures (viewed c.args.first.now c.args.second.now))) c.args.lent.now (number ∙ r.0)
-    (omega (arith, number, r.1))
+    let e = row-refused (view_number_lem c.args.first.now c.args.second.now) (report_of (figures (viewed c.args.first.now c.args.second.now))) c.args.lent.now (number ∙ r.0)
+    (omega (arith, number, r.1)) in
+    record { answer = e.0; written = e.1 }
 
 -- the report reads back from its bits
 abbrev told : In-Report → Figures
@@ -43,4 +44,5 @@ pub returns : goal.returns
 unfolding view_answer view_after
 returns c =
     let v = reported-case c.args.first.now c.args.second.now c.in-Report.is c.common_view-view.ensures.answer in
-    row_put (view_number_lem c.args.first.now c.args.second.now) (report_of (figures (viewed c.args.first.now c.args.second.now))) c.args.lent.now v.0 (report-is (goal.at.returns c).In-Report ∙ ap report_of v.1) c.put.ensures.answer c.put.ensures.written
+    let e = row_put (view_number_lem c.args.first.now c.args.second.now) (report_of (figures (viewed c.args.first.now c.args.second.now))) c.args.lent.now v.0 (report-is (goal.at.returns c).In-Report ∙ ap report_of v.1) c.put.ensures.answer c.put.ensures.written in
+    record { answer = e.0; written = e.1 }

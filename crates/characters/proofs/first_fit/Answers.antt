@@ -6,7 +6,6 @@ use lib.ListN.{take, drop}
 use Rattle.fields.specs.Text.{bytes_of}
 use Rattle.characters.specs.Kinds.{kinds}
 use Rattle.characters.proofs.Allowed.{row-added}
-use borrow.Author.Rules.{rules}
 use Rattle.characters.proofs.first_fit.Goals as goal
 
 -- the first column and so many behind it, and sixteen columns behind so many

@@ -9,7 +9,6 @@ use lib.ListN.{take, drop}
 use Rattle.fields.specs.Text.{bytes_of}
 use Rattle.characters.specs.Kinds.{kinds, old_kinds, allowed}
 use Rattle.characters.proofs.Allowed.{row-overlapping}
-use borrow.Author.Rules.{rules}
 use Rattle.characters.proofs.kinds_fit.Goals as goal
 
 -- the columns that are there: of either form, of an old line and of ours

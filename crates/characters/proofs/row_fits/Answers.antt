@@ -3,7 +3,6 @@
 use mathlib.Core.Path.{ap, ◌∙◌}
 use Rattle.limits.proofs.Parts.{rest_part}
 use Rattle.characters.specs.Kinds.{allowed}
-use borrow.Author.Rules.{rules}
 use Rattle.characters.proofs.row_fits.Goals as goal
 
 pub returns : goal.returns

@@ -40,7 +40,7 @@ both s t e = (e, tracked-accurate (g s) t e)
 -- what it is given, as it was passed on
 corrected-is : (c : After-correct-corrected) → c.correct-corrected.result ≡ correct_rule (g (goal.at.After-correct-corrected c).Start)
 corrected-is c =
-    simp (to_z-of_z c.ranges.int, to_z-of_z c.ranges.cab, to_z-of_z c.ranges.refdly, to_z-of_z c.ranges.gd) at c.correct-corrected.ensures.value
+    simp (to_z-of_z c.ranges.int, to_z-of_z c.ranges.cab, to_z-of_z c.ranges.refdly, to_z-of_z c.ranges.gd) at c.correct-corrected.ensures.answer
 
 -- nothing of it is refused
 number : (c : In-Values) → correct_number (g (goal.at.In-Values c).Start) ≡ 0
@@ -124,9 +124,9 @@ ten_numbers-found-requires c =
     let t = g (goal.at.ten_numbers-found-requires c).Start in
     let z = number (goal.at.ten_numbers-found-requires c).In-Values in
     let i = inside t z in record {
-      le_n = few t z;
-      a_len = (long t _ z (a-is (goal.at.ten_numbers-found-requires c).In-Values), long t _ z (b-is (goal.at.ten_numbers-found-requires c).In-Values), long t _ z (c-is (goal.at.ten_numbers-found-requires c).In-Values), long t _ z (d-is (goal.at.ten_numbers-found-requires c).In-Values));
-      a_value = (passes (a-is (goal.at.ten_numbers-found-requires c).In-Values) i.in-a, passes (b-is (goal.at.ten_numbers-found-requires c).In-Values) i.in_b, passes (c-is (goal.at.ten_numbers-found-requires c).In-Values) i.in_c, passes (d-is (goal.at.ten_numbers-found-requires c).In-Values) i.in-d);
+      few_blocks = few t z;
+      lengths = (long t _ z (a-is (goal.at.ten_numbers-found-requires c).In-Values), long t _ z (b-is (goal.at.ten_numbers-found-requires c).In-Values), long t _ z (c-is (goal.at.ten_numbers-found-requires c).In-Values), long t _ z (d-is (goal.at.ten_numbers-found-requires c).In-Values));
+      inside = (passes (a-is (goal.at.ten_numbers-found-requires c).In-Values) i.in-a, passes (b-is (goal.at.ten_numbers-found-requires c).In-Values) i.in_b, passes (c-is (goal.at.ten_numbers-found-requires c).In-Values) i.in_c, passes (d-is (goal.at.ten_numbers-found-requires c).In-Values) i.in-d);
     }
 
 pub returns-in_default-found : goal.returns-in_default-found

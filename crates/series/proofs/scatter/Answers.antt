@@ -9,7 +9,8 @@ use native.Mathlib.Omega.{arith}
 use lib.Dec.{lit<}
 use lib.IntN.{ℤ, pos, nat_abs}
 use lib.ListN.{length}
-use Rattle.whole.proofs.Order.{◌⩽◌, ◌⋖◌, pos-le, pos-lt}
+use Rattle.whole.specs.Order.{◌⩽◌, ◌⋖◌}
+use Rattle.whole.proofs.Order.{pos-le, pos-lt}
 use Rattle.whole.specs.Words.{Within}
 use Rattle.whole.proofs.Words.{count-read, fits, count, plain-is, bounds}
 use Rattle.limits.specs.Limits.{dsg_number}

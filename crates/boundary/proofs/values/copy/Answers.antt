@@ -7,10 +7,12 @@ use native.Mathlib.Nat.{le_antisymm, le_of_suc-le-suc, not-suc-le-zero}
 use native.Mathlib.Numerals.{add-one}
 use native.Mathlib.Omega.{arith}
 use lib.IntN.{ℤ, pos}
+use mir.Syntax.{w64}
+use mir.Val.{SFits}
+use mir.Facts.{to_z-of_z}
 use lib.ListN.{length, take, drop, get_or, set, length-set}
 use lib.Seq.{take-length}
 use borrow.Author.Rules.{rules}
-use Rattle.whole.proofs.Words.{back-of}
 use Rattle.boundary.proofs.values.copy.Goals as goal
 
 -- a turn takes over one value more
@@ -27,10 +29,10 @@ loop-i-init c = (search rules, refl, refl)
 
 pub loop-i-preserved : goal.loop-i-preserved
 loop-i-preserved c =
-    (
+    let fits : SFits w64 (get_or c.args.row.now c.loop-i.i (pos 0)) = search rules in (
       search rules,
       rw length-set c.loop-i.invariant.1,
-      ap (λ (v : ℤ). set c.loop-i.lent c.loop-i.i v) (back-of c.lent-1.given)
+      ap (λ (v : ℤ). set c.loop-i.lent c.loop-i.i v) (to_z-of_z fits)
           ∙ ap (λ (l : List ℤ). set l c.loop-i.i (get_or c.args.row.now c.loop-i.i (pos 0))) c.loop-i.invariant.2
           ∙ turn c.args.row.now c.args.lent.now c.loop-i.i (search rules) (search rules)
           ∙ ap (λ (k : ℕ). take k c.args.row.now ++ drop k c.args.lent.now) (sym (add-one c.loop-i.i)),

@@ -11,13 +11,13 @@ use Rattle.boundary.proofs.values.put.Goals as goal
 pub returns-then-lent-row : goal.returns-then-lent-row
 unfolding ◌when◌ row_after
 returns-then-lent-row c = record {
-      answer = simp (lt-ltb _ _ c.if-lent-row.true);
-      written = refl;
-    }
+  answer = simp (lt-ltb _ _ c.if-lent-row.true);
+  written = refl;
+}
 
 pub returns : goal.returns
 unfolding ◌when◌ row_after
 returns c = record {
-      answer = simp (le-ltb _ _ c.if-lent-row.false);
-      written = c.copy.ensures;
-    }
+  answer = simp (le-ltb _ _ c.if-lent-row.false);
+  written = c.copy.ensures;
+}

@@ -56,10 +56,10 @@ same c =
     λ z. given c.args.measurements.now (i z) (k z) (r z) (d z) c.args.geometry.now c.args.relativity.now c.args.ionosphere.now c.args.troposphere.now c.args.clock.now
 
 sizes : (c : Start) → Sized (g c)
-sizes c = sized (g c) c.requires.clock_value
+sizes c = sized (g c) c.requires.sizes_right
 
 limits : (c : Start) → Others (g c)
-limits c = others (g c) c.requires.clock_value_2
+limits c = others (g c) c.requires.others_inside
 
 -- the delays
 abbrev words : (c : Start) → Word c.args.int × Word c.args.cab × Word c.args.refdly × Word c.args.gd
@@ -151,7 +151,7 @@ returns-then-seen c =
     let r = room (goal.at.returns-then-seen c).In-loop-j in
     let o = sym (any-is (goal.at.returns-then-seen c).After-scan-seen) ∙ c.if-seen.true in
     let w = rows (goal.at.returns-then-seen c).At-loop-j (whole_blocks c.args.measurements.now) (sym (found-blocks c.args.measurements.now c.loop-j.j r c.loop-j.invariant.3 o)) in record {
-      value = (λ z. Corrected.Refused 2 (c.loop-j.invariant.2 z + read_is (goal.at.returns-then-seen c).After-scan-seen z)) ∙ found c.args.measurements.now c.loop-j.j r c.loop-j.invariant.3 o;
+      answer = (λ z. Corrected.Refused 2 (c.loop-j.invariant.2 z + read_is (goal.at.returns-then-seen c).After-scan-seen z)) ∙ found c.args.measurements.now c.loop-j.j r c.loop-j.invariant.3 o;
       a_after = w.0;
       b_after = w.1.0;
       c_after = w.1.1.0;
@@ -168,12 +168,12 @@ corrected_at-values-requires c =
     let z = sizes (goal.at.corrected_at-values-requires c).Start in
     let y : Word (value-at (goal.at.corrected_at-values-requires c).At-loop-j) = known (value-bound (goal.at.corrected_at-values-requires c).Else-seen) in
     let h : c.loop-j.j < blocks (g (goal.at.corrected_at-values-requires c).Start) = c.loop-j-test.true in record {
-      within = (bound (equal (smooth-is c) y) tt, bound (read d.0) tt, bound (read d.1) tt, bound (read d.2) tt, bound (read d.3) tt);
-      j_in_bounds = (h, l.in-geometry);
-      j_in_bounds_2 = (subst (λ (m : ℕ). c.loop-j.j < m) (sym z.size-relativity) h, l.in-relativity);
-      j_in_bounds_3 = (subst (λ (m : ℕ). c.loop-j.j < m) (sym z.size-ionosphere) h, l.in-ionosphere);
-      j_in_bounds_4 = (subst (λ (m : ℕ). c.loop-j.j < m) (sym z.size-troposphere) h, l.in-troposphere);
-      j_in_bounds_5 = (subst (λ (m : ℕ). c.loop-j.j < m) (sym z.size-clock) h, l.in-clock);
+      smoothed_and_delays = (bound (equal (smooth-is c) y) tt, bound (read d.0) tt, bound (read d.1) tt, bound (read d.2) tt, bound (read d.3) tt);
+      geometry_inside = (h, l.in-geometry);
+      relativity_inside = (subst (λ (m : ℕ). c.loop-j.j < m) (sym z.size-relativity) h, l.in-relativity);
+      ionosphere_inside = (subst (λ (m : ℕ). c.loop-j.j < m) (sym z.size-ionosphere) h, l.in-ionosphere);
+      troposphere_inside = (subst (λ (m : ℕ). c.loop-j.j < m) (sym z.size-troposphere) h, l.in-troposphere);
+      clock_inside = (subst (λ (m : ℕ). c.loop-j.j < m) (sym z.size-clock) h, l.in-clock);
     }
 
 pub put-requires : goal.put-requires
@@ -208,7 +208,7 @@ returns c =
     let p = subst (Passed c.args.measurements.now) e c.loop-j.invariant.3 in
     let all = (sizes (goal.at.returns c).Start).size-measurements in
     let w = rows (goal.at.returns c).At-loop-j (whole_blocks c.args.measurements.now) (e ∙ sym (done-blocks c.args.measurements.now (blocks (g (goal.at.returns c).Start)) all p)) in record {
-      value = (λ z. Corrected.Values ((c.loop-j.invariant.2 ∙ ap (λ (k : ℕ). 15 * k) e) z)) ∙ done c.args.measurements.now (blocks (g (goal.at.returns c).Start)) all p;
+      answer = (λ z. Corrected.Values ((c.loop-j.invariant.2 ∙ ap (λ (k : ℕ). 15 * k) e) z)) ∙ done c.args.measurements.now (blocks (g (goal.at.returns c).Start)) all p;
       a_after = w.0;
       b_after = w.1.0;
       c_after = w.1.1.0;

@@ -22,23 +22,23 @@ abbrev words : (c : Start)
     × Word (at c.args.ionosphere.now c.args.j) × Word (at c.args.troposphere.now c.args.j) × Word (at c.args.clock.now c.args.j)
 words c =
     (
-      known c.requires.within.0.within,
-      known c.requires.within.1.within,
-      known c.requires.within.2.within,
-      known c.requires.within.3.within,
-      known c.requires.within.4.within,
-      known (within-limit geometry_limit c.args.geometry.now c.requires.j_in_bounds.1 c.args.j),
-      known (within-limit delay_limit c.args.relativity.now c.requires.j_in_bounds_2.1 c.args.j),
-      known (within-limit delay_limit c.args.ionosphere.now c.requires.j_in_bounds_3.1 c.args.j),
-      known (within-limit delay_limit c.args.troposphere.now c.requires.j_in_bounds_4.1 c.args.j),
-      known (within-limit delay_limit c.args.clock.now c.requires.j_in_bounds_5.1 c.args.j),
+      known c.requires.smoothed_and_delays.0.within,
+      known c.requires.smoothed_and_delays.1.within,
+      known c.requires.smoothed_and_delays.2.within,
+      known c.requires.smoothed_and_delays.3.within,
+      known c.requires.smoothed_and_delays.4.within,
+      known (within-limit geometry_limit c.args.geometry.now c.requires.geometry_inside.1 c.args.j),
+      known (within-limit delay_limit c.args.relativity.now c.requires.relativity_inside.1 c.args.j),
+      known (within-limit delay_limit c.args.ionosphere.now c.requires.ionosphere_inside.1 c.args.j),
+      known (within-limit delay_limit c.args.troposphere.now c.requires.troposphere_inside.1 c.args.j),
+      known (within-limit delay_limit c.args.clock.now c.requires.clock_inside.1 c.args.j),
     )
 
 pub corrected-requires : goal.corrected-requires
 corrected-requires c =
     let w = words (goal.at.corrected-requires c).Start in record {
-      within = (bound (read w.0) tt, bound (read w.1) tt, bound (read w.2) tt, bound (read w.3) tt, bound (read w.4) tt);
-      within_2 = (bound (read w.5) tt, bound (read w.6) tt, bound (read w.7) tt, bound (read w.8) tt, bound (read w.9) tt);
+      smoothed_and_delays = (bound (read w.0) tt, bound (read w.1) tt, bound (read w.2) tt, bound (read w.3) tt, bound (read w.4) tt);
+      corrections = (bound (read w.5) tt, bound (read w.6) tt, bound (read w.7) tt, bound (read w.8) tt, bound (read w.9) tt);
     }
 
 -- the equations of one block are those of its place in the columns

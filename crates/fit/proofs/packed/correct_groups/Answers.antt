@@ -142,8 +142,8 @@ values-are w =
 
 pub returns-then-delays_beyond : goal.returns-then-delays_beyond
 returns-then-delays_beyond c = record {
-      value = two (others_by (g (goal.at.returns-then-delays_beyond c).Start) (Left (g (goal.at.returns-then-delays_beyond c).Start) 0) true refl (sym (delays-are (goal.at.returns-then-delays_beyond c).After-delays_beyond) ∙ c.if-delays_beyond.true) ∙ or-true (Left (g (goal.at.returns-then-delays_beyond c).Start) 0));
-      a_after = λ z. absurd (omega (arith, z));
+      answer = two (others_by (g (goal.at.returns-then-delays_beyond c).Start) (Left (g (goal.at.returns-then-delays_beyond c).Start) 0) true refl (sym (delays-are (goal.at.returns-then-delays_beyond c).After-delays_beyond) ∙ c.if-delays_beyond.true) ∙ or-true (Left (g (goal.at.returns-then-delays_beyond c).Start) 0));
+      rows_after = λ z. absurd (omega (arith, z));
     }
 
 pub loop-j-init : goal.loop-j-init
@@ -156,8 +156,8 @@ returns-in_default c =
     let r = group-refused _ _ _ _ _ _ _ _ _ _ (inside (goal.at.returns-in_default c).After-correct_group-values) (delays-left (goal.at.returns-in_default c).Else-delays_beyond) (group-is (goal.at.returns-in_default c).After-correct_group-values) c.in_default.is in
     let left : Left t 0 ≡ true = c.loop-j.invariant.3 ∙ row_is (goal.at.returns-in_default c).After-correct_group-values ∙ ap (λ (b : Bool). b || Left t (c.loop-j.j + 1)) r.1 in
     let e : c.block_values_number.result ≡ 2 = c.block_values_number.ensures ∙ ap block_values_number_lem c.in_default.is ∙ r.0 in record {
-      value = e ∙ two (others_by t true false left (delays-left (goal.at.returns-in_default c).Else-delays_beyond));
-      a_after = λ z. absurd (omega (arith, z, e));
+      answer = e ∙ two (others_by t true false left (delays-left (goal.at.returns-in_default c).Else-delays_beyond));
+      rows_after = λ z. absurd (omega (arith, z, e));
     }
 
 pub loop-j-preserved : goal.loop-j-preserved
@@ -183,7 +183,7 @@ returns c =
     let e : c.loop-j.j ≡ c.args.n = le_antisymm c.loop-j.invariant.0 c.loop-j-test.false in
     let end : length t.geometry ≤ c.loop-j.j = omega (arith, length-signeds c.args.corrections.now 0 40 c.args.n, e) in
     let left : Left t 0 ≡ false = c.loop-j.invariant.3 ∙ from-none t.geometry t.relativity t.ionosphere t.troposphere t.clock (lengths (goal.at.returns c).Start) c.loop-j.j end in record {
-      value = none (others_by t false false left (delays-left (goal.at.returns c).Else-delays_beyond));
-      a_after = λ z. subst (λ (m : ℕ). Rows t c.args.smoothed.now m c.args.a.now c.args.b.now c.args.c.now c.args.d.now c.loop-j.a c.loop-j.b c.loop-j.c c.loop-j.d) e
+      answer = none (others_by t false false left (delays-left (goal.at.returns c).Else-delays_beyond));
+      rows_after = λ z. subst (λ (m : ℕ). Rows t c.args.smoothed.now m c.args.a.now c.args.b.now c.args.c.now c.args.d.now c.loop-j.a c.loop-j.b c.loop-j.c c.loop-j.d) e
           (subst (λ (u : Given). Rows u c.args.smoothed.now c.loop-j.j c.args.a.now c.args.b.now c.args.c.now c.args.d.now c.loop-j.a c.loop-j.b c.loop-j.c c.loop-j.d) (same (goal.at.returns c).Start) c.loop-j.invariant.4);
     }

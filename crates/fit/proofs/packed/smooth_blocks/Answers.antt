@@ -100,7 +100,7 @@ pub returns-then-seen : goal.returns-then-seen
 returns-then-seen c =
     let r = room (goal.at.returns-then-seen c).In-loop-j in
     let o = sym (any-is (goal.at.returns-then-seen c).After-scan-seen) ∙ c.if-seen.true in record {
-      value = (λ z. Corrected.Refused 2 (c.loop-j.invariant.3 z + read_is (goal.at.returns-then-seen c).After-scan-seen z)) ∙ found (list (goal.at.returns-then-seen c).At-loop-j) c.loop-j.j r c.loop-j.invariant.4 o;
+      answer = (λ z. Corrected.Refused 2 (c.loop-j.invariant.3 z + read_is (goal.at.returns-then-seen c).After-scan-seen z)) ∙ found (list (goal.at.returns-then-seen c).At-loop-j) c.loop-j.j r c.loop-j.invariant.4 o;
       row_after = c.loop-j.invariant.5 ∙ ap (λ (m : ℕ). filled m (smoothed_of (list (goal.at.returns-then-seen c).At-loop-j)) c.args.row.now) (sym (found-blocks (list (goal.at.returns-then-seen c).At-loop-j) c.loop-j.j r c.loop-j.invariant.4 o));
     }
 
@@ -122,6 +122,6 @@ pub returns : goal.returns
 returns c =
     let e : c.loop-j.j ≡ c.args.n = le_antisymm c.loop-j.invariant.0 c.loop-j-test.false in
     let p = subst (Passed (list (goal.at.returns c).At-loop-j)) e c.loop-j.invariant.4 in record {
-      value = (λ z. Corrected.Values ((c.loop-j.invariant.3 ∙ ap (λ (m : ℕ). 15 * m) e) z)) ∙ done (list (goal.at.returns c).At-loop-j) c.args.n (list_length (goal.at.returns c).At-loop-j) p;
+      answer = (λ z. Corrected.Values ((c.loop-j.invariant.3 ∙ ap (λ (m : ℕ). 15 * m) e) z)) ∙ done (list (goal.at.returns c).At-loop-j) c.args.n (list_length (goal.at.returns c).At-loop-j) p;
       row_after = c.loop-j.invariant.5 ∙ ap (λ (m : ℕ). filled m (smoothed_of (list (goal.at.returns c).At-loop-j)) c.args.row.now) (e ∙ sym (done-blocks (list (goal.at.returns c).At-loop-j) c.args.n (list_length (goal.at.returns c).At-loop-j) p));
     }

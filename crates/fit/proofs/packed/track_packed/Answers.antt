@@ -95,10 +95,10 @@ limits-by c p q e f =
 
 inside : (c : In-Values) → any_beyond_lem measurement_limit (list (goal.at.In-Values c).Start) ≡ false
 inside c =
-    measurements-values (list (goal.at.In-Values c).Start) c.smooth_blocks-read.ensures.value c.in-Values.is
+    measurements-values (list (goal.at.In-Values c).Start) c.smooth_blocks-read.ensures.answer c.in-Values.is
 
 number_is : (c : After-correct_groups-number) → c.correct_groups-number.result ≡ 2 when others_beyond (others (goal.at.After-correct_groups-number c).Start)
-number_is c = c.correct_groups-number.ensures.value ∙ ap (λ (t : Given). 2 when others_beyond t) (same (goal.at.After-correct_groups-number c).Start)
+number_is c = c.correct_groups-number.ensures.answer ∙ ap (λ (t : Given). 2 when others_beyond t) (same (goal.at.After-correct_groups-number c).Start)
 
 -- where nothing is refused, the rows have the places of the record
 module _ (c : Else-number-ne0) where
@@ -125,24 +125,24 @@ module _ (c : Else-number-ne0) where
 
   a-is : c.correct_groups-number.new.a ≡ places (n s) (value_a (g s))
   a-is =
-      (c.correct_groups-number.ensures.a_after c.if-number-ne0.false).0
+      (c.correct_groups-number.ensures.rows_after c.if-number-ne0.false).0
       ∙ ap (λ (t : Given). filled (n s) (λ j. to_a t (pos steps) j (at row j)) (replicate 52 (pos 0))) (same s)
       ∙ a-row c.args.measurements.now c.args.corrections.now c.args.int c.args.cab c.args.refdly c.args.gd (fit (goal.at.Else-number-ne0 c).Else-not-blocks_fit) (count e) row row_at
 
   b-is : c.correct_groups-number.new.b ≡ places (n s) (value_b (g s))
   b-is =
-      (c.correct_groups-number.ensures.a_after c.if-number-ne0.false).1
+      (c.correct_groups-number.ensures.rows_after c.if-number-ne0.false).1
       ∙ ap (λ (t : Given). filled (n s) (λ j. to_b t (pos steps) j (at row j)) (replicate 52 (pos 0))) (same s)
       ∙ b-row c.args.measurements.now c.args.corrections.now c.args.int c.args.cab c.args.refdly c.args.gd (fit (goal.at.Else-number-ne0 c).Else-not-blocks_fit) (count e) row row_at
 
   c-is : c.correct_groups-number.new.c ≡ places (n s) (value_c (g s))
   c-is =
-      (c.correct_groups-number.ensures.a_after c.if-number-ne0.false).2
+      (c.correct_groups-number.ensures.rows_after c.if-number-ne0.false).2
       ∙ c-row c.args.measurements.now c.args.corrections.now c.args.int c.args.cab c.args.refdly c.args.gd (fit (goal.at.Else-number-ne0 c).Else-not-blocks_fit) (count e)
 
   d-is : c.correct_groups-number.new.d ≡ places (n s) (value_d (g s))
   d-is =
-      (c.correct_groups-number.ensures.a_after c.if-number-ne0.false).3
+      (c.correct_groups-number.ensures.rows_after c.if-number-ne0.false).3
       ∙ d-row c.args.measurements.now c.args.corrections.now c.args.int c.args.cab c.args.refdly c.args.gd (fit (goal.at.Else-number-ne0 c).Else-not-blocks_fit) (count e)
 
   long : (f : ℕ → ℤ) {l : List ℤ} → l ≡ places (n s) f → length l ≡ 52
@@ -167,7 +167,7 @@ smooth_blocks-read-requires c = ((few (goal.at.smooth_blocks-read-requires c).El
 
 pub returns-in_default : goal.returns-in_default
 returns-in_default c =
-    let r = measurements-refused (list (goal.at.returns-in_default c).Start) c.smooth_blocks-read.ensures.value c.in_default.is in
+    let r = measurements-refused (list (goal.at.returns-in_default c).Start) c.smooth_blocks-read.ensures.answer c.in_default.is in
     let two = c.corrected_number.ensures ∙ ap corrected_number_lem c.in_default.is ∙ r.0 in
     let b = both (goal.at.returns-in_default c).Start _ (ap Found.Refused two ∙ limits-found (g (goal.at.returns-in_default c).Start) (sizes (goal.at.returns-in_default c).Else-measurements-n) (limits-by (goal.at.returns-in_default c).Else-measurements-n true (others_beyond (others (goal.at.returns-in_default c).Start)) r.1 refl)) in
     record { answer = b.0; accurate = b.1 }
@@ -198,9 +198,9 @@ pub ten_numbers-requires : goal.ten_numbers-requires
 ten_numbers-requires c =
     let t = (goal.at.ten_numbers-requires c).Else-number-ne0 in
     let i = within t in record {
-      le_n = few (e t);
-      a_len = (long t _ (a-is t), long t _ (b-is t), long t _ (c-is t), long t _ (d-is t));
-      a_value = (
+      few_blocks = few (e t);
+      lengths = (long t _ (a-is t), long t _ (b-is t), long t _ (c-is t), long t _ (d-is t));
+      inside = (
           ap (any_beyond_lem value_limit) (a-is t) ∙ i.in-a,
           ap (any_beyond_lem value_limit) (b-is t) ∙ i.in_b,
           ap (any_beyond_lem value_limit) (c-is t) ∙ i.in_c,

@@ -5,7 +5,8 @@ use Prim.Native.Nat.{ℕ, suc, ◌-◌, ◌≤◌, ◌<◌}
 use native.Mathlib.Omega.{arith}
 use lib.Dec.{lit<}
 use lib.IntN.{ℤ, pos}
-use Rattle.whole.proofs.Order.{◌⩽◌, ◌⋖◌, pos-le, pos-lt}
+use Rattle.whole.specs.Order.{◌⩽◌, ◌⋖◌}
+use Rattle.whole.proofs.Order.{pos-le, pos-lt}
 use Rattle.exact.specs.Corrected.{steps}
 use Rattle.series.specs.Scatter.{threshold}
 use Rattle.series.proofs.Thresholds.{cap-is, dsg-greatest, greatest-only}
