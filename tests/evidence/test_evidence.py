@@ -16,7 +16,7 @@ from loading import loaded  # noqa: E402
 
 FUNCTION = '''
 %spub fn again(a: u8) -> u8
-    ensures same { λ r. ⌜ r ≡ placedWithin a ⌝ }
+    ensures same { result ≡ placed_within a }
 {
     a
 }
@@ -67,7 +67,7 @@ class Evidence(unittest.TestCase):
         path = self.kept('crates/lent/src/lib.rt')
         path.write_text(path.read_text() + FUNCTION % '// The same. And more.\n')
         new = self.rows('contracts')[0]
-        self.assertIn('| `lent::again` | same | `placedWithin` | The same |', new)
+        self.assertIn('| `lent::again` | same | `placed_within` | The same |', new)
         self.assertEqual(len(new), 2, 'the row, and the count of the functions')
 
     def test_a_function_passed_on(self):

@@ -2,13 +2,14 @@
 -- Assumes nothing.
 use Rattle.std.specs.Prelude.{ℕ, ◌<◌, ℤ, pos}
 use Rattle.std.proofs.Common.{arith}
-use Rattle.whole.proofs.Order.{◌⩽◌}
+use Rattle.whole.specs.Order.{◌⩽◌}
 use Rattle.limits.specs.declared.Numbers.{Numbers}
 use Rattle.exact.specs.Parabola.{ExactSmoothed}
 use Rattle.whole.specs.Table.{at}
 use Rattle.exact.specs.Corrected.{Given, block, to_a, to_b, steps}
 use Rattle.exact.specs.Accurate.{AccurateTrack}
-use Rattle.exact.proofs.Accuracy.{EarlierTrack, earlier-line, earlier-scatter, coarser, SlopeWithin502, slope-thousandths}
+use Rattle.exact.specs.Accuracy.{EarlierTrack, SlopeWithin502}
+use Rattle.exact.proofs.Accuracy.{earlier-line, earlier-scatter, coarser, slope-thousandths}
 
 pub earlier-track : (s n : ℕ) → 0 < s → {g : Given} {f : Numbers} → pos 0 ⩽ f.dsg → AccurateTrack s n g f → EarlierTrack n g f
 earlier-track s n s-pos {g} {f} dsg-pos t =

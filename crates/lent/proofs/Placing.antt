@@ -3,11 +3,11 @@
 use mathlib.Core.Path.{◌≡◌, sym, ap, ap₂, ◌∙◌}
 use mathlib.Core.List.{List, [], ◌∷◌, ◌++◌, append_assoc, append-nil}
 use Prim.Native.Nat.{ℕ, ◌+◌, ◌-◌, ◌≤◌, ◌<◌, zero-le}
-use native.Mathlib.Nat.{add_assoc, add-zero, zero-add, le_of_eq}
+use native.Mathlib.Nat.{add_assoc, add-zero, zero-add}
 use native.Mathlib.Numerals.{add-one}
 use native.Mathlib.Omega.{arith}
-use lib.ListN.{length, take, drop, set, take-append-drop, length-append, length-drop, drop_of_length-le}
-use lib.Seq.{length-take-le, take_at, take-length, drop-append-add, drop-drop, drop-length, set_split}
+use lib.ListN.{length, take, drop, set, take-append-drop, length-append, length-drop}
+use lib.Seq.{length-take-le, take_at, drop-append-add, drop-drop, drop-length, set_split}
 use borrow.Author.Tests.{le-leb, lt-leb}
 use borrow.Rule.Slice.PartMut.{put_mid, mid_of, mid_len}
 use Rattle.lent.specs.Placed.{placed, placed_within}

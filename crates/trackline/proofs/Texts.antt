@@ -1,6 +1,6 @@
 -- Laws of texts at the front of a buffer (specs/Buffer.antt), and how long what is printed can be.
 -- Assumes nothing.
-use Rattle.std.proofs.Common.{◌≡◌, ℕ, suc, ◌+◌, ◌/◌, ◌%◌, ◌≤◌, ◌<◌, List, [], ◌∷◌, ◌++◌, refl, sym, ap, ◌∙◌, subst, append_assoc, append-nil, length, take, drop, length-append, drop_of_length-le, arith}
+use Rattle.std.proofs.Common.{◌≡◌, ℕ, ◌+◌, ◌/◌, ◌%◌, ◌≤◌, ◌<◌, List, [], ◌∷◌, ◌++◌, refl, sym, ap, ◌∙◌, subst, append_assoc, append-nil, length, drop, length-append, drop_of_length-le, arith}
 use native.Mathlib.Nat.{le_of_eq}
 use native.Mathlib.Decide.{dec_lt, ℕ_discrete}
 use lib.Dec.{lit≤}

@@ -3,7 +3,7 @@
 // standard input, and that the output arrives, is not: a read that fails counts as the end, and a write that fails goes unnoticed.
 #![tactic(auto)]
 
-ghost use Rattle.std.specs.Prelude.{◌≡◌, ◌+◌, ◌≤◌, ◌<◌, length, take};
+ghost use Rattle.std.specs.Prelude.{◌≡◌, ◌≤◌, ◌<◌, length};
 ghost use Rattle.columns.specs.Text.{ended_length};
 ghost use Rattle.trackline.specs.Printed.{refusal_text, answer, printed};
 ghost use Rattle.trackline.specs.Buffer.{Text, Pushed};

@@ -39,7 +39,7 @@ longer-requires c = let f = fits (goal.at.longer-requires c).Else-refusal-ne0 in
   version_value = c.unsigned16-version.ensures;
   entries_value = c.count-entries.ensures.value;
   entries_in_bounds = omega (arith, f.groups, c.count-entries.ensures.value);
-  version_in_bounds = omega (arith, f.long, f.room, ap (λ (m : ℕ). group_width_lem m) c.unsigned16-version.ensures);
+  file_room = omega (arith, f.long, f.room, ap (λ (m : ℕ). group_width_lem m) c.unsigned16-version.ensures);
   entries_bound = omega (arith, f.few, c.count-entries.ensures.value);
 }
 

@@ -51,8 +51,8 @@ set_of-requires c =
 
 pub returns : goal.returns
 returns c = record {
-  answer = c.set_of.ensures.result_value
+  answer = c.set_of.ensures.answer
       ∙ ap (λ (n : ℕ). record { number = 0; values = set_of_lem c.args.store.now (n - 1) }) (place (goal.at.returns c).After-in_force-place)
       ∙ lookup-found c.args.store.now c.args.mjd (judged (goal.at.returns c).Else-bad-ne0) (λ z. c.if-place-eq0.false (place (goal.at.returns c).After-in_force-place ∙ z));
-  variant = c.set_of.ensures.delays_numbered;
+  variant = c.set_of.ensures.variant;
 }

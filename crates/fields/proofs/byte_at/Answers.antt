@@ -3,7 +3,6 @@
 use mathlib.Core.Path.{sym, refl}
 use native.Mathlib.Omega.{arith}
 use lib.ListN.{get_or-eq_default}
-use borrow.Author.Rules.{rules}
 use Rattle.fields.proofs.byte_at.Goals as goal
 
 pub returns-then-at-text : goal.returns-then-at-text

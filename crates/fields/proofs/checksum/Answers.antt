@@ -1,10 +1,9 @@
 -- `fields::checksum` meets its contract: the loop keeps the sum of the bytes passed, modulo 256.
 -- Assumes nothing.
-use mathlib.Core.Path.{◌≡◌, ap, ◌∙◌}
+use mathlib.Core.Path.{ap, ◌∙◌}
 use mathlib.Core.List.{List}
-use Prim.Native.Nat.{ℕ, ◌≤◌, ◌-◌, ◌%◌}
+use Prim.Native.Nat.{ℕ, ◌%◌}
 use native.Mathlib.Omega.{arith}
-use lib.ListN.{length, take}
 use lib.Seq.{take_all}
 use Rattle.fields.proofs.Laws.{byte_sum-turn}
 use borrow.Author.Rules.{rules}

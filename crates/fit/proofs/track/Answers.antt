@@ -1,6 +1,5 @@
 -- `fit::track` meets its contract: its answer is the rule's, and so accurate where it is accepted.
 -- Assumes nothing.
-use borrow.Author.Rules.{rules}
 use mathlib.Core.Path.{◌≡◌, sym, ap, ◌∙◌}
 use mathlib.Core.Bool.{false}
 use mathlib.Core.List.{List}
@@ -40,7 +39,7 @@ both s t e = (e, tracked-accurate (g s) t e)
 -- what it is given, as it was passed on
 corrected-is : (c : After-correct-corrected) → c.correct-corrected.result ≡ correct_rule (g (goal.at.After-correct-corrected c).Start)
 corrected-is c =
-    simp (to_z-of_z c.ranges.int, to_z-of_z c.ranges.cab, to_z-of_z c.ranges.refdly, to_z-of_z c.ranges.gd) at c.correct-corrected.ensures.value
+    simp (to_z-of_z c.ranges.int, to_z-of_z c.ranges.cab, to_z-of_z c.ranges.refdly, to_z-of_z c.ranges.gd) at c.correct-corrected.ensures.answer
 
 -- nothing of it is refused
 number : (c : In-Values) → correct_number (g (goal.at.In-Values c).Start) ≡ 0
@@ -104,7 +103,7 @@ returns-in_default c =
     let r = corrected-refused (g (goal.at.returns-in_default c).Start) (corrected-is (goal.at.returns-in_default c).After-correct-corrected) c.in_default.is in
     let k = c.corrected_number.ensures ∙ ap corrected_number_lem c.in_default.is in
     let b = both (goal.at.returns-in_default c).Start c.refused.result
-        (c.refused.ensures ∙ ap (λ (k : ℕ). record { refusal = k; «record» = zeros }) k ∙ track-refused (g (goal.at.returns-in_default c).Start) _ r.0 r.1) in
+    (c.refused.ensures ∙ ap (λ (k : ℕ). record { refusal = k; «record» = zeros }) k ∙ track-refused (g (goal.at.returns-in_default c).Start) _ r.0 r.1) in
     record { answer = b.0; accurate = b.1 }
 
 pub slice_bounds-ten_numbers-end : goal.slice_bounds-ten_numbers-end
@@ -124,19 +123,19 @@ ten_numbers-found-requires c =
     let t = g (goal.at.ten_numbers-found-requires c).Start in
     let z = number (goal.at.ten_numbers-found-requires c).In-Values in
     let i = inside t z in record {
-      le_n = few t z;
-      a_len = (long t _ z (a-is (goal.at.ten_numbers-found-requires c).In-Values), long t _ z (b-is (goal.at.ten_numbers-found-requires c).In-Values), long t _ z (c-is (goal.at.ten_numbers-found-requires c).In-Values), long t _ z (d-is (goal.at.ten_numbers-found-requires c).In-Values));
-      a_value = (passes (a-is (goal.at.ten_numbers-found-requires c).In-Values) i.in-a, passes (b-is (goal.at.ten_numbers-found-requires c).In-Values) i.in_b, passes (c-is (goal.at.ten_numbers-found-requires c).In-Values) i.in_c, passes (d-is (goal.at.ten_numbers-found-requires c).In-Values) i.in-d);
+      few_blocks = few t z;
+      lengths = (long t _ z (a-is (goal.at.ten_numbers-found-requires c).In-Values), long t _ z (b-is (goal.at.ten_numbers-found-requires c).In-Values), long t _ z (c-is (goal.at.ten_numbers-found-requires c).In-Values), long t _ z (d-is (goal.at.ten_numbers-found-requires c).In-Values));
+      inside = (passes (a-is (goal.at.ten_numbers-found-requires c).In-Values) i.in-a, passes (b-is (goal.at.ten_numbers-found-requires c).In-Values) i.in_b, passes (c-is (goal.at.ten_numbers-found-requires c).In-Values) i.in_c, passes (d-is (goal.at.ten_numbers-found-requires c).In-Values) i.in-d);
     }
 
 pub returns-in_default-found : goal.returns-in_default-found
 returns-in_default-found c =
     let k = c.found_number.ensures ∙ ap found_number_lem c.in_default-found.is in
     let b = both (goal.at.returns-in_default-found c).Start c.refused-in_default-found.result
-        (c.refused-in_default-found.ensures
-        ∙ ap (λ (k : ℕ). record { refusal = k; «record» = zeros }) k
-        ∙ found-refused (results (g (goal.at.returns-in_default-found c).Start)) (found-is (goal.at.returns-in_default-found c).After-ten_numbers-found) c.in_default-found.is
-        ∙ track-judged (g (goal.at.returns-in_default-found c).Start) (number (goal.at.returns-in_default-found c).In-Values)) in
+    (c.refused-in_default-found.ensures
+    ∙ ap (λ (k : ℕ). record { refusal = k; «record» = zeros }) k
+    ∙ found-refused (results (g (goal.at.returns-in_default-found c).Start)) (found-is (goal.at.returns-in_default-found c).After-ten_numbers-found) c.in_default-found.is
+    ∙ track-judged (g (goal.at.returns-in_default-found c).Start) (number (goal.at.returns-in_default-found c).In-Values)) in
     record { answer = b.0; accurate = b.1 }
 
 pub returns : goal.returns

@@ -14,7 +14,6 @@ use Rattle.reading.proofs.Refusals.{accepted}
 use Rattle.reading.proofs.Readings.{accepted-case, refused-case}
 use Rattle.reader.proofs.Comments.{offset-accepted, offset-refused}
 use Rattle.columns.specs.Text.{line_length}
-use borrow.Author.Rules.{rules}
 use Rattle.reader.proofs.comment.Goals.{In-Line, In_default}
 use Rattle.reader.proofs.comment.Goals as goal
 

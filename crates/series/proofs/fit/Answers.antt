@@ -1,10 +1,9 @@
 -- `series::fit` meets its contract.
 -- Assumes nothing.
-use borrow.Author.Rules.{rules}
 use mathlib.Core.Path.{◌≡◌, sym, ap, ◌∙◌}
 use mathlib.Core.Bool.{false, not}
 use mathlib.Core.List.{List}
-use Prim.Native.Nat.{ℕ, ◌*◌, ◌-◌, ◌≤◌, ◌<◌}
+use Prim.Native.Nat.{ℕ, ◌*◌, ◌-◌, ◌≤◌}
 use native.Mathlib.Omega.{arith}
 use lib.Dec.{lit<, lit≤}
 use lib.IntN.{ℤ, pos}
@@ -100,6 +99,6 @@ slope-is c =
 pub returns : goal.returns
 unfolding fit_rule
 returns c = record {
-      answer = rw (midpoint-is c, slope-is c) (sym (reply-accepted _ _ (accepted (goal.at.returns c).Else-s)));
-      variant = tt;
-    }
+  answer = rw (midpoint-is c, slope-is c) (sym (reply-accepted _ _ (accepted (goal.at.returns c).Else-s)));
+  variant = tt;
+}

@@ -1,10 +1,9 @@
 -- `trackline::put_answer` meets its contract: what Block answers decides.
 -- Assumes nothing.
-use Rattle.std.proofs.Common.{◌≡◌, length, replicate, arith, refl, sym, ap, ◌∙◌}
+use Rattle.std.proofs.Common.{◌≡◌, replicate, refl, sym, ◌∙◌}
 use Rattle.columns.specs.Text.{line_length}
 use Rattle.trackline.specs.Printed.{answer}
-use Rattle.trackline.proofs.Texts.{retext, refused-answer, written-answer, answer-length}
-use Rattle.trackline.proofs.put_answer.Goals.{After-block-number}
+use Rattle.trackline.proofs.Texts.{retext, refused-answer, written-answer}
 use Rattle.trackline.proofs.put_answer.Goals as goal
 
 pub returns-then-number-ne0 : goal.returns-then-number-ne0

@@ -13,7 +13,6 @@ use Rattle.characters.proofs.Spelled.{spelled}
 use Rattle.reading.specs.Old.{old_number}
 use Rattle.version01.specs.Convert.{form_text, supplied, up_text, up_answer, up_after, old_length}
 use Rattle.version01.proofs.Characters.{supplied-length}
-use borrow.Author.Rules.{rules}
 use Rattle.version01.proofs.up.Goals.{After-decimal, After-then-answer, Then-answer-eq0}
 use Rattle.version01.proofs.up.Goals as goal
 
@@ -53,12 +52,12 @@ write-requires c =
 pub returns-then-answer-eq0 : goal.returns-then-answer-eq0
 unfolding up_after
 returns-then-answer-eq0 c = record {
-      answer = answer-is (goal.at.returns-then-answer-eq0 c).After-then-answer;
-      written = c.write.ensures
-          ∙ ap (λ (b : List ℕ). form_text 71 c.args.old.now b ++ drop (old_length + length b) c.args.line.now) (put-behind (goal.at.returns-then-answer-eq0 c).After-decimal)
-          ∙ ap (λ (n : ℕ). up_text c.args.hc c.args.frc1 c.args.frc2 c.args.frc3 c.args.old.now ++ drop (old_length + n) c.args.line.now) (supplied-length c.args.hc c.args.frc1 c.args.frc2 c.args.frc3)
-          ∙ sym (after-accepted _ _ (passed (goal.at.returns-then-answer-eq0 c).Then-answer-eq0));
-    }
+  answer = answer-is (goal.at.returns-then-answer-eq0 c).After-then-answer;
+  written = c.write.ensures
+      ∙ ap (λ (b : List ℕ). form_text 71 c.args.old.now b ++ drop (old_length + length b) c.args.line.now) (put-behind (goal.at.returns-then-answer-eq0 c).After-decimal)
+      ∙ ap (λ (n : ℕ). up_text c.args.hc c.args.frc1 c.args.frc2 c.args.frc3 c.args.old.now ++ drop (old_length + n) c.args.line.now) (supplied-length c.args.hc c.args.frc1 c.args.frc2 c.args.frc3)
+      ∙ sym (after-accepted _ _ (passed (goal.at.returns-then-answer-eq0 c).Then-answer-eq0));
+}
 
 pub returns-else-answer-eq0 : goal.returns-else-answer-eq0
 unfolding up_after

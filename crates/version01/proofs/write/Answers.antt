@@ -2,7 +2,7 @@
 -- Assumes nothing.
 use mathlib.Core.Path.{◌≡◌, sym, ap, ap₂, ◌∙◌}
 use mathlib.Core.List.{[], ◌∷◌, ◌++◌}
-use Prim.Native.Nat.{ℕ, ◌+◌}
+use Prim.Native.Nat.{ℕ}
 use native.Mathlib.Omega.{arith}
 use lib.ListN.{length}
 use lib.Seq.{length-take-le}
@@ -11,7 +11,6 @@ use Rattle.columns.specs.Columns.{field}
 use Rattle.lent.specs.Placed.{placed, placed_within}
 use Rattle.lent.proofs.Placing.{length-placed}
 use Rattle.version01.proofs.Forms.{columns-length, columns-put, all-put}
-use borrow.Author.Rules.{rules}
 use Rattle.version01.proofs.write.Goals.{After-put-3}
 use Rattle.version01.proofs.write.Goals as goal
 

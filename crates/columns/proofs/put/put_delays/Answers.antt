@@ -36,9 +36,9 @@ returns c =
           (begin (delay_columns c.args.labels c.args.numbers) c.args.line.now 77 c.requires (omega arith))
           c.put_decimal.ensures)
           (simp (c.magnitude.ensures, to_z-of_z f.0) at c.put_decimal-2.ensures))
-          (simp (to_z-of_z f.1) at c.put_signed.ensures))
+          (simp (to_z-of_z f.1, to_z-of_z f.3) at c.put_signed.ensures))
           (simp (c.magnitude-2.ensures, to_z-of_z f.2) at c.put_decimal-3.ensures))
-          (simp (to_z-of_z f.3) at c.put_signed-2.ensures))
+          (simp (to_z-of_z f.1, to_z-of_z f.3) at c.put_signed-2.ensures))
           c.put_decimal-4.ensures)
           c.put_decimal-5.ensures)
           c.put_code.ensures);

@@ -1,6 +1,5 @@
 -- `correcting::inputs::sizes_wrong` meets its contract: the row of tests is the rule's.
 -- Assumes nothing.
-use borrow.Author.Rules.{rules}
 use mathlib.Core.Bool.{true, false, not}
 use mathlib.Core.Path.{◌≡◌, sym, ap, ◌∙◌}
 use native.Mathlib.Omega.{arith}

@@ -3,7 +3,6 @@
 use Prim.Native.Nat.{◌+◌}
 use native.Mathlib.Omega.{arith}
 use Rattle.decode.proofs.Little.{two_bytes}
-use borrow.Author.Rules.{rules}
 use Rattle.decode.proofs.inside.unsigned16.Goals as goal
 
 pub overflow_cast-result : goal.overflow_cast-result

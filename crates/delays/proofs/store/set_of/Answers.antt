@@ -42,11 +42,11 @@ returns c =
     let refdly : SFits w64 c.signed64-3.result = search rules in
     let gd : SFits w64 c.gd.result = search rules in
     record {
-      result_value = ap (λ (v : List ℤ). record { number = 0; values = v })
+      answer = ap (λ (v : List ℤ). record { number = 0; values = v })
           (set_is c.args.store.now c.args.k c.unsigned16-version.ensures c.count.ensures.value c.group_width.ensures.value
           (to_z-of_z {w = w64} int ∙ c.signed64.ensures)
           (to_z-of_z {w = w64} cab ∙ c.signed64-2.ensures)
           (to_z-of_z {w = w64} refdly ∙ c.signed64-3.ensures)
           (to_z-of_z {w = w64} gd ∙ c.gd.ensures));
-      delays_numbered = tt;
+      variant = tt;
     }

@@ -13,7 +13,7 @@ use Rattle.delays.proofs.write.longer.Goals as goal
 
 pub returns : goal.returns
 returns c = store-written c.args.store.now c.args.entries c.requires.entries_value c.requires.entries_in_bounds c.args.mjd c.args.int c.args.cab c.args.refdly c.args.gd c.args.file.now c.requires.version_value
-    c.requires.version_in_bounds
+    c.requires.file_room
     c.put_dates.ensures
     c.put.ensures
     (c.put_group.ensures

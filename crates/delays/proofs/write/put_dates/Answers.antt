@@ -10,4 +10,4 @@ head-room : (entries store file : ℕ) → 4 + 4 * entries ≤ store → store +
 head-room entries store file h k = omega arith
 
 pub returns : goal.returns
-returns c = dates-written c.args.store.now c.args.entries c.requires.entries_value c.requires.entries_in_bounds c.args.mjd c.args.file.now (head-room c.args.entries (length c.args.store.now) (length c.args.file.now) c.requires.entries_in_bounds c.requires.store_in_bounds) c.put.ensures c.put_number.ensures c.put-2.ensures c.put_number-2.ensures
+returns c = dates-written c.args.store.now c.args.entries c.requires.entries_value c.requires.entries_in_bounds c.args.mjd c.args.file.now (head-room c.args.entries (length c.args.store.now) (length c.args.file.now) c.requires.entries_in_bounds c.requires.file_room) c.put.ensures c.put_number.ensures c.put-2.ensures c.put_number-2.ensures

@@ -3,16 +3,17 @@
 use borrow.Author.Rules.{rules}
 use mathlib.Core.Path.{◌≡◌, refl, sym, ap, ap₂, ◌∙◌, subst}
 use mathlib.Core.Bool.{Bool, true, false, ◌||◌, or-true}
-use mathlib.Core.List.{List, []}
+use mathlib.Core.List.{[]}
 use Prim.Native.Nat.{ℕ, ◌+◌, ◌*◌, ◌-◌, ◌≤◌, ◌<◌}
 use native.Mathlib.Nat.{le_antisymm}
 use native.Mathlib.Omega.{arith}
-use lib.Dec.{lit≤}
-use lib.IntN.{ℤ, pos, ◌*ℤ◌}
+use lib.Dec.{lit≤, lit<}
+use lib.IntN.{pos, ◌*ℤ◌}
 use lib.ListN.{length, take, drop}
 use mir.Syntax.{w64}
 use mir.Val.{SFits, to_z, of_z}
 use mir.Facts.{to_z-of_z}
+use Rattle.whole.proofs.Words.{fits-of}
 use Rattle.limits.specs.Limits.{beyond, delays_beyond_lem}
 use Rattle.limits.specs.Refusal.{◌when◌}
 use Rattle.limits.proofs.Laws.{within-magnitude}
@@ -22,11 +23,10 @@ use Rattle.decode.specs.Number.{signed_at_lem}
 use Rattle.decode.proofs.Signeds.{length-signeds}
 use Rattle.whole.specs.Table.{at}
 use Rattle.exact.specs.Corrected.{Given, steps, to_a, to_b}
-use Rattle.correcting.specs.Answer.{filled, others_beyond}
+use Rattle.correcting.specs.Answer.{others_beyond}
 use Rattle.correcting.specs.Block.{group_beyond_lem, block_values_number_lem, block_values_rule}
-use Rattle.correcting.specs.declared.BlockValues.{BlockValues}
 use Rattle.correcting.proofs.Arrays.{filled_none, filled_more}
-use Rattle.correcting.proofs.Columns.{From, from_row, from-none}
+use Rattle.correcting.proofs.Columns.{from_row, from-none}
 use Rattle.correcting.proofs.Groups.{group-refused, group-values}
 use Rattle.fit.specs.Packed.{grouped}
 use Rattle.fit.proofs.Unpacked.{unpacked-group}
@@ -94,7 +94,7 @@ group-is : (c : After-correct_group-values)
     ≡ block_values_rule (at c.args.smoothed.now c.loop-j.j) c.args.int c.args.cab c.args.refdly c.args.gd (at t.geometry c.loop-j.j) (at t.relativity c.loop-j.j) (at t.ionosphere c.loop-j.j)
     (at t.troposphere c.loop-j.j) (at t.clock c.loop-j.j)
 group-is c =
-    let fits : SFits w64 (at c.args.smoothed.now c.loop-j.j) = search rules in
+    let fits : SFits w64 (at c.args.smoothed.now c.loop-j.j) = fits-of (within-limit value_limit c.args.smoothed.now c.requires.2 c.loop-j.j) (lit< tt) in
     let e : 40 * c.loop-j.j + 40 - 40 * c.loop-j.j ≡ 40 = omega arith in
     let read = unpacked-group c.args.corrections.now c.args.n c.loop-j.j in
     let h = in_group c in
@@ -132,8 +132,7 @@ values-are w =
     let fvc : SFits w64 w.in-Values.vc = search rules in
     let fvd : SFits w64 w.in-Values.vd = search rules in
     let y = at w.args.smoothed.now w.loop-j.j in
-    let r = group-values _ _ _ _ _ _ _ _ _ _ (inside (goal.at.In-Values w).After-correct_group-values) (delays-left (goal.at.In-Values w).Else-delays_beyond) (group-is (goal.at.In-Values w).After-correct_group-values) w.in-Values.is in
-    (
+    let r = group-values _ _ _ _ _ _ _ _ _ _ (inside (goal.at.In-Values w).After-correct_group-values) (delays-left (goal.at.In-Values w).Else-delays_beyond) (group-is (goal.at.In-Values w).After-correct_group-values) w.in-Values.is in (
       to_z-of_z fva ∙ r.1 ∙ ap (λ (u : Given). to_a u (pos steps) w.loop-j.j y) (sym (same (goal.at.In-Values w).Start)),
       to_z-of_z fvb ∙ r.2 ∙ ap (λ (u : Given). to_b u (pos steps) w.loop-j.j y) (sym (same (goal.at.In-Values w).Start)),
       to_z-of_z fvc ∙ r.3,
@@ -142,9 +141,9 @@ values-are w =
 
 pub returns-then-delays_beyond : goal.returns-then-delays_beyond
 returns-then-delays_beyond c = record {
-      value = two (others_by (g (goal.at.returns-then-delays_beyond c).Start) (Left (g (goal.at.returns-then-delays_beyond c).Start) 0) true refl (sym (delays-are (goal.at.returns-then-delays_beyond c).After-delays_beyond) ∙ c.if-delays_beyond.true) ∙ or-true (Left (g (goal.at.returns-then-delays_beyond c).Start) 0));
-      a_after = λ z. absurd (omega (arith, z));
-    }
+  answer = two (others_by (g (goal.at.returns-then-delays_beyond c).Start) (Left (g (goal.at.returns-then-delays_beyond c).Start) 0) true refl (sym (delays-are (goal.at.returns-then-delays_beyond c).After-delays_beyond) ∙ c.if-delays_beyond.true) ∙ or-true (Left (g (goal.at.returns-then-delays_beyond c).Start) 0));
+  rows_after = λ z. absurd (omega (arith, z));
+}
 
 pub loop-j-init : goal.loop-j-init
 loop-j-init c =
@@ -156,8 +155,8 @@ returns-in_default c =
     let r = group-refused _ _ _ _ _ _ _ _ _ _ (inside (goal.at.returns-in_default c).After-correct_group-values) (delays-left (goal.at.returns-in_default c).Else-delays_beyond) (group-is (goal.at.returns-in_default c).After-correct_group-values) c.in_default.is in
     let left : Left t 0 ≡ true = c.loop-j.invariant.3 ∙ row_is (goal.at.returns-in_default c).After-correct_group-values ∙ ap (λ (b : Bool). b || Left t (c.loop-j.j + 1)) r.1 in
     let e : c.block_values_number.result ≡ 2 = c.block_values_number.ensures ∙ ap block_values_number_lem c.in_default.is ∙ r.0 in record {
-      value = e ∙ two (others_by t true false left (delays-left (goal.at.returns-in_default c).Else-delays_beyond));
-      a_after = λ z. absurd (omega (arith, z, e));
+      answer = e ∙ two (others_by t true false left (delays-left (goal.at.returns-in_default c).Else-delays_beyond));
+      rows_after = λ z. absurd (omega (arith, z, e));
     }
 
 pub loop-j-preserved : goal.loop-j-preserved
@@ -183,7 +182,7 @@ returns c =
     let e : c.loop-j.j ≡ c.args.n = le_antisymm c.loop-j.invariant.0 c.loop-j-test.false in
     let end : length t.geometry ≤ c.loop-j.j = omega (arith, length-signeds c.args.corrections.now 0 40 c.args.n, e) in
     let left : Left t 0 ≡ false = c.loop-j.invariant.3 ∙ from-none t.geometry t.relativity t.ionosphere t.troposphere t.clock (lengths (goal.at.returns c).Start) c.loop-j.j end in record {
-      value = none (others_by t false false left (delays-left (goal.at.returns c).Else-delays_beyond));
-      a_after = λ z. subst (λ (m : ℕ). Rows t c.args.smoothed.now m c.args.a.now c.args.b.now c.args.c.now c.args.d.now c.loop-j.a c.loop-j.b c.loop-j.c c.loop-j.d) e
+      answer = none (others_by t false false left (delays-left (goal.at.returns c).Else-delays_beyond));
+      rows_after = λ z. subst (λ (m : ℕ). Rows t c.args.smoothed.now m c.args.a.now c.args.b.now c.args.c.now c.args.d.now c.loop-j.a c.loop-j.b c.loop-j.c c.loop-j.d) e
           (subst (λ (u : Given). Rows u c.args.smoothed.now c.loop-j.j c.args.a.now c.args.b.now c.args.c.now c.args.d.now c.loop-j.a c.loop-j.b c.loop-j.c c.loop-j.d) (same (goal.at.returns c).Start) c.loop-j.invariant.4);
     }

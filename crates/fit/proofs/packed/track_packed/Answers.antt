@@ -1,6 +1,5 @@
 -- `fit::packed::track_packed` meets its contract: what the two loops leave is what Track makes of the lists.
 -- Assumes nothing.
-use borrow.Author.Rules.{rules}
 use borrow.Author.Tests.{ne_eqb}
 use mathlib.Core.Path.{◌≡◌, refl, sym, ap, ap₂, ◌∙◌, subst}
 use mathlib.Core.Bool.{Bool, true, false, not, ◌||◌}
@@ -45,12 +44,11 @@ n c = length c.args.corrections.now / 40
 
 -- both clauses, from the answer
 both : (s : Start) (x : Found) → x ≡ found_rule (g s) → (x ≡ found_rule (g s)) × (found_number_lem x ≡ 0 → AccurateTrack steps (n s) (g s) (found_numbers x))
-both s x e =
-    (
-      e,
-      λ z. subst (λ (k : ℕ). AccurateTrack steps k (g s) (found_numbers x))
-          (packed-blocks s.args.measurements.now s.args.corrections.now s.args.int s.args.cab s.args.refdly s.args.gd) (found-accurate (g s) x e z),
-    )
+both s x e = (
+  e,
+  λ z. subst (λ (k : ℕ). AccurateTrack steps k (g s) (found_numbers x))
+      (packed-blocks s.args.measurements.now s.args.corrections.now s.args.int s.args.cab s.args.refdly s.args.gd) (found-accurate (g s) x e z),
+)
 
 -- the sizes have passed
 fit : (c : Else-not-blocks_fit) → not (blocks_fit_lem (n (goal.at.Else-not-blocks_fit c).Start)) ≡ false
@@ -95,10 +93,10 @@ limits-by c p q e f =
 
 inside : (c : In-Values) → any_beyond_lem measurement_limit (list (goal.at.In-Values c).Start) ≡ false
 inside c =
-    measurements-values (list (goal.at.In-Values c).Start) c.smooth_blocks-read.ensures.value c.in-Values.is
+    measurements-values (list (goal.at.In-Values c).Start) c.smooth_blocks-read.ensures.answer c.in-Values.is
 
 number_is : (c : After-correct_groups-number) → c.correct_groups-number.result ≡ 2 when others_beyond (others (goal.at.After-correct_groups-number c).Start)
-number_is c = c.correct_groups-number.ensures.value ∙ ap (λ (t : Given). 2 when others_beyond t) (same (goal.at.After-correct_groups-number c).Start)
+number_is c = c.correct_groups-number.ensures.answer ∙ ap (λ (t : Given). 2 when others_beyond t) (same (goal.at.After-correct_groups-number c).Start)
 
 -- where nothing is refused, the rows have the places of the record
 module _ (c : Else-number-ne0) where
@@ -125,24 +123,24 @@ module _ (c : Else-number-ne0) where
 
   a-is : c.correct_groups-number.new.a ≡ places (n s) (value_a (g s))
   a-is =
-      (c.correct_groups-number.ensures.a_after c.if-number-ne0.false).0
+      (c.correct_groups-number.ensures.rows_after c.if-number-ne0.false).0
       ∙ ap (λ (t : Given). filled (n s) (λ j. to_a t (pos steps) j (at row j)) (replicate 52 (pos 0))) (same s)
       ∙ a-row c.args.measurements.now c.args.corrections.now c.args.int c.args.cab c.args.refdly c.args.gd (fit (goal.at.Else-number-ne0 c).Else-not-blocks_fit) (count e) row row_at
 
   b-is : c.correct_groups-number.new.b ≡ places (n s) (value_b (g s))
   b-is =
-      (c.correct_groups-number.ensures.a_after c.if-number-ne0.false).1
+      (c.correct_groups-number.ensures.rows_after c.if-number-ne0.false).1
       ∙ ap (λ (t : Given). filled (n s) (λ j. to_b t (pos steps) j (at row j)) (replicate 52 (pos 0))) (same s)
       ∙ b-row c.args.measurements.now c.args.corrections.now c.args.int c.args.cab c.args.refdly c.args.gd (fit (goal.at.Else-number-ne0 c).Else-not-blocks_fit) (count e) row row_at
 
   c-is : c.correct_groups-number.new.c ≡ places (n s) (value_c (g s))
   c-is =
-      (c.correct_groups-number.ensures.a_after c.if-number-ne0.false).2
+      (c.correct_groups-number.ensures.rows_after c.if-number-ne0.false).2
       ∙ c-row c.args.measurements.now c.args.corrections.now c.args.int c.args.cab c.args.refdly c.args.gd (fit (goal.at.Else-number-ne0 c).Else-not-blocks_fit) (count e)
 
   d-is : c.correct_groups-number.new.d ≡ places (n s) (value_d (g s))
   d-is =
-      (c.correct_groups-number.ensures.a_after c.if-number-ne0.false).3
+      (c.correct_groups-number.ensures.rows_after c.if-number-ne0.false).3
       ∙ d-row c.args.measurements.now c.args.corrections.now c.args.int c.args.cab c.args.refdly c.args.gd (fit (goal.at.Else-number-ne0 c).Else-not-blocks_fit) (count e)
 
   long : (f : ℕ → ℤ) {l : List ℤ} → l ≡ places (n s) f → length l ≡ 52
@@ -167,7 +165,7 @@ smooth_blocks-read-requires c = ((few (goal.at.smooth_blocks-read-requires c).El
 
 pub returns-in_default : goal.returns-in_default
 returns-in_default c =
-    let r = measurements-refused (list (goal.at.returns-in_default c).Start) c.smooth_blocks-read.ensures.value c.in_default.is in
+    let r = measurements-refused (list (goal.at.returns-in_default c).Start) c.smooth_blocks-read.ensures.answer c.in_default.is in
     let two = c.corrected_number.ensures ∙ ap corrected_number_lem c.in_default.is ∙ r.0 in
     let b = both (goal.at.returns-in_default c).Start _ (ap Found.Refused two ∙ limits-found (g (goal.at.returns-in_default c).Start) (sizes (goal.at.returns-in_default c).Else-measurements-n) (limits-by (goal.at.returns-in_default c).Else-measurements-n true (others_beyond (others (goal.at.returns-in_default c).Start)) r.1 refl)) in
     record { answer = b.0; accurate = b.1 }
@@ -198,21 +196,21 @@ pub ten_numbers-requires : goal.ten_numbers-requires
 ten_numbers-requires c =
     let t = (goal.at.ten_numbers-requires c).Else-number-ne0 in
     let i = within t in record {
-      le_n = few (e t);
-      a_len = (long t _ (a-is t), long t _ (b-is t), long t _ (c-is t), long t _ (d-is t));
-      a_value = (
-          ap (any_beyond_lem value_limit) (a-is t) ∙ i.in-a,
-          ap (any_beyond_lem value_limit) (b-is t) ∙ i.in_b,
-          ap (any_beyond_lem value_limit) (c-is t) ∙ i.in_c,
-          ap (any_beyond_lem value_limit) (d-is t) ∙ i.in-d,
-        );
+      few_blocks = few (e t);
+      lengths = (long t _ (a-is t), long t _ (b-is t), long t _ (c-is t), long t _ (d-is t));
+      inside = (
+        ap (any_beyond_lem value_limit) (a-is t) ∙ i.in-a,
+        ap (any_beyond_lem value_limit) (b-is t) ∙ i.in_b,
+        ap (any_beyond_lem value_limit) (c-is t) ∙ i.in_c,
+        ap (any_beyond_lem value_limit) (d-is t) ∙ i.in-d,
+      );
     }
 
 pub returns : goal.returns
 returns c =
     let t = (goal.at.returns c).Else-number-ne0 in
     let b = both (s t) _
-        (c.ten_numbers.ensures
-        ∙ ap judged_rule (packed-results c.args.measurements.now c.args.corrections.now c.args.int c.args.cab c.args.refdly c.args.gd (fit (goal.at.returns c).Else-not-blocks_fit) (count (e t)) (a-is t) (b-is t) (c-is t) (d-is t))
-        ∙ judged-found (g (s t)) (sizes (e t)) (limits-left t)) in
+    (c.ten_numbers.ensures
+    ∙ ap judged_rule (packed-results c.args.measurements.now c.args.corrections.now c.args.int c.args.cab c.args.refdly c.args.gd (fit (goal.at.returns c).Else-not-blocks_fit) (count (e t)) (a-is t) (b-is t) (c-is t) (d-is t))
+    ∙ judged-found (g (s t)) (sizes (e t)) (limits-left t)) in
     record { answer = b.0; accurate = b.1 }

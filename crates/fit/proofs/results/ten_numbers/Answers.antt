@@ -8,7 +8,7 @@ use lib.IntN.{ℤ, pos}
 use mir.Syntax.{w64}
 use mir.Val.{SFits, to_z, of_z}
 use mir.Facts.{to_z-of_z}
-use Rattle.whole.proofs.Words.{count, count-read, fits, plain-is}
+use Rattle.whole.proofs.Words.{count-read, plain-is}
 use Rattle.limits.specs.declared.Numbers.{Numbers}
 use Rattle.limits.specs.Limits.{limits_number, dsg_number}
 use Rattle.limits.specs.Refusal.{◌then◌}
@@ -40,7 +40,7 @@ accept r e = sym (ap (λ (k : ℕ). found k r.numbers) e)
 
 -- the track length
 seconds : (s : Start) → 15 * s.args.n ≤ 780
-seconds s = omega (arith, s.requires.le_n.1)
+seconds s = omega (arith, s.requires.few_blocks.1)
 
 -- the numbers as they are put together, and what they are
 abbrev put : (c : In-Line-line_d) (dsg : ℤ) → Numbers
@@ -122,34 +122,28 @@ ten-are c =
     ∙ ap (λ (d : ℤ). numbers_with d c.args.n c.args.a.now c.args.b.now c.args.c.now c.args.d.now) (to_z-of_z fits ∙ (sigma-is c).1)
 
 pub fit_blocks-line_a-requires : goal.fit_blocks-line_a-requires
-fit_blocks-line_a-requires c = (c.requires.le_n.0, c.requires.le_n.1, c.requires.a_len.0, c.requires.a_value.0)
+fit_blocks-line_a-requires c = (c.requires.few_blocks.0, c.requires.few_blocks.1, c.requires.lengths.0, c.requires.inside.0)
 
 pub returns-in_default : goal.returns-in_default
 returns-in_default c = absurd (fit-never c.fit_blocks-line_a.ensures c.in_default.is)
 
 pub fit_blocks-line_b-requires : goal.fit_blocks-line_b-requires
-fit_blocks-line_b-requires c = (c.requires.le_n.0, c.requires.le_n.1, c.requires.a_len.1, c.requires.a_value.1)
+fit_blocks-line_b-requires c = (c.requires.few_blocks.0, c.requires.few_blocks.1, c.requires.lengths.1, c.requires.inside.1)
 
 pub returns-in_default-line_b : goal.returns-in_default-line_b
 returns-in_default-line_b c = absurd (fit-never c.fit_blocks-line_b.ensures c.in_default-line_b.is)
 
 pub fit_blocks-line_c-requires : goal.fit_blocks-line_c-requires
-fit_blocks-line_c-requires c = (c.requires.le_n.0, c.requires.le_n.1, c.requires.a_len.2, c.requires.a_value.2)
+fit_blocks-line_c-requires c = (c.requires.few_blocks.0, c.requires.few_blocks.1, c.requires.lengths.2, c.requires.inside.2)
 
 pub returns-in_default-line_c : goal.returns-in_default-line_c
 returns-in_default-line_c c = absurd (fit-never c.fit_blocks-line_c.ensures c.in_default-line_c.is)
 
 pub fit_blocks-line_d-requires : goal.fit_blocks-line_d-requires
-fit_blocks-line_d-requires c = (c.requires.le_n.0, c.requires.le_n.1, c.requires.a_len.3, c.requires.a_value.3)
+fit_blocks-line_d-requires c = (c.requires.few_blocks.0, c.requires.few_blocks.1, c.requires.lengths.3, c.requires.inside.3)
 
 pub returns-in_default-line_d : goal.returns-in_default-line_d
 returns-in_default-line_d c = absurd (fit-never c.fit_blocks-line_d.ensures c.in_default-line_d.is)
-
-pub overflow_mul-numbers : goal.overflow_mul-numbers
-overflow_mul-numbers c = record { fits = omega (arith, seconds (goal.at.overflow_mul-numbers c).Start) }
-
-pub overflow_cast-numbers : goal.overflow_cast-numbers
-overflow_cast-numbers c = fits (count (seconds (goal.at.overflow_cast-numbers c).Start)) tt
 
 pub returns-then-refusal-ne0 : goal.returns-then-refusal-ne0
 returns-then-refusal-ne0 c =
@@ -158,7 +152,7 @@ returns-then-refusal-ne0 c =
 
 pub scatter_blocks-answer-requires : goal.scatter_blocks-answer-requires
 scatter_blocks-answer-requires c =
-    (c.requires.le_n.0, c.requires.le_n.1, c.requires.a_len.1, c.requires.a_value.1)
+    (c.requires.few_blocks.0, c.requires.few_blocks.1, c.requires.lengths.1, c.requires.inside.1)
 
 pub returns-in_default-answer : goal.returns-in_default-answer
 returns-in_default-answer c =

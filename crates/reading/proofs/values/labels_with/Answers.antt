@@ -4,7 +4,6 @@ use mathlib.Core.Path.{refl, ◌∙◌}
 use lib.Dec.{lit≤}
 use Rattle.columns.specs.Columns.{labels_with_lem, read_labels}
 use Rattle.reading.proofs.Columns.{Columns, columns_of_lem, at_most}
-use borrow.Author.Rules.{rules}
 use Rattle.reading.proofs.values.labels_with.Goals.{Start}
 use Rattle.reading.proofs.values.labels_with.Goals as goal
 

@@ -1,6 +1,5 @@
 -- `series::number::nearest` meets its contract: half of d, rounded down, is below 2^31, so the sum fits.
 -- Assumes nothing.
-use borrow.Author.Rules.{rules}
 use mathlib.Core.Path.{◌≡◌, ap, ◌∙◌}
 use Prim.Native.Nat.{◌/◌, ◌-◌, ◌≤◌, ◌^◌}
 use native.Mathlib.Omega.{arith}

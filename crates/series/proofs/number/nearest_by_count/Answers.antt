@@ -1,6 +1,5 @@
 -- `series::number::nearest_by_count` meets its contract: the divisor that is written out is that of 52 values.
 -- Assumes nothing.
-use borrow.Author.Rules.{rules}
 use mathlib.Core.Path.{sym, ap, ap₂, ◌∙◌}
 use Prim.Native.Nat.{ℕ, ◌*◌}
 use native.Mathlib.Omega.{arith}

@@ -51,7 +51,6 @@ pub nearest-requires-2 : goal.nearest-requires-2
 nearest-requires-2 c = (
   bound (read (numerator-word (goal.at.nearest-requires-2 c).Start)) tt,
   one-le-mul c.requires.1 (span-some c.args.n c.requires.3),
-
 )
 
 pub returns : goal.returns

@@ -2,10 +2,10 @@
 -- Assumes nothing.
 use borrow.Author.Rules.{rules}
 use mathlib.Core.Path.{◌≡◌, refl, sym, ap, ◌∙◌, subst}
-use mathlib.Core.Bool.{true, false, true≢false}
+use mathlib.Core.Bool.{false, true≢false}
 use mathlib.Core.List.{List}
-use Prim.Native.Nat.{ℕ, ◌+◌, ◌*◌, ◌≤◌, ◌<◌, ◌-◌}
-use native.Mathlib.Nat.{le_antisymm, le_trans, le_of_lt}
+use Prim.Native.Nat.{ℕ, ◌≤◌, ◌-◌}
+use native.Mathlib.Nat.{le_antisymm, le_trans}
 use native.Mathlib.Numerals.{add-one}
 use native.Mathlib.Omega.{arith}
 use lib.IntN.{ℤ, pos, ◌-ℤ◌, ◌*ℤ◌}
@@ -59,9 +59,9 @@ loop-j-init c = (search rules, λ i h. absurd (omega (arith, h)), refl, refl)
 
 pub returns-then-outside : goal.returns-then-outside
 returns-then-outside c = record {
-      outside_value = outside-found c.args.values.now c.loop-j.j (sym (tested (goal.at.returns-then-outside c).After-outside) ∙ c.if-outside.true);
-      total_value = λ e. absurd (true≢false e);
-    }
+  outside_value = outside-found c.args.values.now c.loop-j.j (sym (tested (goal.at.returns-then-outside c).After-outside) ∙ c.if-outside.true);
+  total_value = λ e. absurd (true≢false e);
+}
 
 pub loop-j-preserved : goal.loop-j-preserved
 loop-j-preserved c =

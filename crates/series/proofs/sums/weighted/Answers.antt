@@ -1,13 +1,10 @@
 -- `series::sums::weighted` meets its contract: after i turns the sum is that of the first i products.
 -- Assumes nothing.
 use borrow.Author.Rules.{rules}
-use mathlib.Core.List.{List}
 use mathlib.Core.Path.{◌≡◌, refl, ap, ◌∙◌}
-use Prim.Native.Nat.{ℕ, ◌≤◌, ◌-◌}
+use Prim.Native.Nat.{ℕ}
 use native.Mathlib.Nat.{le_antisymm}
 use native.Mathlib.Numerals.{add-one}
-use lib.IntN.{ℤ, ◌*ℤ◌}
-use lib.ListN.{length}
 use mir.Syntax.{w64}
 use mir.Val.{to_z}
 use Rattle.whole.specs.Sum.{sum}
