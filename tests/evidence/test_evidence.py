@@ -30,7 +30,7 @@ class Evidence(unittest.TestCase):
         cls.addClassCleanup(scratch.cleanup)
         cls.root = pathlib.Path(scratch.name)
         for part in 'crates', 'docs', 'tools':
-            shutil.copytree(ROOT / part, cls.root / part)
+            shutil.copytree(ROOT / part, cls.root / part, ignore=shutil.ignore_patterns('out'))
         for part in 'crates.txt', 'include/trackline.h', 'README.md':
             (cls.root / part).parent.mkdir(exist_ok=True)
             shutil.copy(ROOT / part, cls.root / part)
