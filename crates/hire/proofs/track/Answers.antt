@@ -74,9 +74,9 @@ module _ (c : After-track_packed) where
 
 pub returns-then-block-length : goal.returns-then-block-length
 returns-then-block-length c = record {
-      answer = other-found _ (λ e. c.if-block-length.true (e ∙ sym c.length.ensures));
-      accurate = λ z. absurd (omega (arith, z));
-    }
+  answer = other-found _ (λ e. c.if-block-length.true (e ∙ sym c.length.ensures));
+  accurate = λ z. absurd (omega (arith, z));
+}
 
 pub slice_bounds-track_packed-end : goal.slice_bounds-track_packed-end
 slice_bounds-track_packed-end c = omega (arith, sized (goal.at.slice_bounds-track_packed-end c).After-unsigned16-n)

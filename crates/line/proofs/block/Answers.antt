@@ -1,6 +1,5 @@
 -- `line::block` meets its contract: each refusal comes where the rule has it, and where none does, the lent line is Line's.
 -- Assumes nothing.
-use borrow.Author.Rules.{rules}
 use native.Mathlib.Omega.{arith}
 use mathlib.Core.Path.{◌≡◌, sym, ap, ap₂, ◌∙◌}
 use Prim.Native.Nat.{◌<◌}
