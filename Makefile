@@ -38,15 +38,16 @@ CARGO := cargo --offline
 PROVER_TMP ?= $(shell tests/memory.sh)
 RT = $(if $(PROVER_TMP),TMPDIR="$$(cd "$(PROVER_TMP)" && pwd)" )rt
 # The same with a line for each crate that is proved, and the rest in a log.
-PROVE = $(if $(PROVER_TMP),TMPDIR="$$(cd "$(PROVER_TMP)" && pwd)" )tools/prove
+TOOL = $(if $(PROVER_TMP),TMPDIR="$$(cd "$(PROVER_TMP)" && pwd)" )
+PROVE = $(TOOL)tools/prove
 INSTALLED := $(DESTDIR)$(abspath $(PREFIX))
-# What boundary is built on: rt staticlib proves boundary itself, so that nothing here proves it twice.
-BELOW := $(shell sed -n 's/^boundary: *//p' crates.txt)
-# What the archive is made of: every crate but the programs.
-SOURCES := crates.txt $(shell find crates -name must-fail -prune -o -path crates/trackline -prune -o -path crates/bench -prune -o -type f -print)
+# What the archive is made of: every crate but the programs. What rt keeps in out/ is no source.
+SOURCES := crates.txt $(shell find crates \( -name must-fail -o -name out \) -prune -o -path crates/trackline -prune -o -path crates/bench -prune -o -type f -print)
 
 PROGRAM := target/bin/trackline
-PROGRAM_SOURCES := $(shell find crates -name must-fail -prune -o -path 'crates/trackline/*' -type f -print)
+PROGRAM_SOURCES := $(shell find crates \( -name must-fail -o -name out \) -prune -o -path 'crates/trackline/*' -type f -print)
+BENCH := target/bin/bench
+BENCH_SOURCES := $(shell find crates \( -name must-fail -o -name out \) -prune -o -path 'crates/bench/*' -type f -print)
 
 # What install puts below the prefix, and uninstall removes.
 PROGRAMS := $(PROGRAM) $(CGGTTS) tools/hireblock
@@ -63,7 +64,7 @@ INSTALLS := $(addprefix bin/,$(notdir $(PROGRAMS))) include/trackline.h lib/libt
 	$(addprefix share/trackline/examples/shared/,$(notdir $(TWO_TRACKS))) $(addprefix share/trackline/tools/,$(notdir $(FOLLOWER)))
 
 .PHONY: help run test beside proofs bench speed instructions turns fuzz program programs cggtts archive shared install uninstall clean
-# rt ci clears target/, where everything else is built. Only the two rows of tests are run at once.
+# Crates are proved one after the other: rt works in one crate at a time. Only the two rows of tests are run at once.
 ifndef ROWS
 .NOTPARALLEL:
 endif
@@ -83,26 +84,30 @@ run:
 
 program: $(PROGRAM)
 
-# rt leaves a program that is up to date as it was, so its time is set here; it links none that is missing while its stamp is there.
 $(PROGRAM): $(SOURCES) $(PROGRAM_SOURCES)
 	@mkdir -p target
-	@echo "proving and building trackline; from nothing this takes a minute or two (target/trackline.log)"
-	@test -s $@ || rm -f target/stamp/trackline
-	@$(PROVE) target/trackline.log check trackline || { rm -f $@ target/stamp/trackline; exit 1; }
-	@touch -c $@ && test -s $@
+	@echo "proving and building trackline; from nothing this takes some minutes (target/trackline.log)"
+	@$(PROVE) target/trackline.log program trackline
+
+$(BENCH): $(SOURCES) $(BENCH_SOURCES)
+	@mkdir -p target
+	@echo "proving and building bench; from nothing this takes some minutes (target/bench.log)"
+	@$(PROVE) target/bench.log program bench
 
 # What the proofs do not cover comes first, so that the proofs' own line is the last.
 test: beside proofs
 
+# rt ci also refuses a file that is not laid out as rt fmt does.
 proofs: rt-there
-	$(RT) ci
+	$(TOOL)tools/gate
 
-# What the tests are of is proved at once, and not for the archive and then for the programs; three crates at a time, as bench takes longest.
+# What the tests are of is proved at once, and not for the archive and then for the programs.
 side-by-side: rt-there
-	RT_JOBS=3 $(RT) check $(BELOW) trackline bench
+	@mkdir -p target
+	@echo "proving every crate; from nothing this takes some minutes (target/crates.log)"
+	@$(RT) all check --jobs 2 > target/crates.log 2>&1 || { cat target/crates.log >&2; exit 1; }
 
 beside: side-by-side archive programs cggtts shared
-	rt fmt --check
 	$(MAKE) --no-print-directory -j2 --output-sync=target ROWS=2 compared described
 
 # What is compared with the independent implementation, and what C programs, cggtts and hireblock do. It takes as long as the rest beside it.
@@ -205,25 +210,18 @@ described:
 	tools/clauses docs/CLAUSES.md
 	tests/install.sh
 
-bench: rt-there
-	@mkdir -p target
-	@echo "proving and building bench first; from nothing this takes two to three minutes (target/bench.log)"
-	@$(RT) check bench > target/bench.log 2>&1 || { cat target/bench.log >&2; exit 1; }
+bench: rt-there $(BENCH)
 	@tests/bench.sh target/bin/bench "$(CASES)"
 
-# Both at once, as rt check proves them side by side.
-programs: rt-there
-	$(RT) check trackline bench
+programs: rt-there $(PROGRAM) $(BENCH)
 
 archive: $(ARCHIVE)
 
-# rt staticlib proves the crates below one at a time, rt check side by side.
 $(ARCHIVE): $(SOURCES)
 	@mkdir -p target
-	@echo "proving and building the library; from nothing this takes two to three minutes (target/archive.log)"
-	@$(PROVE) target/archive.log check $(BELOW)
+	@echo "proving and building the library; from nothing this takes some minutes (target/archive.log)"
 	@rm -rf $(@D)
-	@$(PROVE) target/archive.log staticlib boundary
+	@$(PROVE) target/archive.log archive boundary
 
 shared: $(SHARED)
 
@@ -262,7 +260,7 @@ uninstall: one-prefix
 	test ! -d "$(INSTALLED)" || { cd "$(INSTALLED)" && rm -f $(INSTALLS); }
 
 clean:
-	rm -rf target
+	rm -rf target crates/*/out
 
 speed: archive
 	$(CARGO) run --release --manifest-path tests/speed/Cargo.toml

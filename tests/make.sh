@@ -54,18 +54,32 @@ mkdir "$scratch/rt"
 cat >"$scratch/rt/rt" <<'END'
 #!/bin/sh
 echo "fn whole::magnitude: proved"
-echo "rt: whole proved (unchanged since it was last proved)"
-echo "rt: limits proved (4 s)"
-echo "rt: schedule proved (3 s)"
-case "$*" in *bad*) exit 1 ;; esac
+for crate in 'whole 0' 'limits 7' 'schedule 3'; do
+    echo "crate ${crate% *}: modules loaded=57 checked=${crate#* }"
+    echo "logic=proved functions=1"
+done
+[ ! -e "${0%/*}/fails" ] || exit 1
 END
 chmod +x "$scratch/rt/rt"
 PATH=$scratch/rt:$PATH tools/prove "$scratch/log" check labels >"$scratch/said"
 printf '  limits is proved, 2 of 4\n  schedule is proved, 3 of 4\n' | cmp - "$scratch/said" || fail 'the crates that are proved'
 grep -qx 'fn whole::magnitude: proved' "$scratch/log" || fail "what rt prints is not in the log"
-! PATH=$scratch/rt:$PATH tools/prove "$scratch/log" check bad >/dev/null 2>"$scratch/said" || fail 'a proof that fails goes unnoticed'
+touch "$scratch/rt/fails"
+! PATH=$scratch/rt:$PATH tools/prove "$scratch/log" check labels >/dev/null 2>"$scratch/said" || fail 'a proof that fails goes unnoticed'
 grep -qx 'fn whole::magnitude: proved' "$scratch/said" || fail 'a proof that fails is not shown'
 [ "$(sed -n '/^[a-z]*:/p' crates.txt | wc -l)" -gt 20 ] || fail 'crates.txt'
+
+# the gate: what rt ci says is said, its last line last; where it fails, or a must-fail edit is bad, the gate fails
+mkdir "$scratch/gate"
+gate() {
+    printf '#!/bin/sh\n[ "$*" = ci ] || exit 9\necho "%s"\necho "4 passed, %d failed"\nexit %d\n' "$1" "$2" "$2" >"$scratch/rt/rt"
+    (cd "$scratch/gate" && PATH=$scratch/rt:$PATH "$here/tools/gate") >"$scratch/said" 2>"$scratch/wrong"
+}
+here=$PWD
+gate 'rt: ok; handles allowed: none; must-fail edits: 7 refused; every proof was done' 0 || fail 'the gate fails where rt ci passes'
+[ "$(tail -n 1 "$scratch/said")" = '4 passed, 0 failed' ] || fail "the gate's last line"
+! gate 'rt: ok; handles allowed: none; must-fail edits: 6 refused, 1 bad; every proof was done' 0 || fail 'the gate passes a bad edit'
+! gate 'rt: one is not proved' 1 || fail 'the gate passes what rt ci does not'
 
 # no rt on the path: a plain message, and status 2, from make too
 mkdir "$scratch/bare"

@@ -12,8 +12,8 @@ import unittest
 ROOT = pathlib.Path(__file__).resolve().parents[2]
 TREE = {
     'crates/fit/specs/Track.antt': '''-- A module.
-unfoldable pub trackRule : Given → Tracked
-trackRule g = tracked (trackNumber g) (results g)
+unfoldable pub track_rule : Given → Tracked
+track_rule g = tracked (track_number g) (results g)
 
 pub record Given : Type 0 where
   pub clock : List ℤ
@@ -21,7 +21,7 @@ pub record Given : Type 0 where
 pub tabulate {ℓ} : {A : Type ℓ} → List A
 ''',
     'crates/fit/specs/Deep/Inside.antt': 'pub deep : ℕ\n',
-    'crates/fit/proofs/Laws.antt': '''use lib.{named}
+    'crates/fit/proofs/Laws.antt': '''use Rattle.fit.specs.Track.{named}
 pub sum-place² :
     ℕ
 module _ (n : ℕ) where
@@ -32,10 +32,11 @@ uses-hidden x = λ (hidden : ℕ). hidden
 ''',
     'crates/fit/src/lib.rt': '''const WEIGHTS: [i64; 2] = [1, 2];
 // fn commented(a: u8) -> u8 ensures { x }
+#[tactic(auto, unfolding(crate::specs::Track::track_rule))]
 pub fn track(a: &[i64], b: fn(u8) -> u8) -> u32
-    requires { ⌜ record { a = 1 } ⌝ }
-    ensures answer { λ r. ⌜ r ≡ record { a = 1 } ⌝ }
-    ensures accurate { λ r. ⌜ T ⌝ }
+    requires { All a.now (λ x. record { a = x }) }
+    ensures answer { result ≡ record { a = 1 } }
+    ensures accurate { result ≡ 0 → Near result }
 {
     let Fitted::Line { midpoint } = answer else { return 1; };
     0
@@ -45,12 +46,14 @@ fn silent(a: u8) -> u8 {
 }
 ''',
     'crates/fit/src/sums.rt': '''fn place(j: usize) -> [i64; 52]
-    ensures { λ r. ⌜ T ⌝ }
+    requires low { 0 ≤ j }
+    requires high { j < 52 }
+    ensures { Placed result.now j }
 {
     0
 }
 fn lent<'a>(a: &'a [i64], b: &'a [i64]) -> u32
-    ensures { λ r. ⌜ T ⌝ }
+    ensures { result ≡ 0 }
 {
     0
 }
@@ -63,11 +66,11 @@ fn lent<'a>(a: &'a [i64], b: &'a [i64]) -> u32
     'tests/boundary/mutants.py': "MUTANTS = [('ties away from zero', 'lib.rs', '', '')]\n",
     'docs/REFUSALS.md': 'text\n',
 }
-GOOD = ['`def fit/Track trackRule`', '`def fit/Track Given`', '`def fit/Track clock`', '`def fit/Track tabulate`',
+GOOD = ['`def fit/Track track_rule`', '`def fit/Track Given`', '`def fit/Track clock`', '`def fit/Track tabulate`',
         '`def fit/Deep/Inside deep`', '`law fit/Laws sum-place²`', '`law fit/Laws inner`',
         '`fn fit::track answer`', '`fn fit::track accurate`', '`fn fit::place`', '`fn fit::sums::place`', '`fn fit::lent`',
         '`item fit::WEIGHTS` reader', '`code fit/lib.rt let Fitted::Line` reader',
-        '`def fit/Track trackRule` `edit fit/length_779`', '`test reference within` test only',
+        '`def fit/Track track_rule` `edit fit/length_779`', '`test reference within` test only',
         '`test c corrections` test only', '`bench fit all -51` test only', '`mutant ties away from zero` test only',
         '`file docs/REFUSALS.md` reader', 'reader']
 # what stands in a row, and a part of the message
@@ -75,16 +78,16 @@ BAD = [
     ('', 'nothing carries it'), ('by the code', 'nothing carries it'), ('`edit fit/length_779`', 'nothing carries it'),
     ('`test reference within`', 'nothing carries it'), ('`file docs/REFUSALS.md`', 'nothing carries it'),
     ('`fn fit::track answer` test only', 'beside a definition'), ('test only', 'without a test'),
-    ('`def fit/Track trackRul`', 'no trackRul in module fit/Track'), ('`def fit/Track`', 'no name in module'),
-    ('`def fit/Track tracked`', 'no tracked in module'), ('`def fit/Trace trackRule`', 'no module fit/Trace'),
-    ('`def fit/Laws inner`', 'no module fit/Laws'), ('`law fit/Track trackRule`', 'no module fit/Track'), ('`law fit/Laws local`', 'no local in module'),
+    ('`def fit/Track track_rul`', 'no track_rul in module fit/Track'), ('`def fit/Track`', 'no name in module'),
+    ('`def fit/Track tracked`', 'no tracked in module'), ('`def fit/Trace track_rule`', 'no module fit/Trace'),
+    ('`def fit/Laws inner`', 'no module fit/Laws'), ('`law fit/Track track_rule`', 'no module fit/Track'), ('`law fit/Laws local`', 'no local in module'),
     ('`law fit/Laws named`', 'no named in module'), ('`law fit/Laws hidden`', 'no hidden in module'),
     ('`law fit/Laws uses-hidden`', 'no uses-hidden in module'),
     ('`fn fit::track`', 'no clause without a name'), ('`fn fit::track written`', 'no clause written'),
     ('`fn fit::silent`', 'no clause without a name'), ('`fn fit::commented`', 'no function'),
     ('`fn fit::other::place`', 'no function'), ('`fn line::track answer`', 'no function'),
     ('`item fit::TABLE` reader', 'no struct'), ('`code fit/lib.rt let Fitted::Curve` reader', 'no let Fitted::Curve'),
-    ('`code fit/more.rt let` reader', 'no source'), ('`def fit/Track trackRule` `edit fit/length_778`', 'no edit'),
+    ('`code fit/more.rt let` reader', 'no source'), ('`def fit/Track track_rule` `edit fit/length_778`', 'no edit'),
     ('`test reference helper` test only', 'no test'), ('`test c within` test only', 'no test'),
     ('`bench fit all -5` test only', 'no case'), ('`mutant ties` test only', 'no mutant'),
     ('`file docs/NONE.md` reader', 'no file'), ('`edt fit/length_779` reader', 'not a form'),
@@ -117,10 +120,10 @@ class Clauses(unittest.TestCase):
                          (0, 'clauses: %d clauses, %d references, all found\n' % (len(GOOD), references)))
 
     def test_several_names_at_once(self):
-        ran = self.run_on(self.page('`def fit/Track trackRule clock` `law fit/Laws inner sum-place²`',
+        ran = self.run_on(self.page('`def fit/Track track_rule clock` `law fit/Laws inner sum-place²`',
                                     '`fn fit::track answer accurate` `edit fit/length_779 fit/first_block_n_times`'))
         self.assertEqual((ran.returncode, ran.stdout), (0, 'clauses: 2 clauses, 8 references, all found\n'))
-        ran = self.run_on(self.page('`def fit/Track trackRule watch`', '`edit fit/length_779 fit/length_778` reader'))
+        ran = self.run_on(self.page('`def fit/Track track_rule watch`', '`edit fit/length_779 fit/length_778` reader'))
         self.assertEqual([line.split(': ', 1)[1] for line in ran.stdout.splitlines()],
                          ['`def fit/Track watch`: no watch in module fit/Track',
                           '`edit fit/length_778`: no edit fit/length_778'])
@@ -150,12 +153,12 @@ class Clauses(unittest.TestCase):
     def test_the_column_says_the_form(self):
         head = '| Clause | Definition | Promise and theorem | Wrong programs | Tests |\n|---|---|---|---|---|\n'
         row = '| one | %s | %s | %s | %s |\n'
-        good = ('`fit/Track trackRule clock`', '`fit::track answer`, `fit/Laws inner`', '`fit/length_779 first_block_n_times`',
+        good = ('`fit/Track track_rule clock`', '`fit::track answer`, `fit/Laws inner`', '`fit/length_779 first_block_n_times`',
                 '`reference within`, `mutant ties away from zero`')
         ran = self.run_on(head + row % good)
         self.assertEqual((ran.returncode, ran.stdout), (0, 'clauses: 1 clauses, 8 references, all found\n'))
         for column, bad, message in ((0, '`fit/Laws inner`', 'no module'), (0, '`fit/Track watch`', 'no watch in module'),
-                                     (1, '`fit::track written`', 'no clause written'), (1, '`fit/Track trackRule`', 'no module'),
+                                     (1, '`fit::track written`', 'no clause written'), (1, '`fit/Track track_rule`', 'no module'),
                                      (2, '`fit/length_779 length_778`', 'no edit fit/length_778'), (3, '`c within`', 'no test')):
             ran = self.run_on(head + row % (*good[:column], bad, *good[column + 1:]))
             self.assertEqual(ran.returncode, 1, bad)
@@ -173,9 +176,9 @@ class Clauses(unittest.TestCase):
 
     def test_write(self):
         head = '| Clause | Definition | Wrong programs |\n|---|---|---|\n'
-        many = ', '.join(['`def fit/Track trackRule clock`'] * 5)
+        many = ', '.join(['`def fit/Track track_rule clock`'] * 5)
         after = 'Some text.\n\n' + head + ('| one | %s | `fit/length_779 first_block_n_times` |\n| | %s | |\n| two | reader | |\n'
-                                         % tuple(', '.join(['`fit/Track trackRule clock`'] * k) for k in (4, 1)))
+                                         % tuple(', '.join(['`fit/Track track_rule clock`'] * k) for k in (4, 1)))
         before = 'Some text.\n\n' + head + ('| one | %s | `edit fit/length_779`, `edit fit/first_block_n_times` |\n| two | reader | |\n' % many)
         for text in before, after:
             self.assertEqual(self.run_on(text, '--write').returncode, 0)

@@ -16,7 +16,7 @@ from loading import loaded  # noqa: E402
 
 FUNCTION = '''
 %spub fn again(a: u8) -> u8
-    ensures same { λ r. ⌜ r ≡ placedWithin a ⌝ }
+    ensures same { result ≡ placed_within a }
 {
     a
 }
@@ -30,7 +30,7 @@ class Evidence(unittest.TestCase):
         cls.addClassCleanup(scratch.cleanup)
         cls.root = pathlib.Path(scratch.name)
         for part in 'crates', 'docs', 'tools':
-            shutil.copytree(ROOT / part, cls.root / part)
+            shutil.copytree(ROOT / part, cls.root / part, ignore=shutil.ignore_patterns('out'))
         for part in 'crates.txt', 'include/trackline.h', 'README.md':
             (cls.root / part).parent.mkdir(exist_ok=True)
             shutil.copy(ROOT / part, cls.root / part)
@@ -67,7 +67,7 @@ class Evidence(unittest.TestCase):
         path = self.kept('crates/lent/src/lib.rt')
         path.write_text(path.read_text() + FUNCTION % '// The same. And more.\n')
         new = self.rows('contracts')[0]
-        self.assertIn('| `lent::again` | same | `placedWithin` | The same |', new)
+        self.assertIn('| `lent::again` | same | `placed_within` | The same |', new)
         self.assertEqual(len(new), 2, 'the row, and the count of the functions')
 
     def test_a_function_passed_on(self):

@@ -1,5 +1,6 @@
 // How many cases were tried, and how many went wrong.
 use crate::print::Row;
+use std::io::Stdout;
 use std::num::wrapping_add_u32;
 
 #[derive(Clone, Copy)]
@@ -27,12 +28,12 @@ impl Tally {
         }
     }
 
-    pub fn print(self) {
+    pub fn print(self, to: Stdout) {
         Row::new()
             .number(self.cases as i64)
             .text(b" cases, ")
             .number(self.wrong as i64)
             .text(b" wrong")
-            .print();
+            .print(to);
     }
 }

@@ -1,5 +1,7 @@
 // Rows of text for standard output.
-use libc::STDOUT_FILENO;
+use std::fmt;
+use std::fmt::Write;
+use std::io::Stdout;
 
 // More than the longest row has.
 const WIDTH: usize = 192;
@@ -34,12 +36,9 @@ impl Row {
     }
 
     pub fn number(self, value: i64) -> Row {
-        let mut digits = [0u8; 20];
-        let n = io::decimal(whole::magnitude(value), &mut digits);
-        if value < 0 {
-            return self.text(b"-").text(&digits[..n]);
-        }
-        self.text(&digits[..n])
+        let mut row = self;
+        let _ = write!(row, "{value}");
+        row
     }
 
     // Goes on at a column, or where the row is, one blank behind it, if that is further.
@@ -51,15 +50,24 @@ impl Row {
         next
     }
 
-    fn write(self) {
+    // A write that fails goes unnoticed.
+    fn write(self, to: Stdout) {
         let bytes = self.bytes;
         let at = self.at;
         if at <= WIDTH {
-            io::write_all(STDOUT_FILENO, &bytes[0..at]);
+            let _ = to.write_all(&bytes[0..at]);
         }
     }
 
-    pub fn print(self) {
-        self.text(b"\n").write()
+    pub fn print(self, to: Stdout) {
+        self.text(b"\n").write(to)
+    }
+}
+
+// What is formatted goes on where the row is.
+impl Write for Row {
+    fn write_str(&mut self, text: &str) -> fmt::Result {
+        *self = self.text(text.as_bytes());
+        Ok(())
     }
 }

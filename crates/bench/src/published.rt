@@ -7,13 +7,25 @@ use crate::counts::Tally;
 use crate::lines::{FILL, report_line};
 use crate::replies::{Operation, close, opened};
 use decode::signed64;
-use libc::STDIN_FILENO;
 use line::{Labels, Numbers};
+use std::io::{Read, Stdin, Stdout};
 
 const RECORD: usize = 240;
 
 // A bound, so that the reading ends. No input has as many.
 const MOST_RECORDS: u32 = 1000;
+
+// Reads until the buffer is full, the input ends or a read fails, and gives how many bytes stand at the buffer's front.
+fn read_full(from: &mut Stdin, buffer: &mut [u8]) -> usize {
+    let mut done = 0;
+    while done < buffer.len() {
+        match from.read(&mut buffer[done..]) {
+            Ok(0) | Err(_) => return done,
+            Ok(n) => done += n,
+        }
+    }
+    done
+}
 
 // The labels stand in a record as in a hire block that begins at its byte 20.
 fn labels(record: &[u8]) -> Labels
@@ -38,32 +50,39 @@ fn numbers(record: &[u8; 240]) -> Numbers {
 }
 
 // The parts of a record beside what Line gave.
-fn report_record(record: &[u8], number: u32, lent: &[u8]) -> bool
+fn report_record(to: Stdout, record: &[u8], number: u32, lent: &[u8]) -> bool
     requires { length «record».now ≡ 240 }
 {
-    report_line(&record[0..24], number, lent, record[126], &record[127..])
+    report_line(
+        to,
+        &record[0..24],
+        number,
+        lent,
+        record[126],
+        &record[127..],
+    )
 }
 
-fn try_line(record: &[u8; 240]) -> bool {
+fn try_line(to: Stdout, record: &[u8; 240]) -> bool {
     let mut lent = [FILL; 113];
     let number = line::line(labels(record), numbers(record), &mut lent);
-    report_record(record, number, &lent)
+    report_record(to, record, number, &lent)
 }
 
-pub fn published_cases(tally: Tally) -> Tally {
+pub fn published_cases(mut from: Stdin, to: Stdout, tally: Tally) -> Tally {
     let mut all = tally;
     let mut records: u32 = 0;
     while records < MOST_RECORDS {
         let mut record = [0u8; RECORD];
-        let n = io::read_full(STDIN_FILENO, &mut record);
+        let n = read_full(&mut from, &mut record);
         if n == 0 {
             return all;
         }
         if n < RECORD {
-            close(opened(Operation::Line, b"a record is cut off"), false);
+            close(to, opened(Operation::Line, b"a record is cut off"), false);
             return all.with(false);
         }
-        all = all.with(try_line(&record));
+        all = all.with(try_line(to, &record));
         records += 1;
     }
     all

@@ -1,6 +1,7 @@
 // What an operation gave beside what it should give: one row of a report for each case.
 use crate::print::Row;
 use fit::{Fitted, Scattered, Smoothed};
+use std::io::Stdout;
 
 // Where a row's columns begin.
 const CASE: usize = 9;
@@ -113,11 +114,11 @@ fn said(row: Row, operation: Operation, reply: Reply) -> Row {
 }
 
 // Ends a row, with a mark where the case went wrong.
-pub fn close(row: Row, right: bool) {
+pub fn close(to: Stdout, row: Row, right: bool) {
     if right {
-        row.print();
+        row.print(to);
     } else {
-        row.text(b"   WRONG").print();
+        row.text(b"   WRONG").print(to);
     }
 }
 
@@ -128,10 +129,10 @@ pub fn compared(operation: Operation, case: &[u8], gave: Reply, should: Reply) -
 }
 
 // Reports a case and answers whether it went right.
-pub fn report(operation: Operation, case: &[u8], gave: Reply, should: Reply) -> bool {
+pub fn report(to: Stdout, operation: Operation, case: &[u8], gave: Reply, should: Reply) -> bool {
     let right = (gave.number == should.number)
         & (gave.first == should.first)
         & (gave.second == should.second);
-    close(compared(operation, case, gave, should), right);
+    close(to, compared(operation, case, gave, should), right);
     right
 }

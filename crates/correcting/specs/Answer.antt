@@ -1,7 +1,7 @@
 -- What `correcting` answers to Track: the number of the refusal, how far the limit test on the measurements reads
 -- (document 02, Job 4), and what the lent rows hold afterwards. Track's own rule does not name it.
 -- Assumes nothing.
-use Rattle.std.specs.Prelude.{ℕ, zero, suc, ◌*◌, ◌/◌, Bool, cond, ◌||◌, List, ℤ, set}
+use Rattle.std.specs.Prelude.{ℕ, zero, suc, ◌/◌, Bool, cond, ◌||◌, List, ℤ, set}
 use Rattle.limits.specs.Refusal.{◌when◌, ◌then◌}
 use Rattle.limits.specs.Limits.{delays_beyond_lem, measurement_limit, measurement_least, measurement_most, delay_limit}
 use Rattle.limits.specs.Lists.{any_beyond_lem}

@@ -36,8 +36,8 @@ pub fn corrected(
     troposphere: i64,
     clock: i64,
 ) -> Values
-    requires within { Within value_limit smoothed × Within delay_limit int × Within delay_limit cab × Within delay_limit refdly × Within delay_limit gd }
-    requires within_2 { Within geometry_limit geometry × Within delay_limit relativity
+    requires smoothed_and_delays { Within value_limit smoothed × Within delay_limit int × Within delay_limit cab × Within delay_limit refdly × Within delay_limit gd }
+    requires corrections { Within geometry_limit geometry × Within delay_limit relativity
         × Within delay_limit ionosphere × Within delay_limit troposphere × Within delay_limit clock }
     ensures { (result.a ≡ to_a (given [] int cab refdly gd
         (geometry ∷ []) (relativity ∷ []) (ionosphere ∷ []) (troposphere ∷ []) (clock ∷ [])) (pos steps) 0 smoothed)
@@ -70,12 +70,12 @@ fn corrected_at(
     troposphere: &[i64],
     clock: &[i64],
 ) -> Values
-    requires within { Within value_limit smoothed × Within delay_limit int × Within delay_limit cab × Within delay_limit refdly × Within delay_limit gd }
-    requires j_in_bounds { (j < length geometry.now) × (any_beyond_lem geometry_limit geometry.now ≡ false) }
-    requires j_in_bounds_2 { (j < length relativity.now) × (any_beyond_lem delay_limit relativity.now ≡ false) }
-    requires j_in_bounds_3 { (j < length ionosphere.now) × (any_beyond_lem delay_limit ionosphere.now ≡ false) }
-    requires j_in_bounds_4 { (j < length troposphere.now) × (any_beyond_lem delay_limit troposphere.now ≡ false) }
-    requires j_in_bounds_5 { (j < length clock.now) × (any_beyond_lem delay_limit clock.now ≡ false) }
+    requires smoothed_and_delays { Within value_limit smoothed × Within delay_limit int × Within delay_limit cab × Within delay_limit refdly × Within delay_limit gd }
+    requires geometry_inside { (j < length geometry.now) × (any_beyond_lem geometry_limit geometry.now ≡ false) }
+    requires relativity_inside { (j < length relativity.now) × (any_beyond_lem delay_limit relativity.now ≡ false) }
+    requires ionosphere_inside { (j < length ionosphere.now) × (any_beyond_lem delay_limit ionosphere.now ≡ false) }
+    requires troposphere_inside { (j < length troposphere.now) × (any_beyond_lem delay_limit troposphere.now ≡ false) }
+    requires clock_inside { (j < length clock.now) × (any_beyond_lem delay_limit clock.now ≡ false) }
     ensures { (result.a ≡ to_a (given [] int cab refdly gd
         geometry.now relativity.now ionosphere.now troposphere.now clock.now) (pos steps) j smoothed)
         × (result.b ≡ to_b (given [] int cab refdly gd
@@ -140,11 +140,11 @@ pub fn correct_blocks(
     c: &mut [i64; 52],
     d: &mut [i64; 52],
 ) -> Corrected
-    requires clock_value { wrong_sizes (given measurements.now int cab refdly gd
+    requires sizes_right { wrong_sizes (given measurements.now int cab refdly gd
         geometry.now relativity.now ionosphere.now troposphere.now clock.now) ≡ false }
-    requires clock_value_2 { others_beyond (given measurements.now int cab refdly gd
+    requires others_inside { others_beyond (given measurements.now int cab refdly gd
         geometry.now relativity.now ionosphere.now troposphere.now clock.now) ≡ false }
-    ensures value { result ≡ measurements_rule measurements.now }
+    ensures answer { result ≡ measurements_rule measurements.now }
     ensures a_after { a.new ≡ filled (whole_blocks measurements.now) (value_a (given measurements.now int cab refdly gd
         geometry.now relativity.now ionosphere.now troposphere.now
         clock.now)) a.old }

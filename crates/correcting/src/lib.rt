@@ -83,7 +83,7 @@ pub fn correct(
     c: &mut [i64; 52],
     d: &mut [i64; 52],
 ) -> Corrected
-    ensures value { result ≡ correct_rule (given measurements.now int cab refdly gd
+    ensures answer { result ≡ correct_rule (given measurements.now int cab refdly gd
         geometry.now relativity.now ionosphere.now troposphere.now
         clock.now) }
     ensures a_after { a.new ≡ filled (corrected_blocks (given measurements.now int cab refdly gd

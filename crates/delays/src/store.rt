@@ -81,8 +81,8 @@ fn gd(store: &[u8], version: u16, at: usize) -> i64
 // The set of entry k.
 pub fn set_of(store: &[u8], k: usize) -> Delays
     requires { k < 65536 }
-    ensures result_value { delays_reply result ≡ reply no_set 0 (set_of_lem store.now k) }
-    ensures delays_numbered { DelaysNumbered result }
+    ensures answer { delays_reply result ≡ reply no_set 0 (set_of_lem store.now k) }
+    ensures variant { DelaysNumbered result }
 {
     let version = unsigned16(store, 0);
     let at = 4 + 4 * count(store) + 8 * (group_width(version) * k);

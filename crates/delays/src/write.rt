@@ -43,7 +43,7 @@ fn put_group(version: u16, int: i64, cab: i64, refdly: i64, gd: i64, file: &mut 
 fn put_dates(store: &[u8], entries: usize, mjd: u32, file: &mut [u8])
     requires entries_value { entries ≡ count store.now }
     requires entries_in_bounds { 4 + 4 * entries ≤ length store.now }
-    requires store_in_bounds { length store.now + 4 ≤ length file.old }
+    requires file_room { length store.now + 4 ≤ length file.old }
     requires entries_bound { entries < 65535 }
     ensures { file.new ≡ placed file.old 0 (longer_dates store.now mjd) }
 {
@@ -69,7 +69,7 @@ pub fn longer(
     requires version_value { version ≡ unsigned_at 2 store.now 0 }
     requires entries_value { entries ≡ count store.now }
     requires entries_in_bounds { 4 + 4 * entries ≤ length store.now }
-    requires version_in_bounds { length store.now + 4 + 8 * group_width_lem version ≤ length file.old }
+    requires file_room { length store.now + 4 + 8 * group_width_lem version ≤ length file.old }
     requires entries_bound { entries < 65535 }
     ensures { file.new ≡ placed file.old 0 (longer_store store.now mjd int cab refdly gd) }
 {

@@ -1,12 +1,13 @@
 -- The figures of a track are accurate: what Smooth, Correct, Fit and Scatter of document 01 round, put together.
 -- Assumes nothing.
-use Rattle.std.specs.Prelude.{◌≡◌, List, [], ◌∷◌, ℕ, ◌+◌, ◌*◌, ◌≤◌, ◌<◌, ℤ, pos, ◌+ℤ◌, ◌-ℤ◌, ◌*ℤ◌}
+use Rattle.std.specs.Prelude.{◌≡◌, List, [], ◌∷◌, ℕ, ◌*◌, ◌≤◌, ◌<◌, ℤ, pos, ◌+ℤ◌, ◌-ℤ◌, ◌*ℤ◌}
 use Rattle.std.proofs.Common.{sym, ap, ◌∙◌, subst, subst₂, mul-le-mul_left, arith}
 use Rattle.whole.specs.Square.{squared, magnitude}
 use Rattle.whole.specs.Sum.{sum}
 use Rattle.whole.proofs.Identity.{identity, quote}
 use Rattle.whole.proofs.Linear.{le-by, le_is, lt-is}
-use Rattle.whole.proofs.Order.{◌⩽◌, ◌⋖◌, le_refl, le_of_eq, le_of_lt, lt-le-trans, le-shift, cancel-le, pos-le, pos-lt, pos-sub, zero-le-pos, mul-le, mul-le-mul, mul-nonneg, add-le, sub-nonneg, le_trans, square-nonneg, square-pos, square_le}
+use Rattle.whole.specs.Order.{◌⩽◌, ◌⋖◌}
+use Rattle.whole.proofs.Order.{le_refl, le_of_eq, le_of_lt, lt-le-trans, le-shift, cancel-le, pos-le, pos-lt, pos-sub, zero-le-pos, mul-le, mul-le-mul, mul-nonneg, add-le, sub-nonneg, le_trans, square-nonneg, square-pos, square_le}
 use Rattle.whole.proofs.Magnitudes.{magnitude-mul, magnitude-combined}
 use Rattle.limits.specs.declared.Numbers.{Numbers}
 use Rattle.exact.specs.Parabola.{LeastParabola, ExactSmoothed}
@@ -15,6 +16,7 @@ use Rattle.whole.specs.Table.{at}
 use Rattle.exact.specs.Corrected.{Given, block, to_a, to_b, steps}
 use Rattle.exact.specs.Accurate.{AccurateLine, AccurateScatter, AccurateTrack}
 use Rattle.exact.specs.Weights.{weights, place}
+use Rattle.exact.specs.Accuracy.{EarlierLine, EarlierScatter, SlopeWithin502}
 use Rattle.exact.proofs.Smoothing.{weights-exact}
 use Rattle.exact.proofs.Places.{span, span-is}
 use Rattle.exact.proofs.Fitting.{misfit-scaled, least-scaled}
@@ -300,29 +302,8 @@ coarser s n s-pos dsg-pos t =
 
 -- ---- what was promised before tenths were carried holds still
 
--- The promise of document 01 and of document 02, Job 3, in their words: a midpoint within 0.51 of its unit, a slope within 0.5 + n / (n² - 1).
-pub record EarlierLine (n : ℕ) (Y : ℕ → ℤ) (e midpoint slope : ℤ) : Type 0 where
-  pub midpoint_near : (P Q d : ℤ) → LeastLine n Y e P Q d → magnitude (pos 100 *ℤ d *ℤ midpoint -ℤ P) ⩽ pos 51 *ℤ d
-  pub slope_near : (P Q d : ℤ) → LeastLine n Y e P Q d
-      → pos 2 *ℤ (squared (pos n) -ℤ pos 1) *ℤ magnitude (d *ℤ slope -ℤ pos 10 *ℤ Q)
-      ⩽ (squared (pos n) -ℤ pos 1 +ℤ pos 2 *ℤ pos n) *ℤ d
-
--- A DSG within 51 ps of the root of M: M is at most (100 DSG + 51)² and, for a DSG from 1 up, at least (100 DSG - 51)².
-pub record EarlierScatter (n : ℕ) (Y : ℕ → ℤ) (e dsg : ℤ) : Type 0 where
-  pub at_most : (P Q d : ℤ) → LeastLine n Y e P Q d
-      → line_misfit n Y e P Q d ⩽ pos n *ℤ squared (pos 100 *ℤ dsg +ℤ pos 51) *ℤ squared (pos 2 *ℤ d *ℤ e)
-  pub at_least : (P Q d : ℤ) → LeastLine n Y e P Q d → pos 1 ⩽ dsg
-      → pos n *ℤ squared (pos 100 *ℤ dsg -ℤ pos 51) *ℤ squared (pos 2 *ℤ d *ℤ e) ⩽ line_misfit n Y e P Q d
-
-pub record EarlierTrack (n : ℕ) (g : Given) (f : Numbers) : Type 0 where
-  pub a : (Y : ℕ → ℤ) (e : ℤ) → ExactSmoothed n (block g) Y e → EarlierLine n (λ j. to_a g e j (Y j)) e f.refsv f.srsv
-  pub b : (Y : ℕ → ℤ) (e : ℤ) → ExactSmoothed n (block g) Y e → EarlierLine n (λ j. to_b g e j (Y j)) e f.refsys f.srsys
-  pub scatter : (Y : ℕ → ℤ) (e : ℤ) → ExactSmoothed n (block g) Y e → EarlierScatter n (λ j. to_b g e j (Y j)) e f.dsg
-  pub c : EarlierLine n (at g.troposphere) (pos 1) f.mdtr f.smdt
-  pub d : EarlierLine n (at g.ionosphere) (pos 1) f.mdio f.smdi
-
 -- with one step a picosecond a midpoint is within 0.505, and the rest is word for word what it was
-earlier-line : (n : ℕ) {Y : ℕ → ℤ} {e midpoint slope : ℤ} → AccurateLine 1 n Y e midpoint slope → EarlierLine n Y e midpoint slope
+pub earlier-line : (n : ℕ) {Y : ℕ → ℤ} {e midpoint slope : ℤ} → AccurateLine 1 n Y e midpoint slope → EarlierLine n Y e midpoint slope
 earlier-line n {midpoint = midpoint} {slope = slope} f =
     record {
       midpoint_near = λ P Q d l.
@@ -337,7 +318,7 @@ earlier-line n {midpoint = midpoint} {slope = slope} f =
         → (m +ℤ pos 2 *ℤ n) *ℤ d -ℤ pos 2 *ℤ m *ℤ u ≡ (pos 1 *ℤ m +ℤ pos 2 *ℤ n) *ℤ d -ℤ pos 2 *ℤ pos 1 *ℤ m *ℤ u
     units m n u d = identity (m ∷ n ∷ u ∷ d ∷ []) (search quote depth 20 fits 4000) tt
 
-earlier-scatter : (n : ℕ) {Y : ℕ → ℤ} {e dsg : ℤ} → AccurateScatter 1 n Y e dsg → EarlierScatter n Y e dsg
+pub earlier-scatter : (n : ℕ) {Y : ℕ → ℤ} {e dsg : ℤ} → AccurateScatter 1 n Y e dsg → EarlierScatter n Y e dsg
 earlier-scatter n {Y} {e} {dsg} f =
     record {
       at_most = λ P Q d l. le-shift (f.at_most P Q d l) (above (pos n) dsg (squared (pos 2 *ℤ d *ℤ e)) (line_misfit n Y e P Q d));
@@ -353,17 +334,6 @@ earlier-scatter n {Y} {e} {dsg} f =
         → W -ℤ n *ℤ squared (pos 100 *ℤ g -ℤ pos 51) *ℤ M
         ≡ squared (pos 1) *ℤ W -ℤ n *ℤ squared (pos 1 *ℤ (pos 100 *ℤ g -ℤ pos 50) -ℤ pos 1) *ℤ M
     below n g M W = identity (n ∷ g ∷ M ∷ W ∷ []) (search quote depth 20 fits 4000) tt
-
-pub earlier-track : (s n : ℕ) → 0 < s → {g : Given} {f : Numbers} → pos 0 ⩽ f.dsg → AccurateTrack s n g f → EarlierTrack n g f
-earlier-track s n s-pos {g} {f} dsg-pos t =
-    let u : AccurateTrack 1 n g f = coarser s n s-pos dsg-pos t in
-    record {
-      a = λ Y e x. earlier-line n (u.a Y e x);
-      b = λ Y e x. earlier-line n (u.b Y e x);
-      scatter = λ Y e x. earlier-scatter n (u.scatter Y e x);
-      c = earlier-line n u.c;
-      d = earlier-line n u.d;
-    }
 
 -- ---- a full track's bound on slopes: 0.502 of a unit
 
@@ -391,11 +361,6 @@ tilted-by s m n u d m-pos d-pos error tilted =
         let ρ : List ℤ = x ∷ y ∷ v ∷ z ∷ [] in
         le-by ρ (search quote depth 20) (omega (arith, le_is ρ (search quote depth 20) p, le_is ρ (search quote depth 20) q))
 
--- A slope within 0.502 of its unit, which is less than the 0.52 of document 01.
-abbrev pub SlopeWithin502 : (n : ℕ) (Y : ℕ → ℤ) (e slope : ℤ) → Type 0
-SlopeWithin502 n Y e slope =
-    (P Q d : ℤ) → LeastLine n Y e P Q d → (pos 1000 *ℤ magnitude (d *ℤ slope -ℤ pos 10 *ℤ Q)) ⩽ (pos 502 *ℤ d)
-
 pub slope-thousandths : (n : ℕ) → 51 ≤ n → {Y : ℕ → ℤ} {e midpoint slope : ℤ} → AccurateLine steps n Y e midpoint slope → SlopeWithin502 n Y e slope
 slope-thousandths n h {slope = slope} f P Q d l =
     let ρ : List ℤ = magnitude (d *ℤ slope -ℤ pos 10 *ℤ Q) ∷ d ∷ [] in
@@ -409,15 +374,3 @@ slope-thousandths n h {slope = slope} f P Q d l =
   where
     above : pos 0 ⋖ squared (pos n) -ℤ pos 1
     above = lt-le-trans (pos-lt {m = 0} {n = 50 * n} (omega arith)) (tilt n h)
-
--- The four slopes of a full track.
-pub full-track-slopes : (g : Given) (f : Numbers) → AccurateTrack steps 52 g f
-    → ((Y : ℕ → ℤ) (e : ℤ) → ExactSmoothed 52 (block g) Y e
-    → SlopeWithin502 52 (λ j. to_a g e j (Y j)) e f.srsv × SlopeWithin502 52 (λ j. to_b g e j (Y j)) e f.srsys)
-    × SlopeWithin502 52 (at g.troposphere) (pos 1) f.smdt
-    × SlopeWithin502 52 (at g.ionosphere) (pos 1) f.smdi
-full-track-slopes g f t = (
-  λ Y e x. (slope-thousandths 52 (omega arith) (t.a Y e x), slope-thousandths 52 (omega arith) (t.b Y e x)),
-  slope-thousandths 52 (omega arith) t.c,
-  slope-thousandths 52 (omega arith) t.d,
-)

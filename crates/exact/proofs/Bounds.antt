@@ -7,7 +7,8 @@ use Rattle.std.proofs.Common.{sym, ap, ◌∙◌, subst, arith}
 use Rattle.whole.specs.Square.{magnitude}
 use Rattle.whole.specs.Sum.{sum}
 use Rattle.whole.proofs.Identity.{identity, quote}
-use Rattle.whole.proofs.Order.{◌⩽◌, ◌⋖◌, le_trans, le_of_eq, le_of_lt, pos-lt, zero-le-pos, mul-nonneg, mul-pos, mul-le}
+use Rattle.whole.specs.Order.{◌⩽◌, ◌⋖◌}
+use Rattle.whole.proofs.Order.{le_trans, le_of_eq, le_of_lt, pos-lt, zero-le-pos, mul-nonneg, mul-pos, mul-le}
 use Rattle.whole.proofs.Magnitudes.{magnitude-mul, magnitude-nonneg, magnitude-combined}
 use Rattle.whole.proofs.Sums.{sum-eq, sums-le, sums, sum-scale, magnitude-sum, magnitude-sum-le}
 use Rattle.exact.specs.Line.{LeastLine}

@@ -10,7 +10,8 @@ use Rattle.whole.specs.Square.{squared}
 use Rattle.whole.specs.Sum.{sum}
 use Rattle.whole.proofs.Ring.{eq-of-sub}
 use Rattle.whole.proofs.Identity.{identity, quote}
-use Rattle.whole.proofs.Order.{◌⩽◌, ◌⋖◌, mul-pos, cancel-eq, pos-lt, square-mul}
+use Rattle.whole.specs.Order.{◌⩽◌, ◌⋖◌}
+use Rattle.whole.proofs.Order.{mul-pos, cancel-eq, pos-lt, square-mul}
 use Rattle.whole.proofs.Sums.{sum-eq, sums, sum-cong}
 use Rattle.exact.specs.Line.{twice_seconds, line_residual, line_misfit, LeastLine}
 use Rattle.exact.proofs.LeastSquares.{misfit, Kind, Orthogonal, orthogonal, least}

@@ -7,7 +7,8 @@ use Rattle.std.proofs.Math.Path.{ap}
 use Rattle.whole.specs.Square.{squared}
 use Rattle.whole.specs.Sum.{sum}
 use Rattle.whole.proofs.Identity.{identity, quote}
-use Rattle.whole.proofs.Order.{◌⩽◌, ◌⋖◌, le_antisymm, le-slack, le-shift, lt-le-trans, mul-pos, cancel-le, square-nonneg, square-pos, square-zero}
+use Rattle.whole.specs.Order.{◌⩽◌, ◌⋖◌}
+use Rattle.whole.proofs.Order.{le_antisymm, le-slack, le-shift, lt-le-trans, mul-pos, cancel-le, square-nonneg, square-pos, square-zero}
 use Rattle.whole.proofs.Sums.{sum-eq, sums, sum-cong, sum-squares-nonneg}
 
 -- the sum of squared residuals of the curve p / d from the data y, times d²

@@ -6,3 +6,4 @@ pub mod Fitting
 pub mod Bounds
 pub mod Scattering
 pub mod Accuracy
+pub mod Tracks

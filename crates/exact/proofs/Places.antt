@@ -8,7 +8,8 @@ use Rattle.std.proofs.Math.IntN.{pos}
 use Rattle.whole.specs.Square.{squared, magnitude}
 use Rattle.whole.specs.Sum.{sum}
 use Rattle.whole.proofs.Identity.{identity, quote}
-use Rattle.whole.proofs.Order.{◌⩽◌, le_refl, le-shift, pos-sub}
+use Rattle.whole.specs.Order.{◌⩽◌}
+use Rattle.whole.proofs.Order.{le_refl, le-shift, pos-sub}
 use Rattle.whole.proofs.Magnitudes.{magnitude-neg}
 use Rattle.whole.proofs.Sums.{sum-cong, sum_first}
 use Rattle.exact.specs.Line.{twice_mean_date, twice_seconds}

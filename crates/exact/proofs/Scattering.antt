@@ -11,7 +11,8 @@ use Rattle.whole.specs.Square.{squared, magnitude}
 use Rattle.whole.specs.Sum.{sum}
 use Rattle.whole.proofs.Identity.{identity, quote}
 use Rattle.whole.proofs.Linear.{le-by, le_is}
-use Rattle.whole.proofs.Order.{◌⩽◌, ◌⋖◌, lt-le-trans, le_trans, le_of_eq, le-slack, le-shift, add-le, sub-nonneg, zero-le-pos, mul-nonneg, mul-le, cancel-le, square-nonneg, square_le, square-mul, square-pos}
+use Rattle.whole.specs.Order.{◌⩽◌, ◌⋖◌}
+use Rattle.whole.proofs.Order.{lt-le-trans, le_trans, le_of_eq, le-slack, le-shift, add-le, sub-nonneg, zero-le-pos, mul-nonneg, mul-le, cancel-le, square-nonneg, square_le, square-mul, square-pos}
 use Rattle.whole.proofs.Magnitudes.{magnitude-nonneg, square-magnitude}
 use Rattle.whole.proofs.Sums.{sum-eq, sums-le, sums, sum-squares-nonneg}
 use Rattle.exact.specs.Line.{line_residual, line_misfit, LeastLine}

@@ -7,7 +7,8 @@ use Rattle.whole.specs.Square.{squared}
 use Rattle.whole.specs.Sum.{sum}
 use Rattle.whole.specs.Table.{tabulate, at}
 use Rattle.whole.proofs.Identity.{identity, quote}
-use Rattle.whole.proofs.Order.{◌⋖◌, cancel-eq}
+use Rattle.whole.specs.Order.{◌⋖◌}
+use Rattle.whole.proofs.Order.{cancel-eq}
 use Rattle.whole.proofs.Sums.{sum-eq, sums, sum-cong}
 use Rattle.whole.proofs.Tables.{tabulate-get_or}
 use Rattle.exact.specs.Parabola.{second, parabola_misfit, LeastParabola, ExactSmoothed}

@@ -5,3 +5,5 @@ pub mod Corrected
 pub mod Accurate
 -- The table of the program's weights, which none of those uses.
 pub mod Weights
+-- What theorems say beyond it.
+pub mod Accuracy

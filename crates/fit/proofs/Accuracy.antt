@@ -9,12 +9,15 @@ use lib.IntN.{ℤ, pos, ◌+ℤ◌, ◌-ℤ◌, ◌*ℤ◌}
 use Rattle.whole.specs.Square.{squared}
 use Rattle.whole.specs.Sum.{sum}
 use Rattle.whole.proofs.Identity.{identity, quote}
-use Rattle.whole.proofs.Order.{◌⩽◌, ◌⋖◌, le_of_lt, zero-le-pos, pos-le-is}
+use Rattle.whole.specs.Order.{◌⩽◌, ◌⋖◌}
+use Rattle.whole.proofs.Order.{le_of_lt, zero-le-pos, pos-le-is}
 use Rattle.whole.proofs.Rounding.{nearest-within}
 use Rattle.whole.specs.Table.{at}
 use Rattle.exact.specs.Corrected.{Given, block, to_a, to_b, steps}
 use Rattle.exact.specs.Accurate.{AccurateTrack}
-use Rattle.exact.proofs.Accuracy.{RoundedFit, RoundedScatter, accurate-track, EarlierTrack, earlier-track}
+use Rattle.exact.specs.Accuracy.{EarlierTrack}
+use Rattle.exact.proofs.Accuracy.{RoundedFit, RoundedScatter, accurate-track}
+use Rattle.exact.proofs.Tracks.{earlier-track}
 use Rattle.exact.specs.Weights.{weights, place}
 use Rattle.exact.proofs.Places.{span}
 use Rattle.exact.proofs.Bounds.{Rounded}

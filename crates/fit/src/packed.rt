@@ -33,7 +33,7 @@ fn fifteen(part: &[u8]) -> [i64; 15]
 // measurement beyond its limit: 2 where there is one. It counts the measurements that its limit test reads.
 fn smooth_blocks(measurements: &[u8], n: usize, row: &mut [i64; 52]) -> Corrected
     requires { (n ≤ 52) × (120 * n ≤ length measurements.now) }
-    ensures value { result ≡ measurements_rule (signeds_at measurements.now 0 8 (15 * n)) }
+    ensures answer { result ≡ measurements_rule (signeds_at measurements.now 0 8 (15 * n)) }
     ensures row_after { row.new ≡ filled (whole_blocks (signeds_at measurements.now 0 8 (15 * n)))
         (smoothed_of (signeds_at measurements.now 0 8 (15 * n))) row.old }
 {
@@ -129,8 +129,8 @@ fn correct_groups(
     d: &mut [i64; 52],
 ) -> u32
     requires { (n ≤ 52) × (40 * n ≤ length corrections.now) × (any_beyond_lem value_limit smoothed.now ≡ false) }
-    ensures value { result ≡ 2 when others_beyond (grouped n [] int cab refdly gd corrections.now) }
-    ensures a_after { result ≡ 0 → (a.new ≡ filled n (λ j. to_a (grouped n [] int cab refdly gd corrections.now) (pos steps) j
+    ensures answer { result ≡ 2 when others_beyond (grouped n [] int cab refdly gd corrections.now) }
+    ensures rows_after { result ≡ 0 → (a.new ≡ filled n (λ j. to_a (grouped n [] int cab refdly gd corrections.now) (pos steps) j
         (at smoothed.now j)) a.old)
         × (b.new ≡ filled n (λ j. to_b (grouped n [] int cab refdly gd corrections.now) (pos steps) j
         (at smoothed.now j)) b.old)

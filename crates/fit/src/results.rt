@@ -65,9 +65,9 @@ fn scatter_blocks(n: usize, values: &[i64]) -> Scattered
 // The ten numbers of corrected values, or what they are refused for: 3 to 5 by the fitted numbers, then Scatter's 6. Every value is inside Fit's
 // limit, as those of Track are (law corrected-within).
 pub fn ten_numbers(n: usize, a: &[i64], b: &[i64], c: &[i64], d: &[i64]) -> Found
-    requires le_n { (4 ≤ n) × (n ≤ 52) }
-    requires a_len { (length a.now ≡ 52) × (length b.now ≡ 52) × (length c.now ≡ 52) × (length d.now ≡ 52) }
-    requires a_value { (any_beyond_lem value_limit a.now ≡ false) × (any_beyond_lem value_limit b.now ≡ false)
+    requires few_blocks { (4 ≤ n) × (n ≤ 52) }
+    requires lengths { (length a.now ≡ 52) × (length b.now ≡ 52) × (length c.now ≡ 52) × (length d.now ≡ 52) }
+    requires inside { (any_beyond_lem value_limit a.now ≡ false) × (any_beyond_lem value_limit b.now ≡ false)
         × (any_beyond_lem value_limit c.now ≡ false) × (any_beyond_lem value_limit d.now ≡ false) }
     ensures { result ≡ judged_rule (record_of n a.now b.now c.now d.now) }
 {

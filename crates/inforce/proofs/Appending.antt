@@ -14,7 +14,7 @@ use lib.ListN.{length, take, get_or, get_or-eq_default}
 use lib.Seq.{length-take-le, get_or-take}
 use borrow.Author.Tests.{eqb-true, eqb-false, eq-eqb, ne_eqb, ltb-true, ltb-false, le-ltb, le-leb, lt-leb, not-false}
 use Rattle.whole.proofs.Words.{fits-of}
-use Rattle.limits.specs.Refusal.{◌when◌, ◌then◌}
+use Rattle.limits.specs.Refusal.{◌when◌}
 use Rattle.limits.specs.Limits.{beyond, delay_limit}
 use Rattle.limits.specs.Lists.{any_beyond_lem}
 use Rattle.limits.proofs.Laws.{then-zero, when-zero, or-false, magnitude-within}

@@ -9,7 +9,7 @@ use lib.Dec.{eqb}
 use lib.ListN.{length, drop}
 use lib.Seq.{drop_at}
 use borrow.Author.Tests.{le-ltb}
-use Rattle.limits.specs.Refusal.{◌when◌, ◌then◌}
+use Rattle.limits.specs.Refusal.{◌then◌}
 use Rattle.limits.proofs.Laws.{then-zero, after-accepted}
 use Rattle.exact.specs.Corrected.{steps}
 use Rattle.exact.specs.Accurate.{AccurateTrack}

@@ -59,8 +59,11 @@ module _ (b : List ℕ) (room : ℕ) where
 module _ (b lent : List ℕ) where
   abbrev pub Promised : ℕ → List ℕ → Type 0
   Promised r after =
-      (r ≡ block_answer b (length lent))
-      × ((after ≡ block_after b lent) × (r ≡ 0 → AccurateTrack steps (blocks_in b) (block_given b) (read_numbers after)))
+      record {
+        answer : r ≡ block_answer b (length lent);
+        written : after ≡ block_after b lent;
+        accurate : r ≡ 0 → AccurateTrack steps (blocks_in b) (block_given b) (read_numbers after);
+      }
 
   kept : (block_answer b (length lent) ≡ 0 → ⊥) → lent ≡ block_after b lent
   unfolding block_after
@@ -68,7 +71,7 @@ module _ (b lent : List ℕ) where
 
   -- a refusal leaves the lent line as it was
   pub refused : (r : ℕ) → 0 < r → r ≡ block_answer b (length lent) → Promised r lent
-  refused r h e = (e, (kept (λ z. positive (e ∙ z)), λ z. absurd (positive z)))
+  refused r h e = record { answer = e; written = kept (λ z. positive (e ∙ z)); accurate = λ z. absurd (positive z) }
     where
       positive : r ≡ 0 → ⊥
       positive z = omega arith
@@ -86,10 +89,8 @@ module _ (b lent : List ℕ) where
   written x s e accurate z r after answer line =
       let g = block_given b in
       let is = found-numbers g x e z in
-      let number = line-answers b (length lent) s (sym (found_number g x e) ∙ z) in (
-        answer ∙ ap (λ (n : Numbers). line_answer (block_labels b) n (length lent)) is ∙ number,
-        (
-          line ∙ ap (λ (n : Numbers). line_after (block_labels b) n lent) is ∙ same_after number,
-          λ k. subst (AccurateTrack steps (blocks_in b) g) (sym (ap read_numbers line ∙ numbers-read (block_labels b) (found_numbers x) lent (sym answer ∙ k))) (accurate z),
-        ),
-      )
+      let number = line-answers b (length lent) s (sym (found_number g x e) ∙ z) in record {
+        answer = answer ∙ ap (λ (n : Numbers). line_answer (block_labels b) n (length lent)) is ∙ number;
+        written = line ∙ ap (λ (n : Numbers). line_after (block_labels b) n lent) is ∙ same_after number;
+        accurate = λ k. subst (AccurateTrack steps (blocks_in b) g) (sym (ap read_numbers line ∙ numbers-read (block_labels b) (found_numbers x) lent (sym answer ∙ k))) (accurate z);
+      }

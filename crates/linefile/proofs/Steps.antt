@@ -60,6 +60,10 @@ partners-go : (x y : List ℕ) → Goes x y partners (λ earlier level pairs. co
 partners-go x y xs ys ax ay true false false (first b) = below-partners x y xs ys ax ay b
 partners-go x y xs ys ax ay true true true (both e b c d) = level-partners x y xs ys ax ay e d
 partners-go x y xs ys ax ay false true false (second b) = above-partners x y xs ys ax ay b
+partners-go x y xs ys ax ay false false w p = elim p [ ]
+partners-go x y xs ys ax ay false true true p = elim p [ ]
+partners-go x y xs ys ax ay true false true p = elim p [ ]
+partners-go x y xs ys ax ay true true false p = elim p [ ]
 
 -- ---- two files
 

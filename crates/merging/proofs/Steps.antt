@@ -85,3 +85,7 @@ pub merged-go : (x y : List ℕ) → Goes x y merged (λ earlier level ls. cond 
 merged-go x y xs ys ax ay true false false (first b) = below-merged x y xs ys ax ay b
 merged-go x y xs ys ax ay true true true (both e b c d) = level-merged x y xs ys ax ay e b c
 merged-go x y xs ys ax ay false true false (second b) = above-merged x y xs ys ax ay b
+merged-go x y xs ys ax ay false false w p = elim p [ ]
+merged-go x y xs ys ax ay false true true p = elim p [ ]
+merged-go x y xs ys ax ay true false true p = elim p [ ]
+merged-go x y xs ys ax ay true true false p = elim p [ ]

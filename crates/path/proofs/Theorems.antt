@@ -2,7 +2,7 @@
 -- the points exchanged; and 0 exactly where they are the same.
 -- Assumes nothing.
 use mathlib.Core.Path.{◌≡◌, refl, sym, ap, ap₂, ◌∙◌, subst}
-use mathlib.Core.Bool.{Bool, true, false, cond, ◌||◌, or_comm, true≢false}
+use mathlib.Core.Bool.{Bool, true, false, cond, or_comm, true≢false}
 use Prim.Native.Nat.{ℕ, zero, suc, ◌+◌, ◌*◌, ◌/◌, ◌%◌, ◌≤◌, ◌<◌}
 use native.Mathlib.Nat.{mul-one, div-add-mod'}
 use native.Mathlib.Omega.{arith}
@@ -14,7 +14,7 @@ use borrow.Author.Tests.{eqb-true}
 use Rattle.whole.specs.Square.{squared}
 use Rattle.whole.proofs.Magnitudes.{nat_abs-neg, square-magnitude}
 use Rattle.whole.proofs.Ring.{sub-turned, eq-of-sub}
-use Rattle.limits.specs.Reply.{Reply, reply}
+use Rattle.limits.specs.Reply.{reply}
 use Rattle.limits.specs.Refusal.{◌when◌, ◌then◌}
 use Rattle.limits.proofs.Replies.{reply-accepted, reply-values}
 use Rattle.path.specs.declared.Point.{Point}

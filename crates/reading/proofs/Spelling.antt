@@ -22,7 +22,7 @@ use Rattle.columns.specs.Text.{time_of_day, spaced}
 use Rattle.columns.specs.Columns.{byte_in, field}
 use Rattle.characters.specs.Kinds.{allows, allowed}
 use Rattle.reading.specs.Read.{is_minus_zero_lem}
-use Rattle.reading.specs.Fields.{digits, hex_digits, Holds, Digits, Signed}
+use Rattle.reading.specs.Fields.{hex_digits, Holds, Digits, Signed}
 use Rattle.limits.proofs.Laws.{both, either}
 use Rattle.characters.proofs.Allowed.{hex-range, sign-is, space-is, allowed-drop}
 use Rattle.reading.proofs.Columns.{digit_at, holds_at, holds-length, signed-field}

@@ -17,7 +17,8 @@ use Rattle.whole.proofs.Sums.{sum-cong, sum-eq, sums, sum-le, sum-scale, magnitu
 use Rattle.whole.specs.Nearest.{nearest}
 use Rattle.whole.proofs.Identity.{identity, quote}
 use Rattle.whole.proofs.Linear.{le-by}
-use Rattle.whole.proofs.Order.{◌⩽◌, pos-le, pos-le-is, zero-le-pos, mul-le, le_trans as ⩽-trans, le_of_eq as ⩽-of-eq}
+use Rattle.whole.specs.Order.{◌⩽◌}
+use Rattle.whole.proofs.Order.{pos-le, pos-le-is, zero-le-pos, mul-le, le_trans as ⩽-trans, le_of_eq as ⩽-of-eq}
 use Rattle.whole.proofs.Magnitudes.{nat_abs_mul, magnitude-le}
 use Rattle.whole.proofs.Rounding.{nearest-scale}
 use Rattle.whole.specs.Words.{Within}

@@ -12,7 +12,8 @@ use Rattle.whole.specs.Sum.{sum}
 use Rattle.whole.specs.Square.{squared}
 use Rattle.whole.specs.Nearest.{nearest}
 use Rattle.whole.proofs.Identity.{identity, quote}
-use Rattle.whole.proofs.Order.{◌⩽◌, le_refl, add-le, square-nonneg, as-pos, pos-le-is}
+use Rattle.whole.specs.Order.{◌⩽◌}
+use Rattle.whole.proofs.Order.{le_refl, add-le, square-nonneg, as-pos, pos-le-is}
 use Rattle.whole.proofs.Magnitudes.{square-magnitude}
 use Rattle.whole.proofs.Sums.{sum-cong, sum-suc, sum-squares-nonneg}
 use Rattle.whole.proofs.Rounding.{nearest-scale}

@@ -15,7 +15,8 @@ use lib.IntN.{ℤ, pos, nat_abs, ◌-ℤ◌, ◌*ℤ◌}
 use lib.Signed.{le_z, lt_z}
 use Rattle.whole.specs.Square.{squared}
 use Rattle.whole.proofs.Identity.{identity, quote}
-use Rattle.whole.proofs.Order.{◌⩽◌, ◌⋖◌, le_lt_trans, lt-le-trans, lt_irrefl, le_trans as chain, from_le, from-not-le, from-lt, from-not-lt, pos-le, pos-lt, pos-sub}
+use Rattle.whole.specs.Order.{◌⩽◌, ◌⋖◌}
+use Rattle.whole.proofs.Order.{le_lt_trans, lt-le-trans, lt_irrefl, le_trans as chain, from_le, from-not-le, from-lt, from-not-lt, pos-le, pos-lt, pos-sub}
 use Rattle.whole.proofs.Magnitudes.{le-magnitude}
 use Rattle.limits.specs.Limits.{dsg_number}
 use Rattle.whole.specs.Table.{at}

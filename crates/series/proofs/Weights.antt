@@ -8,7 +8,8 @@ use lib.IntN.{ℤ, pos, nat_abs, ◌*ℤ◌}
 use Rattle.whole.specs.Square.{magnitude}
 use Rattle.whole.specs.Sum.{sum}
 use Rattle.whole.proofs.Sums.{sum-le, sum-scale, magnitude-sum}
-use Rattle.whole.proofs.Order.{◌⩽◌, pos-le, pos-le-is, le_trans as ⩽-trans, le_of_eq as ⩽-of-eq}
+use Rattle.whole.specs.Order.{◌⩽◌}
+use Rattle.whole.proofs.Order.{pos-le, pos-le-is, le_trans as ⩽-trans, le_of_eq as ⩽-of-eq}
 use Rattle.whole.proofs.Magnitudes.{nat_abs_mul}
 use Rattle.whole.proofs.Rounding.{nearest-bound}
 use Rattle.whole.proofs.Words.{partial}

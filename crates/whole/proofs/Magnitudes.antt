@@ -5,7 +5,8 @@ use Rattle.std.proofs.Common.{sym, ap, ◌∙◌, subst}
 use Rattle.std.specs.Int.Signed.{quot_z}
 use Rattle.whole.specs.Square.{squared, magnitude}
 use Rattle.whole.proofs.Identity.{identity, quote}
-use Rattle.whole.proofs.Order.{◌⩽◌, ◌⋖◌, le_refl, le_trans, le_of_eq, le_of_lt, le-shift, add-le, mul-le, cancel-le, pos-le-is, zero-le-pos}
+use Rattle.whole.specs.Order.{◌⩽◌, ◌⋖◌}
+use Rattle.whole.proofs.Order.{le_refl, le_trans, le_of_eq, le_of_lt, le-shift, add-le, mul-le, cancel-le, pos-le-is, zero-le-pos}
 
 -- ---- negation, product, quotient
 

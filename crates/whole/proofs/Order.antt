@@ -1,23 +1,16 @@
 -- The order of the whole numbers: its laws with sums, products and squares, cancellation, and no zero divisors.
 -- What is linear is proved by the module Linear; the last section has two laws for what is not.
 -- Assumes nothing.
-use Rattle.std.specs.Prelude.{◌≡◌, true, false, List, [], ◌∷◌, ◌⊎◌, ℕ, zero, suc, ◌+◌, ◌*◌, ◌-◌, ◌≤◌, ◌<◌, T, ℤ, pos, negsuc, neg_ℤ, nat_abs, ◌+ℤ◌, ◌-ℤ◌, ◌*ℤ◌, ◌≤ℤ◌, ◌<ℤ◌}
+use Rattle.std.specs.Prelude.{◌≡◌, true, false, List, [], ◌∷◌, ◌⊎◌, ℕ, zero, suc, ◌+◌, ◌*◌, ◌-◌, ◌≤◌, ◌<◌, T, ℤ, pos, negsuc, neg_ℤ, nat_abs, ◌+ℤ◌, ◌-ℤ◌, ◌*ℤ◌}
 use Rattle.std.proofs.Common.{sym, ap, ◌∙◌, subst, subst₂, inl, inr, ⊎_elim, zero-le, arith, leb→le, le→leb, lt→ltb}
 use Rattle.std.proofs.Math.Decide.{dec_le}
 use Rattle.std.proofs.Math.IntN.{*ℤ-zero, *ℤ_comm}
 use Rattle.std.specs.Int.Signed.{le_z, lt_z, ≤ℤ_refl, <ℤ-≤ℤ_trans, <ℤ_irrefl, yes_non_neg, pos-nat_abs}
 use Rattle.whole.specs.Square.{squared}
+use Rattle.whole.specs.Order.{◌⩽◌, ◌⋖◌}
 use Rattle.whole.proofs.Differences.{Dif, of, view, dif-le, dif-lt}
 use Rattle.whole.proofs.Identity.{identity, quote}
 use Rattle.whole.proofs.Linear.{le-by, lt_by, eq-by, le_is, lt-is, eq_is}
-
--- The library's orders bind tighter than sums; these two do not. They are used in laws alone.
-infix 4 ◌⩽◌ ◌⋖◌
-abbrev pub ◌⩽◌ : ℤ → ℤ → Type 0
-x ⩽ y = x ≤ℤ y
-
-abbrev pub ◌⋖◌ : ℤ → ℤ → Type 0
-x ⋖ y = x <ℤ y
 
 -- ---- a linear order
 

@@ -11,7 +11,8 @@ use Rattle.whole.specs.Nearest.{nearest}
 use Rattle.whole.proofs.Ring.{negℤ-*ℤ, *ℤ-negℤ}
 use Rattle.whole.proofs.Identity.{identity, quote}
 use Rattle.whole.proofs.Linear.{le-by, lt_by, le_is, lt-is}
-use Rattle.whole.proofs.Order.{◌⩽◌, ◌⋖◌, lt-le-trans, le_of_lt, le_antisymm, le-or-lt, lt_irrefl, le-shift, lt-shift, pos-le, pos-lt, pos-le-is, zero-le-pos, mul-pos, mul-le, mul-lt, cancel-lt}
+use Rattle.whole.specs.Order.{◌⩽◌, ◌⋖◌}
+use Rattle.whole.proofs.Order.{lt-le-trans, le_of_lt, le_antisymm, le-or-lt, lt_irrefl, le-shift, lt-shift, pos-le, pos-lt, pos-le-is, zero-le-pos, mul-pos, mul-le, mul-lt, cancel-lt}
 use Rattle.whole.proofs.Magnitudes.{magnitude-le, magnitude-le-is}
 
 -- ---- the floor of z / m

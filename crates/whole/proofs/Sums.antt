@@ -10,7 +10,8 @@ use Rattle.std.proofs.Math.IntN.{+ℤ_idl, +ℤ_idr, +ℤ_assoc, *ℤ-zero, zero
 use Rattle.whole.specs.Square.{squared, magnitude}
 use Rattle.whole.specs.Sum.{sum}
 use Rattle.whole.proofs.Ring.{*ℤ-+ℤ, +ℤ-swap}
-use Rattle.whole.proofs.Order.{◌⩽◌, le_refl, le_trans, add-le, square-nonneg, pos-le, pos-le-is}
+use Rattle.whole.specs.Order.{◌⩽◌}
+use Rattle.whole.proofs.Order.{le_refl, le_trans, add-le, square-nonneg, pos-le, pos-le-is}
 use Rattle.whole.proofs.Magnitudes.{magnitude-add}
 
 -- ---- terms

@@ -4,3 +4,5 @@ pub mod Nearest
 pub mod Square
 pub mod Table
 pub mod Words
+-- What theorems are written in, and no contract.
+pub mod Order

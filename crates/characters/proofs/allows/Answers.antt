@@ -1,6 +1,5 @@
 -- `characters::allows` meets its contract: the tests are those of the definition, each call by its own contract.
 -- Assumes nothing.
-use borrow.Author.Rules.{rules}
 use Rattle.labels.specs.Labels.{code_fits_lem}
 use Rattle.characters.specs.Kinds.{allows}
 use Rattle.characters.proofs.allows.Goals as goal

@@ -7,7 +7,6 @@ use lib.Seq.{length-take-le}
 use Rattle.columns.specs.Columns.{byte_in}
 use Rattle.characters.specs.Kinds.{checked}
 use Rattle.characters.proofs.Check.{next}
-use borrow.Author.Rules.{rules}
 use Rattle.characters.proofs.checked.Goals as goal
 
 pub slice_bounds-checksum-end : goal.slice_bounds-checksum-end

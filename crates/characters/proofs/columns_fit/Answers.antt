@@ -1,9 +1,9 @@
 -- `characters::columns_fit` meets its contract: what was found so far, and what is asked of the columns left, is the answer for all.
 -- Assumes nothing.
 use Rattle.characters.proofs.Allowed.{allowed-turn, allowed-done}
-use mathlib.Core.Path.{◌≡◌, sym, ap, ◌∙◌}
+use mathlib.Core.Path.{sym, ap, ◌∙◌}
 use mathlib.Core.Bool.{Bool, ◌&&◌}
-use Prim.Native.Nat.{◌+◌, ◌≤◌, ◌<◌, ◌-◌}
+use Prim.Native.Nat.{◌+◌, ◌<◌}
 use lib.ListN.{length, drop}
 use borrow.Author.Rules.{rules}
 use Rattle.characters.specs.Kinds.{allowed}

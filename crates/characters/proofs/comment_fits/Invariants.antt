@@ -1,11 +1,9 @@
 -- `characters::comment_fits` meets its contract: what was found so far, and what is asked of the bytes left, is the answer for all.
 -- Assumes nothing.
-use Rattle.characters.proofs.Allowed.{printable-turn, printable-done}
-use mathlib.Core.Path.{◌≡◌, sym, ap, ◌∙◌}
-use mathlib.Core.Bool.{Bool, ◌&&◌}
-use Prim.Native.Nat.{◌+◌, ◌≤◌, ◌-◌}
+use mathlib.Core.Path.{◌≡◌}
+use mathlib.Core.Bool.{◌&&◌}
+use Prim.Native.Nat.{◌≤◌, ◌-◌}
 use lib.ListN.{length, drop}
-use borrow.Author.Rules.{rules}
 use Rattle.characters.specs.Kinds.{printable}
 use Rattle.characters.proofs.comment_fits.Given as goal
 

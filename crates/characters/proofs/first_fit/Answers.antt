@@ -6,28 +6,7 @@ use lib.ListN.{take, drop}
 use Rattle.fields.specs.Text.{bytes_of}
 use Rattle.characters.specs.Kinds.{kinds}
 use Rattle.characters.proofs.Allowed.{row-added}
-use borrow.Author.Rules.{rules}
 use Rattle.characters.proofs.first_fit.Goals as goal
-
--- LEFT
-slice-aggregate-row-fits-2 : tie.Need-slice-aggregate-row-fits-2
-slice-aggregate-row-fits-2 c = search rules
-
--- LEFT
-slice-aggregate-row-fits-3 : tie.Need-slice-aggregate-row-fits-3
-slice-aggregate-row-fits-3 c = search rules
-
--- LEFT
-slice-aggregate-row-fits-4 : tie.Need-slice-aggregate-row-fits-4
-slice-aggregate-row-fits-4 c = search rules
-
--- LEFT
-slice-aggregate-row-fits-5 : tie.Need-slice-aggregate-row-fits-5
-slice-aggregate-row-fits-5 c = search rules
-
--- LEFT
-slice-aggregate-row-fits-6 : tie.Need-slice-aggregate-row-fits-6
-slice-aggregate-row-fits-6 c = search rules
 
 -- the first column and so many behind it, and sixteen columns behind so many
 abbrev upto : (n kind : ℕ) → List ℕ

@@ -6,7 +6,6 @@ use Prim.Native.Nat.{◌+◌, ◌≤◌}
 use native.Mathlib.Omega.{arith}
 use lib.ListN.{length}
 use borrow.Author.Tests.{ltb-false}
-use borrow.Author.Rules.{rules}
 use Rattle.limits.specs.Refusal.{◌when◌, ◌then◌}
 use Rattle.limits.proofs.Laws.{or-false}
 use Rattle.characters.specs.Kinds.{checked}
@@ -27,10 +26,9 @@ checked-requires c = there c
 
 pub returns : goal.returns
 unfolding ◌when◌ ◌then◌
-returns c =
-    (
-      c.when.ensures
-          ∙ ap (λ (t : Bool). 14 when not t) c.checked.ensures
-          ∙ sym (ap (λ (t : Bool). 12 when t then 14 when not (checked c.args.columns c.args.line.now)) c.if-line-columns.false),
-      λ z. there (goal.at.returns c).Else-line-columns,
-    )
+returns c = (
+  c.when.ensures
+      ∙ ap (λ (t : Bool). 14 when not t) c.checked.ensures
+      ∙ sym (ap (λ (t : Bool). 12 when t then 14 when not (checked c.args.columns c.args.line.now)) c.if-line-columns.false),
+  λ z. there (goal.at.returns c).Else-line-columns,
+)

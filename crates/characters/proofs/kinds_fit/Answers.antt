@@ -9,7 +9,6 @@ use lib.ListN.{take, drop}
 use Rattle.fields.specs.Text.{bytes_of}
 use Rattle.characters.specs.Kinds.{kinds, old_kinds, allowed}
 use Rattle.characters.proofs.Allowed.{row-overlapping}
-use borrow.Author.Rules.{rules}
 use Rattle.characters.proofs.kinds_fit.Goals as goal
 
 -- the columns that are there: of either form, of an old line and of ours
@@ -28,10 +27,6 @@ first-is line e k o = e ∙ ap (λ (n : ℕ). allowed (n ∷ take 95 (drop 1 kin
 pub first_fit-first-requires : goal.first_fit-first-requires
 first_fit-first-requires c = enough c.args.old c.requires
 
--- LEFT
-slice-aggregate-row-fits : tie.Need-slice-aggregate-row-fits
-slice-aggregate-row-fits c = search rules
-
 pub row_fits-requires : goal.row_fits-requires
 row_fits-requires c = omega (arith, there c.if-old.true c.requires)
 
@@ -41,10 +36,6 @@ returns-then-old c =
     rw c.if-old.true
     (row-overlapping (take 85 old_kinds) (take 11 (drop 85 old_kinds)) (drop 96 old_kinds) c.args.line.now
     (first-is c.args.line.now c.first_fit-first.ensures c.first_kind.ensures c.if-old.true) c.row_fits.ensures)
-
--- LEFT
-slice-aggregate-row-fits-2 : tie.Need-slice-aggregate-row-fits-2
-slice-aggregate-row-fits-2 c = search rules
 
 pub row_fits-requires-2 : goal.row_fits-requires-2
 row_fits-requires-2 c = omega (arith, there c.if-old.false c.requires)

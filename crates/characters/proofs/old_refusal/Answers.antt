@@ -3,7 +3,6 @@
 use native.Mathlib.Omega.{arith}
 use Rattle.characters.specs.Kinds.{old_kinds}
 use Rattle.characters.proofs.Spelled.{frame_refused, frame-passed}
-use borrow.Author.Rules.{rules}
 use Rattle.characters.proofs.old_refusal.Goals as goal
 
 pub returns-then-frame-ne0 : goal.returns-then-frame-ne0

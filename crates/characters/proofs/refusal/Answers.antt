@@ -3,7 +3,6 @@
 use native.Mathlib.Omega.{arith}
 use Rattle.characters.specs.Kinds.{kinds}
 use Rattle.characters.proofs.Spelled.{frame_refused, frame-passed}
-use borrow.Author.Rules.{rules}
 use Rattle.characters.proofs.refusal.Goals as goal
 
 pub returns-then-frame-ne0 : goal.returns-then-frame-ne0

@@ -3,9 +3,8 @@
 use mathlib.Core.Path.{ap, ◌∙◌}
 use Rattle.limits.proofs.Parts.{rest_part}
 use Rattle.characters.specs.Kinds.{allowed}
-use borrow.Author.Rules.{rules}
 use Rattle.characters.proofs.row_fits.Goals as goal
 
 pub returns : goal.returns
 returns c =
-    c.columns_fit.ensures ∙ ap (allowed c.args.kinds.now) (rest_part c.args.line.now c.args)
+    c.columns_fit.ensures ∙ ap (allowed c.args.kinds.now) (rest_part c.args.line.now c.args.before)

@@ -6,7 +6,6 @@ use Prim.Native.Nat.{◌+◌}
 use Rattle.limits.specs.Refusal.{◌when◌, ◌then◌}
 use Rattle.limits.proofs.Parts.{rest_part}
 use Rattle.characters.specs.Kinds.{printable}
-use borrow.Author.Rules.{rules}
 use Rattle.characters.proofs.text_refusal.Goals as goal
 
 pub returns : goal.returns

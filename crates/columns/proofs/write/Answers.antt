@@ -11,7 +11,6 @@ use Rattle.lent.specs.Placed.{placed, placed_within}
 use Rattle.lent.proofs.Placing.{within, not_within}
 use Rattle.columns.specs.Text.{line_length, line_text}
 use Rattle.columns.proofs.Widths.{line-width}
-use borrow.Author.Rules.{rules}
 use Rattle.columns.proofs.write.Goals as goal
 
 -- a text of a line's length in the place of the first bytes
@@ -20,15 +19,15 @@ unfolding placed
 front d s l h = ap (λ (n : ℕ). s ++ drop n d) (sym l ∙ sym (zero-add (length s))) ∙ sym (within d 0 s (omega (arith, l, h)))
 
 pub slice_bounds-put_line-end-then-lent-ge-LINE_LENGTH : goal.slice_bounds-put_line-end-then-lent-ge-LINE_LENGTH
-slice_bounds-put_line-end-then-lent-ge-LINE_LENGTH c = sym (length-take-le line_length c.args.lent.now c.if-lent-ge-LINE_LENGTH.true)
+slice_bounds-put_line-end-then-lent-ge-LINE_LENGTH c = sym (length-take-le line_length c.args.lent.now (omega arith))
 
 pub put_line-requires : goal.put_line-requires
-put_line-requires c = length-take-le line_length c.args.lent.now c.if-lent-ge-LINE_LENGTH.true
+put_line-requires c = length-take-le line_length c.args.lent.now (omega arith)
 
 pub returns-then-lent-ge-LINE_LENGTH : goal.returns-then-lent-ge-LINE_LENGTH
 returns-then-lent-ge-LINE_LENGTH c =
     ap (λ (x : List ℕ). x ++ drop line_length c.args.lent.now) c.put_line.ensures
-    ∙ front c.args.lent.now (line_text c.args.labels c.args.numbers) (line-width c.args.labels c.args.numbers) c.if-lent-ge-LINE_LENGTH.true
+    ∙ front c.args.lent.now (line_text c.args.labels c.args.numbers) (line-width c.args.labels c.args.numbers) (omega arith)
 
 pub returns-else-lent-ge-LINE_LENGTH : goal.returns-else-lent-ge-LINE_LENGTH
 returns-else-lent-ge-LINE_LENGTH c =

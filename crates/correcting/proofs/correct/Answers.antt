@@ -2,17 +2,16 @@
 -- Assumes nothing.
 use mathlib.Core.Bool.{false, ◌||◌}
 use mathlib.Core.List.{List}
-use mathlib.Core.Path.{◌≡◌, refl, sym, ap, ap₂, ◌∙◌, subst}
+use mathlib.Core.Path.{◌≡◌, sym, ap, ap₂, ◌∙◌}
 use Prim.Native.Nat.{ℕ}
 use lib.IntN.{ℤ}
 use mir.Facts.{to_z-of_z}
 use Rattle.limits.specs.Limits.{beyond, delay_limit}
 use Rattle.exact.specs.Corrected.{Given}
 use Rattle.correcting.specs.Correct.{given, wrong_sizes, value_a, value_b, value_c, value_d}
-use Rattle.correcting.specs.Answer.{others_beyond, filled, whole_blocks, corrected_blocks}
+use Rattle.correcting.specs.Answer.{others_beyond, filled}
 use Rattle.correcting.proofs.Arrays.{filled_none}
 use Rattle.correcting.proofs.Refusals.{sized, sizes-refused, others-refused, by-measurements}
-use borrow.Author.Rules.{rules}
 use Rattle.correcting.proofs.correct.Goals.{After-delays_beyond, After-sizes_wrong, Else-sizes_wrong, Start}
 use Rattle.correcting.proofs.correct.Goals as goal
 
@@ -51,7 +50,7 @@ kept f row e = filled_none f row ∙ ap (λ (k : ℕ). filled k f row) (sym e)
 pub returns-then-sizes_wrong : goal.returns-then-sizes_wrong
 returns-then-sizes_wrong c =
     let r = sizes-refused (g (goal.at.returns-then-sizes_wrong c).Start) (sym (sizes-are (goal.at.returns-then-sizes_wrong c).After-sizes_wrong) ∙ c.if-sizes_wrong.true) in record {
-      value = r.0;
+      answer = r.0;
       a_after = kept _ c.args.a.now r.1;
       b_after = kept _ c.args.b.now r.1;
       c_after = kept _ c.args.c.now r.1;
@@ -66,7 +65,7 @@ columns_beyond-requires c =
 pub returns-then-columns_beyond-delays_beyond : goal.returns-then-columns_beyond-delays_beyond
 returns-then-columns_beyond-delays_beyond c =
     let r = others-refused (g (goal.at.returns-then-columns_beyond-delays_beyond c).Start) (sizes-fit (goal.at.returns-then-columns_beyond-delays_beyond c).Else-sizes_wrong) (sym (others-are (goal.at.returns-then-columns_beyond-delays_beyond c).After-delays_beyond) ∙ c.if-columns_beyond-delays_beyond.true) in record {
-      value = r.0;
+      answer = r.0;
       a_after = kept _ c.args.a.now r.1;
       b_after = kept _ c.args.b.now r.1;
       c_after = kept _ c.args.c.now r.1;
@@ -75,14 +74,17 @@ returns-then-columns_beyond-delays_beyond c =
 
 pub correct_blocks-requires : goal.correct_blocks-requires
 correct_blocks-requires c =
-    simp (to_z-of_z c.ranges.int, to_z-of_z c.ranges.cab, to_z-of_z c.ranges.refdly, to_z-of_z c.ranges.gd) (sizes-fit (goal.at.correct_blocks-requires c).Else-sizes_wrong, sym (others-are (goal.at.correct_blocks-requires c).After-delays_beyond) ∙ c.if-columns_beyond-delays_beyond.false)
+    simp (to_z-of_z c.ranges.int, to_z-of_z c.ranges.cab, to_z-of_z c.ranges.refdly, to_z-of_z c.ranges.gd) (record {
+      sizes_right = sizes-fit (goal.at.correct_blocks-requires c).Else-sizes_wrong;
+      others_inside = sym (others-are (goal.at.correct_blocks-requires c).After-delays_beyond) ∙ c.if-columns_beyond-delays_beyond.false;
+    })
 
 pub returns : goal.returns
 returns c =
     let r = by-measurements (g (goal.at.returns c).Start) (sizes-fit (goal.at.returns c).Else-sizes_wrong) (sym (others-are (goal.at.returns c).After-delays_beyond) ∙ c.if-columns_beyond-delays_beyond.false) in record {
-      value = c.correct_blocks.ensures.value ∙ r.0;
-      a_after = (simp (to_z-of_z c.ranges.int, to_z-of_z c.ranges.cab, to_z-of_z c.ranges.refdly, to_z-of_z c.ranges.gd) at c.correct_blocks.ensures.a_after) ∙ ap (λ (c : ℕ). filled c (value_a (g (goal.at.returns c).Start)) c.args.a.now) (sym r.1);
-      b_after = (simp (to_z-of_z c.ranges.int, to_z-of_z c.ranges.cab, to_z-of_z c.ranges.refdly, to_z-of_z c.ranges.gd) at c.correct_blocks.ensures.b_after) ∙ ap (λ (c : ℕ). filled c (value_b (g (goal.at.returns c).Start)) c.args.b.now) (sym r.1);
-      c_after = (simp (to_z-of_z c.ranges.int, to_z-of_z c.ranges.cab, to_z-of_z c.ranges.refdly, to_z-of_z c.ranges.gd) at c.correct_blocks.ensures.c_after) ∙ ap (λ (c : ℕ). filled c (value_c (g (goal.at.returns c).Start)) c.args.c.now) (sym r.1);
-      d_after = (simp (to_z-of_z c.ranges.int, to_z-of_z c.ranges.cab, to_z-of_z c.ranges.refdly, to_z-of_z c.ranges.gd) at c.correct_blocks.ensures.d_after) ∙ ap (λ (c : ℕ). filled c (value_d (g (goal.at.returns c).Start)) c.args.d.now) (sym r.1);
+      answer = c.correct_blocks.ensures.answer ∙ r.0;
+      a_after = (simp (to_z-of_z c.ranges.int, to_z-of_z c.ranges.cab, to_z-of_z c.ranges.refdly, to_z-of_z c.ranges.gd) at c.correct_blocks.ensures.a_after) ∙ ap (λ (k : ℕ). filled k (value_a (g (goal.at.returns c).Start)) c.args.a.now) (sym r.1);
+      b_after = (simp (to_z-of_z c.ranges.int, to_z-of_z c.ranges.cab, to_z-of_z c.ranges.refdly, to_z-of_z c.ranges.gd) at c.correct_blocks.ensures.b_after) ∙ ap (λ (k : ℕ). filled k (value_b (g (goal.at.returns c).Start)) c.args.b.now) (sym r.1);
+      c_after = (simp (to_z-of_z c.ranges.int, to_z-of_z c.ranges.cab, to_z-of_z c.ranges.refdly, to_z-of_z c.ranges.gd) at c.correct_blocks.ensures.c_after) ∙ ap (λ (k : ℕ). filled k (value_c (g (goal.at.returns c).Start)) c.args.c.now) (sym r.1);
+      d_after = (simp (to_z-of_z c.ranges.int, to_z-of_z c.ranges.cab, to_z-of_z c.ranges.refdly, to_z-of_z c.ranges.gd) at c.correct_blocks.ensures.d_after) ∙ ap (λ (k : ℕ). filled k (value_d (g (goal.at.returns c).Start)) c.args.d.now) (sym r.1);
     }

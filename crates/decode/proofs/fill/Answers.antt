@@ -1,7 +1,6 @@
 -- `decode::fill` meets its contract, by those of the two ways to fill.
 -- Assumes nothing.
 use mathlib.Core.Path.{sym, ◌∙◌}
-use borrow.Author.Rules.{rules}
 use Rattle.decode.proofs.fill.Goals as goal
 
 pub fill-requires : goal.fill-requires

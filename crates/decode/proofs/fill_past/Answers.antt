@@ -1,13 +1,14 @@
 -- `decode::fill_past` meets its contract. The loop keeps the numbers stored, and those that follow from the next place on, together the whole.
 -- Assumes nothing.
 use mathlib.Core.Path.{◌≡◌, sym, ◌∙◌, ap}
-use mathlib.Core.List.{◌++◌}
-use Prim.Native.Nat.{ℕ, ◌≤◌, ◌-◌, min}
+use Prim.Native.Nat.{ℕ, ◌-◌, min}
 use native.Mathlib.Omega.{arith}
-use lib.ListN.{length, take, length-set}
+use lib.ListN.{length, length-set}
 use borrow.Author.Rules.{rules}
 use Rattle.decode.specs.Number.{signeds_at}
-use Rattle.whole.proofs.Words.{back-of}
+use mir.Syntax.{w64}
+use mir.Val.{SFits}
+use mir.Facts.{to_z-of_z}
 use Rattle.decode.proofs.Signeds.{all_left, signeds-turn, signeds-done}
 use Rattle.decode.proofs.fill_past.Goals as goal
 
@@ -18,7 +19,8 @@ loop-i-init c =
 
 pub loop-i-preserved : goal.loop-i-preserved
 loop-i-preserved c =
-    let stored = back-of c.signed64.type-inv ∙ c.signed64.ensures in (
+    let fits : SFits w64 c.signed64.result = search rules in
+    let stored = to_z-of_z fits ∙ c.signed64.ensures in (
       simp length-set (omega arith),
       simp length-set c.loop-i.invariant.1,
       omega (arith, c.clamped-next-in-loop-i.ensures),

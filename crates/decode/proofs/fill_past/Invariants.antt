@@ -1,14 +1,10 @@
 -- `decode::fill_past` meets its contract. The loop keeps the numbers stored, and those that follow from the next place on, together the whole.
 -- Assumes nothing.
-use mathlib.Core.Path.{◌≡◌, sym, ◌∙◌, ap}
+use mathlib.Core.Path.{◌≡◌}
 use mathlib.Core.List.{◌++◌}
-use Prim.Native.Nat.{ℕ, ◌≤◌, ◌-◌, min}
-use native.Mathlib.Omega.{arith}
-use lib.ListN.{length, take, length-set}
-use borrow.Author.Rules.{rules}
+use Prim.Native.Nat.{◌≤◌, ◌-◌}
+use lib.ListN.{length, take}
 use Rattle.decode.specs.Number.{signeds_at}
-use Rattle.whole.proofs.Words.{back-of}
-use Rattle.decode.proofs.Signeds.{all_left, signeds-turn, signeds-done}
 use Rattle.decode.proofs.fill_past.Given as goal
 
 abbrev pub invariant-loop-i : goal.invariant-loop-i

@@ -2,7 +2,6 @@
 -- Assumes nothing.
 use Rattle.whole.proofs.Offsets.{lies_at}
 use Rattle.decode.proofs.Little.{lies-not}
-use borrow.Author.Rules.{rules}
 use Rattle.decode.proofs.lies.Goals as goal
 
 pub returns-then-at-bytes : goal.returns-then-at-bytes

@@ -3,7 +3,6 @@
 use mathlib.Core.Path.{sym, ◌∙◌}
 use borrow.Author.Tests.{leb-true}
 use Rattle.decode.proofs.Little.{unsigned-inside, unsigned-outside}
-use borrow.Author.Rules.{rules}
 use Rattle.decode.proofs.unsigned16.Goals as goal
 
 pub unsigned16-requires : goal.unsigned16-requires

@@ -3,7 +3,6 @@
 use mathlib.Core.Path.{sym, ◌∙◌}
 use borrow.Author.Tests.{leb-true}
 use Rattle.decode.proofs.Little.{unsigned-inside, unsigned-outside}
-use borrow.Author.Rules.{rules}
 use Rattle.decode.proofs.unsigned64.Goals as goal
 
 pub unsigned64-requires : goal.unsigned64-requires

@@ -13,7 +13,6 @@ use native.Mathlib.Numerals.{add-one}
 use native.Mathlib.Omega.{arith}
 use Prim.Native.Nat.{ℕ, suc}
 use mathlib.Core.Path.{◌≡◌, refl, sym, ap, ap₂, ◌∙◌}
-use borrow.Author.Rules.{rules}
 use Rattle.delays.proofs.append.Goals.{After-append_refusal-refusal, Else-refusal-ne0}
 use Rattle.delays.proofs.append.Goals as goal
 
@@ -30,19 +29,19 @@ fits c =
 
 pub returns-then-refusal-ne0 : goal.returns-then-refusal-ne0
 returns-then-refusal-ne0 c = let r = append-refused c.args.store.now c.args.mjd c.args.int c.args.cab c.args.refdly c.args.gd c.args.longer.now (number (goal.at.returns-then-refusal-ne0 c).After-append_refusal-refusal) (pos_of_ne-zero c.if-refusal-ne0.true) in record {
-      answer = r.0;
-      variant = pos_of_ne-zero c.if-refusal-ne0.true;
-      written = r.1;
-    }
+  answer = r.0;
+  variant = pos_of_ne-zero c.if-refusal-ne0.true;
+  written = r.1;
+}
 
 pub longer-requires : goal.longer-requires
 longer-requires c = let f = fits (goal.at.longer-requires c).Else-refusal-ne0 in record {
-      version_value = c.unsigned16-version.ensures;
-      entries_value = c.count-entries.ensures.value;
-      entries_in_bounds = omega (arith, f.groups, c.count-entries.ensures.value);
-      version_in_bounds = omega (arith, f.long, f.room, ap (λ (m : ℕ). group_width_lem m) c.unsigned16-version.ensures);
-      entries_bound = omega (arith, f.few, c.count-entries.ensures.value);
-    }
+  version_value = c.unsigned16-version.ensures;
+  entries_value = c.count-entries.ensures.value;
+  entries_in_bounds = omega (arith, f.groups, c.count-entries.ensures.value);
+  file_room = omega (arith, f.long, f.room, ap (λ (m : ℕ). group_width_lem m) c.unsigned16-version.ensures);
+  entries_bound = omega (arith, f.few, c.count-entries.ensures.value);
+}
 
 pub returns : goal.returns
 returns c = let f = fits (goal.at.returns c).Else-refusal-ne0 in
@@ -50,7 +49,7 @@ returns c = let f = fits (goal.at.returns c).Else-refusal-ne0 in
       answer = ap (λ (m : ℕ). record { number = 0; values = m }) (c.store_length.ensures ∙ ap₂ store_length_lem c.unsigned16-version.ensures (add-one _ ∙ ap suc c.count-entries.ensures.value)) ∙ d.0;
       variant = tt;
       written = c.longer.ensures
-            ∙ (λ i. placed c.args.longer.now 0 (longer_store c.args.store.now c.args.mjd (to_z-of_z c.ranges.int i) (to_z-of_z c.ranges.cab i) (to_z-of_z c.ranges.refdly i) (to_z-of_z c.ranges.gd i)))
-            ∙ placed_first c.args.longer.now (longer_store c.args.store.now c.args.mjd c.args.int c.args.cab c.args.refdly c.args.gd) (length-longer c.args.store.now (count c.args.store.now) refl f.groups c.args.mjd c.args.int c.args.cab c.args.refdly c.args.gd ∙ f.long)
-            ∙ d.1;
+          ∙ (λ i. placed c.args.longer.now 0 (longer_store c.args.store.now c.args.mjd (to_z-of_z c.ranges.int i) (to_z-of_z c.ranges.cab i) (to_z-of_z c.ranges.refdly i) (to_z-of_z c.ranges.gd i)))
+          ∙ placed_first c.args.longer.now (longer_store c.args.store.now c.args.mjd c.args.int c.args.cab c.args.refdly c.args.gd) (length-longer c.args.store.now (count c.args.store.now) refl f.groups c.args.mjd c.args.int c.args.cab c.args.refdly c.args.gd ∙ f.long)
+          ∙ d.1;
     }

@@ -14,9 +14,9 @@ use Rattle.delays.proofs.lookup.Goals as goal
 
 pub returns-then-bad-ne0 : goal.returns-then-bad-ne0
 returns-then-bad-ne0 c = record {
-      answer = lookup-bad c.args.store.now c.args.mjd c.store_refusal-bad.ensures (pos_of_ne-zero c.if-bad-ne0.true);
-      variant = pos_of_ne-zero c.if-bad-ne0.true;
-    }
+  answer = lookup-bad c.args.store.now c.args.mjd c.store_refusal-bad.ensures (pos_of_ne-zero c.if-bad-ne0.true);
+  variant = pos_of_ne-zero c.if-bad-ne0.true;
+}
 
 -- the store is one
 judged : (c : Else-bad-ne0) → store_number c.args.store.now ≡ 0
@@ -29,9 +29,9 @@ dates-in c =
 
 pub in_force-place-requires : goal.in_force-place-requires
 in_force-place-requires c = record {
-      n_bound = search rules;
-      n_in_bounds = dates-in c;
-    }
+  n_bound = search rules;
+  n_in_bounds = dates-in c;
+}
 
 -- the place of the entry in force
 place : (c : After-in_force-place)
@@ -41,9 +41,9 @@ place c =
 
 pub returns-then-place-eq0 : goal.returns-then-place-eq0
 returns-then-place-eq0 c = record {
-      answer = lookup-none c.args.store.now c.args.mjd (judged (goal.at.returns-then-place-eq0 c).Else-bad-ne0) (sym (place (goal.at.returns-then-place-eq0 c).After-in_force-place) ∙ c.if-place-eq0.true);
-      variant = omega arith;
-    }
+  answer = lookup-none c.args.store.now c.args.mjd (judged (goal.at.returns-then-place-eq0 c).Else-bad-ne0) (sym (place (goal.at.returns-then-place-eq0 c).After-in_force-place) ∙ c.if-place-eq0.true);
+  variant = omega arith;
+}
 
 pub set_of-requires : goal.set_of-requires
 set_of-requires c =
@@ -51,8 +51,8 @@ set_of-requires c =
 
 pub returns : goal.returns
 returns c = record {
-      answer = c.set_of.ensures.result_value
-          ∙ ap (λ (n : ℕ). record { number = 0; values = set_of_lem c.args.store.now (n - 1) }) (place (goal.at.returns c).After-in_force-place)
-          ∙ lookup-found c.args.store.now c.args.mjd (judged (goal.at.returns c).Else-bad-ne0) (λ z. c.if-place-eq0.false (place (goal.at.returns c).After-in_force-place ∙ z));
-      variant = c.set_of.ensures.delays_numbered;
-    }
+  answer = c.set_of.ensures.answer
+      ∙ ap (λ (n : ℕ). record { number = 0; values = set_of_lem c.args.store.now (n - 1) }) (place (goal.at.returns c).After-in_force-place)
+      ∙ lookup-found c.args.store.now c.args.mjd (judged (goal.at.returns c).Else-bad-ne0) (λ z. c.if-place-eq0.false (place (goal.at.returns c).After-in_force-place ∙ z));
+  variant = c.set_of.ensures.variant;
+}

@@ -8,7 +8,6 @@ use lib.IntN.{pos, nat_abs}
 use lib.Signed.{lt_z}
 use mir.Facts.{to_z-of_z}
 use Rattle.encode.proofs.Bytes.{pattern-below, pattern-above}
-use borrow.Author.Rules.{rules}
 use Rattle.encode.proofs.pattern.Goals.{After-magnitude-size, Then-value-lt0}
 use Rattle.encode.proofs.pattern.Goals as goal
 

@@ -1,9 +1,8 @@
 -- `encode::unsigned` meets its contract: what is written, and the bytes of the rest, give the whole.
 -- Assumes nothing.
-use mathlib.Core.Path.{◌≡◌, sym, ap, ◌∙◌}
-use mathlib.Core.List.{◌++◌}
-use Prim.Native.Nat.{ℕ, ◌≤◌, ◌-◌}
-use lib.ListN.{length, take, length-set}
+use mathlib.Core.Path.{sym, ap, ◌∙◌}
+use Prim.Native.Nat.{ℕ}
+use lib.ListN.{length-set}
 use native.Mathlib.Omega.{arith}
 use Rattle.encode.proofs.Bytes.{bytes-turn, bytes-done}
 use borrow.Author.Rules.{rules}

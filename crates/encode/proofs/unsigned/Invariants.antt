@@ -1,12 +1,9 @@
 -- `encode::unsigned` meets its contract: what is written, and the bytes of the rest, give the whole.
 -- Assumes nothing.
-use mathlib.Core.Path.{◌≡◌, sym, ap, ◌∙◌}
+use mathlib.Core.Path.{◌≡◌}
 use mathlib.Core.List.{◌++◌}
-use Prim.Native.Nat.{ℕ, ◌≤◌, ◌-◌}
-use lib.ListN.{length, take, length-set}
-use native.Mathlib.Omega.{arith}
-use Rattle.encode.proofs.Bytes.{bytes-turn, bytes-done}
-use borrow.Author.Rules.{rules}
+use Prim.Native.Nat.{◌≤◌, ◌-◌}
+use lib.ListN.{length, take}
 use Rattle.encode.specs.Encode.{little_bytes}
 use Rattle.encode.proofs.unsigned.Given as goal
 

@@ -3,14 +3,10 @@
 use mathlib.Core.Path.{sym, refl}
 use native.Mathlib.Omega.{arith}
 use lib.ListN.{get_or-eq_default}
-use borrow.Author.Rules.{rules}
 use Rattle.fields.proofs.byte_at.Goals as goal
 
-pub overflow_cast-result : goal.overflow_cast-result
-overflow_cast-result c = omega (arith, c.shared_slice_known-1.given c.args.at)
-
 pub returns-then-at-text : goal.returns-then-at-text
-returns-then-at-text c = (refl, omega (arith, c.shared_slice_known-1.given c.args.at))
+returns-then-at-text c = (refl, omega (arith, c.type_inv.text c.args.at))
 
 pub returns-else-at-text : goal.returns-else-at-text
 returns-else-at-text c = (sym (get_or-eq_default c.args.text.now 0 {n = c.args.at} c.if-at-text.false), omega arith)

@@ -1,10 +1,9 @@
 -- `fields::checksum` meets its contract: the loop keeps the sum of the bytes passed, modulo 256.
 -- Assumes nothing.
-use mathlib.Core.Path.{◌≡◌, ap, ◌∙◌}
+use mathlib.Core.Path.{ap, ◌∙◌}
 use mathlib.Core.List.{List}
-use Prim.Native.Nat.{ℕ, ◌≤◌, ◌-◌, ◌%◌}
+use Prim.Native.Nat.{ℕ, ◌%◌}
 use native.Mathlib.Omega.{arith}
-use lib.ListN.{length, take}
 use lib.Seq.{take_all}
 use Rattle.fields.proofs.Laws.{byte_sum-turn}
 use borrow.Author.Rules.{rules}
@@ -14,9 +13,6 @@ use Rattle.fields.proofs.checksum.Goals as goal
 pub loop-i-init : goal.loop-i-init
 unfolding byte_sum
 loop-i-init c = search rules
-
-pub overflow_add-sum : goal.overflow_add-sum
-overflow_add-sum c = omega (arith, c.shared_slice_known-in-loop-i-1.given c.loop-i.i)
 
 pub loop-i-preserved : goal.loop-i-preserved
 loop-i-preserved c =

@@ -1,15 +1,13 @@
 -- `fields::decimal` meets its contract. The loop writes from the right: what is still to be written, the first i digits of the
 -- rest, and what is written give the whole.
 -- Assumes nothing.
-use mathlib.Core.Path.{◌≡◌, sym, ◌∙◌}
-use mathlib.Core.List.{◌++◌, append-nil}
-use Prim.Native.Nat.{◌≤◌}
-use lib.ListN.{length, drop, length-set}
+use mathlib.Core.Path.{sym, ◌∙◌}
+use mathlib.Core.List.{append-nil}
+use lib.ListN.{length-set}
 use lib.Seq.{drop-length}
 use native.Mathlib.Omega.{arith}
 use Rattle.fields.proofs.Laws.{decimal-turn, decimal-done}
 use borrow.Author.Rules.{rules}
-use Rattle.fields.specs.Text.{decimal}
 use Rattle.fields.proofs.decimal.Goals as goal
 
 pub loop-i-init : goal.loop-i-init

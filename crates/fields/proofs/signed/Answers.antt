@@ -2,19 +2,14 @@
 -- Assumes nothing.
 use mathlib.Core.Path.{ap, ◌∙◌}
 use lib.IntN.{nat_abs}
-use lib.ListN.{length-set}
 use mir.Facts.{to_z-of_z}
 use Rattle.fields.specs.Text.{decimal, sign, signed}
 use Rattle.fields.proofs.Laws.{signed-done, empty-signed}
-use borrow.Author.Rules.{rules}
 use Rattle.fields.proofs.signed.Goals as goal
-
-pub shape_of-out : goal.shape_of-out
-shape_of-out c = c.out-1.given.1 ∙ simp length-set
 
 pub returns-then-out-gt0 : goal.returns-then-out-gt0
 returns-then-out-gt0 c =
-    signed-done c.args.out.now c.sign.result c.args.value c.decimal.new.1.0
+    signed-done c.args.out.now c.sign.result c.args.value _
     c.if-out-gt0.true
     (c.sign.ensures ∙ ap sign (to_z-of_z c.ranges.value))
     (c.decimal.ensures ∙ ap (decimal _) (c.magnitude.ensures ∙ ap nat_abs (to_z-of_z c.ranges.value)))

@@ -1,6 +1,5 @@
 -- `fit::track` meets its contract: its answer is the rule's, and so accurate where it is accepted.
 -- Assumes nothing.
-use borrow.Author.Rules.{rules}
 use mathlib.Core.Path.{◌≡◌, sym, ap, ◌∙◌}
 use mathlib.Core.Bool.{false}
 use mathlib.Core.List.{List}
@@ -40,7 +39,7 @@ both s t e = (e, tracked-accurate (g s) t e)
 -- what it is given, as it was passed on
 corrected-is : (c : After-correct-corrected) → c.correct-corrected.result ≡ correct_rule (g (goal.at.After-correct-corrected c).Start)
 corrected-is c =
-    simp (to_z-of_z c.ranges.int, to_z-of_z c.ranges.cab, to_z-of_z c.ranges.refdly, to_z-of_z c.ranges.gd) at c.correct-corrected.ensures.value
+    simp (to_z-of_z c.ranges.int, to_z-of_z c.ranges.cab, to_z-of_z c.ranges.refdly, to_z-of_z c.ranges.gd) at c.correct-corrected.ensures.answer
 
 -- nothing of it is refused
 number : (c : In-Values) → correct_number (g (goal.at.In-Values c).Start) ≡ 0
@@ -56,19 +55,19 @@ row t f e h = h ∙ ap (λ (k : ℕ). filled k f (replicate 52 (pos 0))) (all-co
 long : (t : Given) (f : ℕ → ℤ) {l : List ℤ} → correct_number t ≡ 0 → l ≡ places (blocks t) f → length l ≡ 52
 long t f e h = ap length h ∙ places-length (blocks t) f (few t e).1
 
-a-is : (c : In-Values) → let t = g (goal.at.In-Values c).Start in c.correct-corrected.new.1.1.1.1.1.1.1.1.1.1.0 ≡ places (blocks t) (value_a t)
+a-is : (c : In-Values) → let t = g (goal.at.In-Values c).Start in c.correct-corrected.new.a ≡ places (blocks t) (value_a t)
 a-is c =
     row (g (goal.at.In-Values c).Start) (value_a (g (goal.at.In-Values c).Start)) (number c) (simp (to_z-of_z c.ranges.int, to_z-of_z c.ranges.cab, to_z-of_z c.ranges.refdly, to_z-of_z c.ranges.gd) at c.correct-corrected.ensures.a_after)
 
-b-is : (c : In-Values) → let t = g (goal.at.In-Values c).Start in c.correct-corrected.new.1.1.1.1.1.1.1.1.1.1.1.0 ≡ places (blocks t) (value_b t)
+b-is : (c : In-Values) → let t = g (goal.at.In-Values c).Start in c.correct-corrected.new.b ≡ places (blocks t) (value_b t)
 b-is c =
     row (g (goal.at.In-Values c).Start) (value_b (g (goal.at.In-Values c).Start)) (number c) (simp (to_z-of_z c.ranges.int, to_z-of_z c.ranges.cab, to_z-of_z c.ranges.refdly, to_z-of_z c.ranges.gd) at c.correct-corrected.ensures.b_after)
 
-c-is : (c : In-Values) → let t = g (goal.at.In-Values c).Start in c.correct-corrected.new.1.1.1.1.1.1.1.1.1.1.1.1.0 ≡ places (blocks t) (value_c t)
+c-is : (c : In-Values) → let t = g (goal.at.In-Values c).Start in c.correct-corrected.new.c ≡ places (blocks t) (value_c t)
 c-is c =
     row (g (goal.at.In-Values c).Start) (value_c (g (goal.at.In-Values c).Start)) (number c) (simp (to_z-of_z c.ranges.int, to_z-of_z c.ranges.cab, to_z-of_z c.ranges.refdly, to_z-of_z c.ranges.gd) at c.correct-corrected.ensures.c_after)
 
-d-is : (c : In-Values) → let t = g (goal.at.In-Values c).Start in c.correct-corrected.new.1.1.1.1.1.1.1.1.1.1.1.1.1.0 ≡ places (blocks t) (value_d t)
+d-is : (c : In-Values) → let t = g (goal.at.In-Values c).Start in c.correct-corrected.new.d ≡ places (blocks t) (value_d t)
 d-is c =
     row (g (goal.at.In-Values c).Start) (value_d (g (goal.at.In-Values c).Start)) (number c) (simp (to_z-of_z c.ranges.int, to_z-of_z c.ranges.cab, to_z-of_z c.ranges.refdly, to_z-of_z c.ranges.gd) at c.correct-corrected.ensures.d_after)
 
@@ -82,7 +81,7 @@ passes e h = ap (any_beyond_lem value_limit) e ∙ h
 -- so their record is the track's
 record_is : (c : In-Values)
     → let t = g (goal.at.In-Values c).Start in
-    record_of (blocks t) c.correct-corrected.new.1.1.1.1.1.1.1.1.1.1.0 c.correct-corrected.new.1.1.1.1.1.1.1.1.1.1.1.0 c.correct-corrected.new.1.1.1.1.1.1.1.1.1.1.1.1.0 c.correct-corrected.new.1.1.1.1.1.1.1.1.1.1.1.1.1.0 ≡ results t
+    record_of (blocks t) c.correct-corrected.new.a c.correct-corrected.new.b c.correct-corrected.new.c c.correct-corrected.new.d ≡ results t
 unfolding results
 record_is c = λ z. record_of (blocks (g (goal.at.In-Values c).Start)) (a-is c z) (b-is c z) (c-is c z) (d-is c z)
 
@@ -103,8 +102,9 @@ pub returns-in_default : goal.returns-in_default
 returns-in_default c =
     let r = corrected-refused (g (goal.at.returns-in_default c).Start) (corrected-is (goal.at.returns-in_default c).After-correct-corrected) c.in_default.is in
     let k = c.corrected_number.ensures ∙ ap corrected_number_lem c.in_default.is in
-    both (goal.at.returns-in_default c).Start c.refused.result
-    (c.refused.ensures ∙ ap (λ (k : ℕ). record { refusal = k; «record» = zeros }) k ∙ track-refused (g (goal.at.returns-in_default c).Start) _ r.0 r.1)
+    let b = both (goal.at.returns-in_default c).Start c.refused.result
+    (c.refused.ensures ∙ ap (λ (k : ℕ). record { refusal = k; «record» = zeros }) k ∙ track-refused (g (goal.at.returns-in_default c).Start) _ r.0 r.1) in
+    record { answer = b.0; accurate = b.1 }
 
 pub slice_bounds-ten_numbers-end : goal.slice_bounds-ten_numbers-end
 slice_bounds-ten_numbers-end c = sym (long _ _ (number (goal.at.slice_bounds-ten_numbers-end c).In-Values) (a-is (goal.at.slice_bounds-ten_numbers-end c).In-Values))
@@ -120,24 +120,26 @@ slice_bounds-ten_numbers-end-4 c = sym (long _ _ (number (goal.at.slice_bounds-t
 
 pub ten_numbers-found-requires : goal.ten_numbers-found-requires
 ten_numbers-found-requires c =
-    let t = g ((c)) in
+    let t = g (goal.at.ten_numbers-found-requires c).Start in
     let z = number (goal.at.ten_numbers-found-requires c).In-Values in
     let i = inside t z in record {
-      le_n = few t z;
-      a_len = (long t _ z (a-is (goal.at.ten_numbers-found-requires c).In-Values), long t _ z (b-is (goal.at.ten_numbers-found-requires c).In-Values), long t _ z (c-is (goal.at.ten_numbers-found-requires c).In-Values), long t _ z (d-is (goal.at.ten_numbers-found-requires c).In-Values));
-      a_value = (passes (a-is (goal.at.ten_numbers-found-requires c).In-Values) i.in-a, passes (b-is (goal.at.ten_numbers-found-requires c).In-Values) i.in_b, passes (c-is (goal.at.ten_numbers-found-requires c).In-Values) i.in_c, passes (d-is (goal.at.ten_numbers-found-requires c).In-Values) i.in-d);
+      few_blocks = few t z;
+      lengths = (long t _ z (a-is (goal.at.ten_numbers-found-requires c).In-Values), long t _ z (b-is (goal.at.ten_numbers-found-requires c).In-Values), long t _ z (c-is (goal.at.ten_numbers-found-requires c).In-Values), long t _ z (d-is (goal.at.ten_numbers-found-requires c).In-Values));
+      inside = (passes (a-is (goal.at.ten_numbers-found-requires c).In-Values) i.in-a, passes (b-is (goal.at.ten_numbers-found-requires c).In-Values) i.in_b, passes (c-is (goal.at.ten_numbers-found-requires c).In-Values) i.in_c, passes (d-is (goal.at.ten_numbers-found-requires c).In-Values) i.in-d);
     }
 
 pub returns-in_default-found : goal.returns-in_default-found
 returns-in_default-found c =
     let k = c.found_number.ensures ∙ ap found_number_lem c.in_default-found.is in
-    both (goal.at.returns-in_default-found c).Start c.refused-in_default-found.result
+    let b = both (goal.at.returns-in_default-found c).Start c.refused-in_default-found.result
     (c.refused-in_default-found.ensures
     ∙ ap (λ (k : ℕ). record { refusal = k; «record» = zeros }) k
     ∙ found-refused (results (g (goal.at.returns-in_default-found c).Start)) (found-is (goal.at.returns-in_default-found c).After-ten_numbers-found) c.in_default-found.is
-    ∙ track-judged (g (goal.at.returns-in_default-found c).Start) (number (goal.at.returns-in_default-found c).In-Values))
+    ∙ track-judged (g (goal.at.returns-in_default-found c).Start) (number (goal.at.returns-in_default-found c).In-Values)) in
+    record { answer = b.0; accurate = b.1 }
 
 pub returns : goal.returns
 returns c =
     let r = found-ten (results (g (goal.at.returns c).Start)) (found-is (goal.at.returns c).After-ten_numbers-found) c.in-Ten.is in
-    both (goal.at.returns c).Start _ (whole (g (goal.at.returns c).Start) _ _ _ _ _ (a-is (goal.at.returns c).In-Values) (b-is (goal.at.returns c).In-Values) (c-is (goal.at.returns c).In-Values) (d-is (goal.at.returns c).In-Values) r.0 ∙ sym r.1 ∙ track-judged (g (goal.at.returns c).Start) (number (goal.at.returns c).In-Values))
+    let b = both (goal.at.returns c).Start _ (whole (g (goal.at.returns c).Start) _ _ _ _ _ (a-is (goal.at.returns c).In-Values) (b-is (goal.at.returns c).In-Values) (c-is (goal.at.returns c).In-Values) (d-is (goal.at.returns c).In-Values) r.0 ∙ sym r.1 ∙ track-judged (g (goal.at.returns c).Start) (number (goal.at.returns c).In-Values)) in
+    record { answer = b.0; accurate = b.1 }

@@ -1,6 +1,5 @@
 -- `hire::labels` meets its contract.
 -- Assumes nothing.
-use borrow.Author.Rules.{rules}
 use Rattle.labels.specs.Given.{labels_of}
 use Rattle.hire.specs.Hire.{block_labels}
 use Rattle.hire.proofs.labels.Goals as goal

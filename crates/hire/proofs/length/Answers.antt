@@ -2,7 +2,6 @@
 -- Assumes nothing.
 use mathlib.Core.Path.{ap}
 use Rattle.hire.specs.Hire.{blocks_in, block_length}
-use borrow.Author.Rules.{rules}
 use Rattle.hire.proofs.length.Goals as goal
 
 pub returns : goal.returns

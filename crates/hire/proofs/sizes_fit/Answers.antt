@@ -1,7 +1,6 @@
 -- `hire::sizes_fit` meets its contract: the two sizes are those of the definition.
 -- Assumes nothing.
 use Rattle.hire.specs.Hire.{measurements_in, blocks_in, sizes_fit_lem}
-use borrow.Author.Rules.{rules}
 use Rattle.hire.proofs.sizes_fit.Goals as goal
 
 pub returns : goal.returns

@@ -7,8 +7,8 @@ use Prim.Native.Nat.{ℕ, ◌+◌, ◌*◌, ◌-◌, ◌/◌}
 use native.Mathlib.Omega.{arith}
 use lib.ListN.{length, take, drop}
 use mir.Syntax.{w64}
-use mir.Val.{to_z, of_z}
-use Rattle.whole.proofs.Words.{back-of}
+use mir.Val.{SFits, to_z, of_z}
+use mir.Facts.{to_z-of_z}
 use Rattle.limits.proofs.Parts.{rest_part}
 use Rattle.exact.specs.Accurate.{AccurateTrack}
 use Rattle.exact.specs.Corrected.{Given, steps}
@@ -39,10 +39,10 @@ sized c = whole (goal.at.After-unsigned16-n c).Else-block-length ∙ ap block_le
 
 module _ (c : After-track_packed) where
   abbrev u : After-unsigned16-n
-  u = c
+  u = (goal.at.After-track_packed c).After-unsigned16-n
 
   abbrev b : List ℕ
-  b = bytes u
+  b = bytes (goal.at.After-track_packed c).After-length
 
   abbrev from : ℕ
   from = 58 + 120 * n u
@@ -50,21 +50,21 @@ module _ (c : After-track_packed) where
   abbrev lent : Given
   lent =
       packed (take (from - 58) (drop 58 b)) (to_z w64 (of_z w64 c.signed64.result))
-      (to_z w64 (of_z w64 c.signed642.result)) (to_z w64 (of_z w64 c.signed643.result))
-      (to_z w64 (of_z w64 c.signed644.result)) (take (length b - from) (drop from b))
+      (to_z w64 (of_z w64 c.signed64-2.result)) (to_z w64 (of_z w64 c.signed64-3.result))
+      (to_z w64 (of_z w64 c.signed64-4.result)) (take (length b - from) (drop from b))
 
   given_is : lent ≡ block_given b
   unfolding block_given
   given_is =
-      let d4 = c in
-      let d3 = d4 in
-      let d2 = d3 in
-      let d1 = d2 in
       let e : 58 + 120 * n u - 58 ≡ 120 * n u = omega arith in
-      let i1 = back-of d1.signed64.type-inv ∙ d1.signed64.ensures in
-      let i2 = back-of d2.signed642.type-inv ∙ d2.signed642.ensures in
-      let i3 = back-of d3.signed643.type-inv ∙ d3.signed643.ensures in
-      let i4 = back-of d4.signed644.type-inv ∙ d4.signed644.ensures in
+      let f1 : SFits w64 c.signed64.result = search rules in
+      let i1 = to_z-of_z f1 ∙ c.signed64.ensures in
+      let f2 : SFits w64 c.signed64-2.result = search rules in
+      let i2 = to_z-of_z f2 ∙ c.signed64-2.ensures in
+      let f3 : SFits w64 c.signed64-3.result = search rules in
+      let i3 = to_z-of_z f3 ∙ c.signed64-3.ensures in
+      let f4 : SFits w64 c.signed64-4.result = search rules in
+      let i4 = to_z-of_z f4 ∙ c.signed64-4.ensures in
       (λ z. packed (take (e z) (drop 58 b)) (i1 z) (i2 z) (i3 z) (i4 z) (rest_part b from z))
       ∙ packed-is b (n u) (sized u)
       ∙ ap (λ (k : ℕ). given_in k b) (n-is u)
@@ -74,12 +74,12 @@ module _ (c : After-track_packed) where
 
 pub returns-then-block-length : goal.returns-then-block-length
 returns-then-block-length c = record {
-      answer = other-found _ (λ e. c.if-block-length.true (e ∙ sym c.length.ensures));
-      accurate = λ z. absurd (omega (arith, z));
-    }
+  answer = other-found _ (λ e. c.if-block-length.true (e ∙ sym c.length.ensures));
+  accurate = λ z. absurd (omega (arith, z));
+}
 
 pub slice_bounds-track_packed-end : goal.slice_bounds-track_packed-end
-slice_bounds-track_packed-end c = omega (arith, sized c)
+slice_bounds-track_packed-end c = omega (arith, sized (goal.at.slice_bounds-track_packed-end c).After-unsigned16-n)
 
 pub slice_bounds-track_packed-count-2 : goal.slice_bounds-track_packed-count-2
 slice_bounds-track_packed-count-2 c = omega (arith, sized (goal.at.slice_bounds-track_packed-count-2 c).After-unsigned16-n)
@@ -88,8 +88,9 @@ pub slice_bounds-track_packed-start-2 : goal.slice_bounds-track_packed-start-2
 slice_bounds-track_packed-start-2 c = omega (arith, sized (goal.at.slice_bounds-track_packed-start-2 c).After-unsigned16-n)
 
 pub returns : goal.returns
-returns c = record {
-      answer = c.track_packed.ensures.answer ∙ ap found_rule (given_is c) ∙ whole-found (b c) (whole (u c));
-      accurate = λ z. subst (λ (G : Given). AccurateTrack steps (blocks_in (b c)) G (found_numbers c.track_packed.result)) (given_is c)
-          (subst (λ (k : ℕ). AccurateTrack steps k (lent c) (found_numbers c.track_packed.result)) (count-is c) (c.track_packed.ensures.accurate z));
+returns c =
+    let t = (goal.at.returns c).After-track_packed in record {
+      answer = c.track_packed.ensures.answer ∙ ap found_rule (given_is t) ∙ whole-found (b t) (whole (goal.at.returns c).Else-block-length);
+      accurate = λ z. subst (λ (G : Given). AccurateTrack steps (blocks_in (b t)) G (found_numbers c.track_packed.result)) (given_is t)
+          (subst (λ (k : ℕ). AccurateTrack steps k (lent t) (found_numbers c.track_packed.result)) (count-is t) (c.track_packed.ensures.accurate z));
     }

@@ -7,24 +7,25 @@ use lib.ListN.{length}
 use borrow.Author.Tests.{leb-true, leb-false}
 use borrow.Author.Rules.{rules}
 use Rattle.lent.proofs.Placing.{within, not_within, put-part}
+use Rattle.lent.proofs.put.Goals.{After-fits}
 use Rattle.lent.proofs.put.Goals as goal
 
 -- where the test is passed, the bytes fit
-room : (c : tie.After-fits2) → c.fits2.result ≡ true → c.args.at + length c.args.bytes.now ≤ length c.args.lent.now
-room c t = leb-true (c.args.at + length c.args.bytes.now) (length c.args.lent.now) (sym c.fits2.ensures ∙ t)
+room : (c : After-fits) → c.fits.result ≡ true → c.args.at + length c.args.bytes.now ≤ length c.args.lent.now
+room c t = leb-true (c.args.at + length c.args.bytes.now) (length c.args.lent.now) (sym c.fits.ensures ∙ t)
 
 pub overflow_add-end : goal.overflow_add-end
-overflow_add-end c = let r = room c c.if-fits.true in search (rules, r)
+overflow_add-end c = let r = room (goal.at.overflow_add-end c).After-fits c.if-fits.true in search (rules, r)
 
-pub slice_bounds-copy_from_slice-end : goal.slice_bounds-copy_from_slice-end
-slice_bounds-copy_from_slice-end c = room c c.if-fits.true
+pub slice_bounds-copy-end : goal.slice_bounds-copy-end
+slice_bounds-copy-end c = room (goal.at.slice_bounds-copy-end c).After-fits c.if-fits.true
 
 pub returns-then-fits : goal.returns-then-fits
 returns-then-fits c =
-    let r = room c c.if-fits.true in
-    put-part c.args.lent.now c.args.bytes.now _ c.args.at r c.copy.ensures.1
+    let r = room (goal.at.returns-then-fits c).After-fits c.if-fits.true in
+    put-part c.args.lent.now c.args.bytes.now _ c.args.at r c.copy.ensures
     ∙ sym (within c.args.lent.now c.args.at c.args.bytes.now r)
 
 pub returns-else-fits : goal.returns-else-fits
 returns-else-fits c =
-    sym (not_within c.args.lent.now c.args.at c.args.bytes.now (leb-false (c.args.at + length c.args.bytes.now) (length c.args.lent.now) (sym c.fits2.ensures ∙ c.if-fits.false)))
+    sym (not_within c.args.lent.now c.args.at c.args.bytes.now (leb-false (c.args.at + length c.args.bytes.now) (length c.args.lent.now) (sym c.fits.ensures ∙ c.if-fits.false)))

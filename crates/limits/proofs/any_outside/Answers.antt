@@ -1,6 +1,5 @@
 -- `limits::any_outside` meets its contract, by what `scan` answers.
 -- Assumes nothing.
-use borrow.Author.Rules.{rules}
 use mathlib.Core.Path.{ap}
 use mir.Facts.{to_z-of_z}
 use Rattle.limits.specs.Scan.{scan_rule}

@@ -3,7 +3,6 @@
 use mathlib.Core.Path.{ap, ◌∙◌}
 use mir.Facts.{to_z-of_z}
 use Rattle.limits.specs.Limits.{beyond, delay_limit}
-use borrow.Author.Rules.{rules}
 use Rattle.limits.proofs.delay_beyond.Goals as goal
 
 pub returns : goal.returns

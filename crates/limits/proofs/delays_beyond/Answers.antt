@@ -4,7 +4,6 @@ use mathlib.Core.Bool.{◌||◌}
 use mathlib.Core.Path.{ap, ap₂, ◌∙◌}
 use mir.Facts.{to_z-of_z}
 use Rattle.limits.specs.Limits.{beyond, delay_limit}
-use borrow.Author.Rules.{rules}
 use Rattle.limits.proofs.delays_beyond.Goals as goal
 
 pub returns : goal.returns

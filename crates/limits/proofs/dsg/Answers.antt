@@ -2,7 +2,6 @@
 -- Assumes nothing.
 use Rattle.limits.specs.Limits.{dsg_number}
 use mir.Facts.{to_z-of_z}
-use borrow.Author.Rules.{rules}
 use Rattle.limits.proofs.dsg.Goals as goal
 
 pub returns : goal.returns

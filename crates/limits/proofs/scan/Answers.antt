@@ -2,16 +2,14 @@
 -- Assumes nothing.
 use borrow.Author.Rules.{rules}
 use mathlib.Core.Path.{◌≡◌, refl, sym, ◌∙◌}
-use Prim.Native.Nat.{◌≤◌, ◌-◌}
 use native.Mathlib.Nat.{zero-add}
+use native.Mathlib.Omega.{arith}
 use lib.IntN.{pos}
-use lib.ListN.{length, drop, get_or}
+use lib.ListN.{get_or}
 use mir.Syntax.{w64}
 use mir.Val.{to_z, of_z, SFits}
 use mir.Facts.{to_z-of_z}
 use Rattle.limits.specs.Limits.{outside}
-use Rattle.limits.specs.Lists.{any_outside_lem}
-use Rattle.limits.specs.Scan.{read_to, scan_rule}
 use Rattle.limits.proofs.Scans.{Left, found, passed, none_left}
 use Rattle.limits.proofs.scan.Goals.{After-outside, At-loop-read, Start}
 use Rattle.limits.proofs.scan.Goals as goal
@@ -39,12 +37,12 @@ loop-read-init c = (search rules, (refl, sym (zero-add _)))
 
 pub returns-then-outside : goal.returns-then-outside
 returns-then-outside c =
-    sym (found _ _ _ _ (so_far (goal.at.returns-then-outside c).At-loop-read) c.loop-read-test.true (tested (goal.at.returns-then-outside c).After-outside ∙ c.if-outside.true))
+    sym (found _ _ _ _ (so_far (goal.at.returns-then-outside c).At-loop-read) (omega arith) (tested (goal.at.returns-then-outside c).After-outside ∙ c.if-outside.true))
 
 pub loop-read-preserved : goal.loop-read-preserved
 loop-read-preserved c =
     let l = limits (goal.at.loop-read-preserved c).Start in
-    (search rules, simp (l.0, l.1) (passed _ _ _ _ (so_far (goal.at.loop-read-preserved c).At-loop-read) c.loop-read-test.true (tested (goal.at.loop-read-preserved c).After-outside ∙ c.if-outside.false)))
+    (search rules, simp (l.0, l.1) (passed _ _ _ _ (so_far (goal.at.loop-read-preserved c).At-loop-read) (omega arith) (tested (goal.at.loop-read-preserved c).After-outside ∙ c.if-outside.false)))
 
 pub returns : goal.returns
 returns c = sym (none_left _ _ _ _ (so_far (goal.at.returns c).At-loop-read) c.loop-read-test.false)

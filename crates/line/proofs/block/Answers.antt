@@ -1,6 +1,5 @@
 -- `line::block` meets its contract: each refusal comes where the rule has it, and where none does, the lent line is Line's.
 -- Assumes nothing.
-use borrow.Author.Rules.{rules}
 use native.Mathlib.Omega.{arith}
 use mathlib.Core.Path.{◌≡◌, sym, ap, ap₂, ◌∙◌}
 use Prim.Native.Nat.{◌<◌}
@@ -39,6 +38,6 @@ pub returns : goal.returns
 returns c =
     let numbers = sym (ap found_numbers c.in-Ten.is) in
     written c.args.block.now c.args.lent.now c.track-found.result (passed (goal.at.returns c).Else-sizes-ne0) (found-is (goal.at.returns c).After-track-found) c.track-found.ensures.accurate (ap found_number_lem c.in-Ten.is)
-    c.line.result c.line.new.1.1.0
+    c.line.result c.line.new.lent
     (c.line.ensures.answer ∙ ap₂ (λ (y : Labels) (m : Numbers). line_answer y m (length c.args.lent.now)) c.labels.ensures numbers)
     (c.line.ensures.written ∙ ap₂ (λ (y : Labels) (m : Numbers). line_after y m c.args.lent.now) c.labels.ensures numbers)

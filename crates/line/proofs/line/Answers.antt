@@ -1,11 +1,10 @@
 -- `line::line` meets its contract: refused, it touches nothing; accepted, there is room for the text, which is written.
 -- Assumes nothing.
-use mathlib.Core.Path.{◌≡◌, sym, ap, ap₂, ◌∙◌}
+use mathlib.Core.Path.{◌≡◌, sym, ap₂, ◌∙◌}
 use lib.ListN.{length}
 use Rattle.limits.specs.Refusal.{◌then◌}
 use Rattle.line.specs.Line.{line_answer}
 use Rattle.line.proofs.Accepted.{kept, written}
-use borrow.Author.Rules.{rules}
 use Rattle.line.proofs.line.Goals.{After-then-answer}
 use Rattle.line.proofs.line.Goals as goal
 

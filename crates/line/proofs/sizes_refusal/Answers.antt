@@ -7,7 +7,6 @@ use lib.ListN.{length}
 use lib.Dec.{eqb}
 use Rattle.limits.specs.Refusal.{◌when◌, ◌then◌}
 use Rattle.line.specs.Block.{sizes_number}
-use borrow.Author.Rules.{rules}
 use Rattle.line.proofs.sizes_refusal.Goals as goal
 
 pub returns : goal.returns

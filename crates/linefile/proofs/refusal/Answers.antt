@@ -3,14 +3,13 @@
 use Rattle.limits.proofs.Laws.{both}
 use borrow.Author.Tests.{ltb-true, eqb-true}
 use mathlib.Core.Path.{◌≡◌, refl, sym, ap₂, ◌∙◌}
-use Prim.Native.Nat.{◌-◌, ◌/◌, ◌≤◌, ◌<◌}
+use Prim.Native.Nat.{◌/◌, ◌<◌}
 use native.Mathlib.Omega.{arith}
-use lib.ListN.{length, drop}
-use borrow.Author.Rules.{rules}
-use Rattle.limits.specs.Refusal.{◌when◌, ◌then◌}
+use lib.ListN.{length}
+use Rattle.limits.specs.Refusal.{◌then◌}
 use Rattle.columns.specs.Text.{ended_length}
 use Rattle.linefile.specs.Files.{lines, file_number}
-use Rattle.linefile.proofs.Judging.{ranked_number, judged, judged-all, ranked-none}
+use Rattle.linefile.proofs.Judging.{judged, judged-all, ranked-none}
 use Rattle.linefile.proofs.Lines.{line-part, length-lines}
 use Rattle.linefile.proofs.refusal.Goals.{In-loop-i}
 use Rattle.linefile.proofs.refusal.Goals as goal
@@ -32,8 +31,7 @@ loop-i-smaller c = omega (arith, turn (goal.at.loop-i-smaller c).In-loop-i)
 
 pub loop-i-preserved : goal.loop-i-preserved
 loop-i-preserved c =
-    let h = turn (goal.at.loop-i-preserved c).In-loop-i in
-    (
+    let h = turn (goal.at.loop-i-preserved c).In-loop-i in (
       omega arith,
       judged
           (lines c.args.file.now)

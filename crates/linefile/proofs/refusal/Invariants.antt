@@ -1,17 +1,11 @@
 -- `linefile::refusal` meets its contract: after i turns the first i lines are judged, each by its rank.
 -- Assumes nothing.
-use Rattle.limits.proofs.Laws.{both}
-use borrow.Author.Tests.{ltb-true, eqb-true}
-use mathlib.Core.Path.{◌≡◌, refl, sym, ap₂, ◌∙◌}
-use Prim.Native.Nat.{◌-◌, ◌/◌, ◌≤◌, ◌<◌}
-use native.Mathlib.Omega.{arith}
-use lib.ListN.{length, drop}
-use borrow.Author.Rules.{rules}
-use Rattle.limits.specs.Refusal.{◌when◌, ◌then◌}
-use Rattle.columns.specs.Text.{ended_length}
-use Rattle.linefile.specs.Files.{lines, file_number}
-use Rattle.linefile.proofs.Judging.{ranked_number, judged, judged-all, ranked-none}
-use Rattle.linefile.proofs.Lines.{line-part, length-lines}
+use mathlib.Core.Path.{◌≡◌}
+use Prim.Native.Nat.{◌-◌, ◌≤◌}
+use lib.ListN.{drop}
+use Rattle.limits.specs.Refusal.{◌then◌}
+use Rattle.linefile.specs.Files.{lines}
+use Rattle.linefile.proofs.Judging.{ranked_number}
 use Rattle.linefile.proofs.refusal.Given as goal
 
 abbrev pub invariant-loop-i : goal.invariant-loop-i

@@ -5,7 +5,6 @@ use Prim.Native.Nat.{ℕ, ◌<◌}
 use native.Mathlib.Nat.{pos_of_ne-zero}
 use Rattle.limits.specs.Refusal.{◌then◌}
 use Rattle.limits.proofs.Laws.{then-refused, then-passed}
-use borrow.Author.Rules.{rules}
 use Rattle.linefile.proofs.refusals.Goals as goal
 
 pub returns-then-number-ne0 : goal.returns-then-number-ne0

@@ -11,7 +11,6 @@ use Rattle.columns.specs.Text.{ended_length}
 use Rattle.linefile.specs.Files.{line_at}
 use Rattle.linefile.specs.Walk.{rank, passing, step_of}
 use Rattle.linefile.proofs.Lines.{lines_left}
-use borrow.Author.Rules.{rules}
 use Rattle.linefile.proofs.step.Goals.{Then-m-first}
 use Rattle.linefile.proofs.step.Goals as goal
 

@@ -10,7 +10,6 @@ use Rattle.limits.specs.Refusal.{◌when◌, ◌then◌}
 use Rattle.limits.proofs.Laws.{then-zero}
 use Rattle.linefile.specs.Files.{file_number}
 use Rattle.merging.proofs.Replies.{result_number, files-refused, result-refused, result_fits, result-written}
-use borrow.Author.Rules.{rules}
 use Rattle.merging.proofs.merge.Goals.{After-then-number, Else-refusal-ne0}
 use Rattle.merging.proofs.merge.Goals as goal
 
@@ -37,9 +36,9 @@ returns-then-refusal-ne0 c =
 
 pub measure-measured-requires : goal.measure-measured-requires
 measure-measured-requires c = let z = then-zero _ _ (files-accepted c) in record {
-      first_value = z.0;
-      second_value = z.1;
-    }
+  first_value = z.0;
+  second_value = z.1;
+}
 
 pub returns-then-number-ne0 : goal.returns-then-number-ne0
 returns-then-number-ne0 c =

@@ -1,6 +1,5 @@
 -- `path::is_beyond` meets its contract: the three tests together.
 -- Assumes nothing.
-use borrow.Author.Rules.{rules}
 use Rattle.path.specs.Path.{point_beyond}
 use Rattle.path.proofs.is_beyond.Goals as goal
 

@@ -1,12 +1,11 @@
 -- `path::length` meets its contract: the root of the sum, which a float holds without rounding.
 -- Assumes nothing.
-use mathlib.Core.Path.{◌≡◌, ap, ◌∙◌}
+use mathlib.Core.Path.{ap, ◌∙◌}
 use Prim.Native.Nat.{ℕ}
 use native.Mathlib.Omega.{arith}
 use lib.Dec.{le→leb}
 use lib.IntN.{pos}
 use lib.Ieee.{binary64, of_int, in_float}
-use borrow.Author.Rules.{rules}
 use Rattle.path.specs.Root.{root}
 use Rattle.path.specs.Path.{whole_length, length_of}
 use Rattle.path.proofs.length.Goals as goal

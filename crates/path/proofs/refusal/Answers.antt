@@ -1,8 +1,7 @@
 -- `path::refusal` meets its contract: the tests of both points together, in order.
 -- Assumes nothing.
-use mathlib.Core.Path.{◌≡◌, ap, ap₂, ◌∙◌}
+use mathlib.Core.Path.{ap, ap₂, ◌∙◌}
 use mathlib.Core.Bool.{Bool, ◌||◌}
-use borrow.Author.Rules.{rules}
 use Rattle.limits.specs.Refusal.{◌when◌, ◌then◌}
 use Rattle.path.specs.Path.{path_number}
 use Rattle.path.proofs.refusal.Goals as goal

@@ -5,8 +5,7 @@ use native.Mathlib.Omega.{arith}
 use mathlib.Core.List.{List}
 use Prim.Native.Nat.{ℕ, ◌+◌, ◌-◌, ◌≤◌, ◌<◌}
 use lib.ListN.{length, take, drop}
-use base.Fml.{GName}
-use denote.Ref.{MutBor}
+use Rattle.std.specs.Borrow.{Bor}
 use Rattle.limits.proofs.Parts.{rest_part}
 use Rattle.reader.specs.Part.{PartFrom}
 use Rattle.reader.specs.Comment.{comment_offset}
@@ -15,7 +14,6 @@ use Rattle.reading.proofs.Refusals.{accepted}
 use Rattle.reading.proofs.Readings.{accepted-case, refused-case}
 use Rattle.reader.proofs.Comments.{offset-accepted, offset-refused}
 use Rattle.columns.specs.Text.{line_length}
-use borrow.Author.Rules.{rules}
 use Rattle.reader.proofs.comment.Goals.{In-Line, In_default}
 use Rattle.reader.proofs.comment.Goals as goal
 
@@ -30,10 +28,10 @@ long : (c : In-Line) → line_length ≤ length c.args.line.now
 long c = (accepted _ (read-line c)).0.least
 
 -- the part that is lent from an offset on
-part_at : (line : MutBor (List ℕ)) (at : ℕ) (name : GName) → comment_offset line.now ≡ at
+part_at : (line : Bor (List ℕ)) (at : ℕ) → comment_offset line.now ≡ at
     → PartFrom (comment_offset line.now) line
-    (record { ref_ptr = (line.ref_ptr.0, at + line.ref_ptr.1); ghost_name = name; now = take (length line.now - at) (drop at line.now) })
-part_at line at name e =
+    (record { ref_ptr = (line.ref_ptr.0, at + line.ref_ptr.1); now = take (length line.now - at) (drop at line.now) })
+part_at line at e =
     record {
       place = ap (λ (k : ℕ). (line.ref_ptr.0, k + line.ref_ptr.1)) (sym e);
       bytes = rest_part line.now at ∙ ap (λ (k : ℕ). drop k line.now) (sym e);
@@ -41,7 +39,7 @@ part_at line at name e =
 
 pub returns-in_default : goal.returns-in_default
 returns-in_default c =
-    part_at c.args.line _ c.result-1.given.0 (offset-refused c.args.line.now (refused (goal.at.returns-in_default c).In_default))
+    part_at c.args.line _ (offset-refused c.args.line.now (refused (goal.at.returns-in_default c).In_default))
 
 pub slice_bounds-result-count-2 : goal.slice_bounds-result-count-2
 slice_bounds-result-count-2 c = omega (arith, long c)
@@ -51,4 +49,4 @@ slice_bounds-result-start-2 c = omega (arith, long c)
 
 pub returns : goal.returns
 returns c =
-    part_at c.args.line _ c.result-2-1.given.0 (offset-accepted c.args.line.now (read-line (goal.at.returns c).In-Line))
+    part_at c.args.line _ (offset-accepted c.args.line.now (read-line (goal.at.returns c).In-Line))

@@ -13,7 +13,6 @@ use Rattle.reading.specs.Read.{values_number}
 use Rattle.reading.specs.Old.{old_number}
 use Rattle.reading.specs.Fields.{Shared}
 use Rattle.reading.proofs.Columns.{old-shared}
-use borrow.Author.Rules.{rules}
 use Rattle.reading.proofs.old_refusal.Goals.{Else-characters-ne0}
 use Rattle.reading.proofs.old_refusal.Goals as goal
 
@@ -39,9 +38,9 @@ numbers-numbers-requires c = shared-so (goal.at.numbers-numbers-requires c).Else
 
 pub values_refusal-requires : goal.values_refusal-requires
 values_refusal-requires c = record {
-      shared = shared-so (goal.at.values_refusal-requires c).Else-characters-ne0;
-      numbers_value = c.numbers-numbers.ensures;
-    }
+  shared = shared-so (goal.at.values_refusal-requires c).Else-characters-ne0;
+  numbers_value = c.numbers-numbers.ensures;
+}
 
 pub returns : goal.returns
 unfolding old_number

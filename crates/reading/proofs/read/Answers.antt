@@ -15,7 +15,6 @@ use Rattle.columns.specs.Columns.{read_labels, read_numbers}
 use Rattle.reading.specs.Read.{values_number, read_number, read_rule}
 use Rattle.reading.proofs.Columns.{shared}
 use Rattle.reading.proofs.Refusals.{reply-characters, reply-values, reply-line}
-use borrow.Author.Rules.{rules}
 use Rattle.reading.proofs.read.Goals.{After-values_refusal-refusal, Else-characters-ne0}
 use Rattle.reading.proofs.read.Goals as goal
 
@@ -28,9 +27,9 @@ same line = rest_part line 0
 
 pub returns-then-characters-ne0 : goal.returns-then-characters-ne0
 returns-then-characters-ne0 c = record {
-      answer = reply-characters _ c.refusal-characters.ensures (pos_of_ne-zero c.if-characters-ne0.true) ∙ ap read_rule (same _);
-      variant = pos_of_ne-zero c.if-characters-ne0.true;
-    }
+  answer = reply-characters _ c.refusal-characters.ensures (pos_of_ne-zero c.if-characters-ne0.true) ∙ ap read_rule (same _);
+  variant = pos_of_ne-zero c.if-characters-ne0.true;
+}
 
 passed : (c : Else-characters-ne0) → our_characters_number (anew c.args.line.now) ≡ 0
 passed c = sym c.refusal-characters.ensures ∙ c.if-characters-ne0.false
@@ -43,9 +42,9 @@ numbers-numbers-requires c = shared _ (spelled _ (passed (goal.at.numbers-number
 
 pub values_refusal-refusal-requires : goal.values_refusal-refusal-requires
 values_refusal-refusal-requires c = record {
-      shared = shared _ (spelled _ (passed (goal.at.values_refusal-refusal-requires c).Else-characters-ne0)).columns;
-      numbers_value = c.numbers-numbers.ensures;
-    }
+  shared = shared _ (spelled _ (passed (goal.at.values_refusal-refusal-requires c).Else-characters-ne0)).columns;
+  numbers_value = c.numbers-numbers.ensures;
+}
 
 -- the row is that of what stands in the line
 own-values : (c : After-values_refusal-refusal) → let line = anew c.args.line.now in
@@ -56,13 +55,13 @@ own-values c =
 
 pub returns-then-refusal-ne0 : goal.returns-then-refusal-ne0
 returns-then-refusal-ne0 c = record {
-      answer = reply-values _ (passed (goal.at.returns-then-refusal-ne0 c).Else-characters-ne0) (own-values (goal.at.returns-then-refusal-ne0 c).After-values_refusal-refusal) (pos_of_ne-zero c.if-refusal-ne0.true) ∙ ap read_rule (same _);
-      variant = pos_of_ne-zero c.if-refusal-ne0.true;
-    }
+  answer = reply-values _ (passed (goal.at.returns-then-refusal-ne0 c).Else-characters-ne0) (own-values (goal.at.returns-then-refusal-ne0 c).After-values_refusal-refusal) (pos_of_ne-zero c.if-refusal-ne0.true) ∙ ap read_rule (same _);
+  variant = pos_of_ne-zero c.if-refusal-ne0.true;
+}
 
 pub returns : goal.returns
 unfolding read_number
 returns c = record {
-      answer = reply-line _ (then-passed _ _ (passed (goal.at.returns c).Else-characters-ne0) ∙ sym (own-values (goal.at.returns c).After-values_refusal-refusal) ∙ c.if-refusal-ne0.false) c.labels-labels.ensures c.numbers-numbers.ensures ∙ ap read_rule (same _);
-      variant = tt;
-    }
+  answer = reply-line _ (then-passed _ _ (passed (goal.at.returns c).Else-characters-ne0) ∙ sym (own-values (goal.at.returns c).After-values_refusal-refusal) ∙ c.if-refusal-ne0.false) c.labels-labels.ensures c.numbers-numbers.ensures ∙ ap read_rule (same _);
+  variant = tt;
+}

@@ -7,7 +7,6 @@ use Rattle.labels.specs.Content.{content_number}
 use Rattle.limits.specs.declared.Numbers.{Numbers}
 use Rattle.reading.specs.Read.{values_number}
 use Rattle.reading.proofs.Refusals.{values-row}
-use borrow.Author.Rules.{rules}
 use Rattle.reading.proofs.values_refusal.Goals as goal
 
 pub returns : goal.returns

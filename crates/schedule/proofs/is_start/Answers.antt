@@ -1,7 +1,6 @@
 -- `schedule::is_start` meets its contract: the modular tests in a row say whether there is a track.
 -- Assumes nothing.
 use Rattle.schedule.proofs.Minutes.{row}
-use borrow.Author.Rules.{rules}
 use Rattle.schedule.proofs.is_start.Goals as goal
 
 pub returns : goal.returns

@@ -6,7 +6,6 @@ use borrow.Author.Tests.{ltb-false}
 use Rattle.limits.specs.Refusal.{◌when◌, ◌then◌}
 use Rattle.limits.proofs.Laws.{or-false}
 use Rattle.schedule.specs.Schedule.{first_date, last_date, start_number}
-use borrow.Author.Rules.{rules}
 use Rattle.schedule.proofs.start.Goals.{Else-mjd}
 use Rattle.schedule.proofs.start.Goals as goal
 

@@ -1,10 +1,9 @@
 -- `series::fit` meets its contract.
 -- Assumes nothing.
-use borrow.Author.Rules.{rules}
 use mathlib.Core.Path.{◌≡◌, sym, ap, ◌∙◌}
 use mathlib.Core.Bool.{false, not}
 use mathlib.Core.List.{List}
-use Prim.Native.Nat.{ℕ, ◌*◌, ◌-◌, ◌≤◌, ◌<◌}
+use Prim.Native.Nat.{ℕ, ◌*◌, ◌-◌, ◌≤◌}
 use native.Mathlib.Omega.{arith}
 use lib.Dec.{lit<, lit≤}
 use lib.IntN.{ℤ, pos}
@@ -13,7 +12,7 @@ use mir.Syntax.{w64}
 use mir.Val.{to_z, of_z}
 use Rattle.whole.specs.Nearest.{nearest}
 use Rattle.whole.specs.Words.{Within}
-use Rattle.whole.proofs.Words.{back-of, fits, bound, plain-is, bounds}
+use Rattle.whole.proofs.Words.{back-of, fits, bound, plain-is, bounds, back-of}
 use Rattle.whole.specs.Table.{at}
 use Rattle.exact.specs.Corrected.{steps}
 use Rattle.limits.specs.Lists.{any_beyond_lem}
@@ -29,13 +28,13 @@ use Rattle.series.proofs.fit.Goals as goal
 pub returns-then-not-blocks_fit : goal.returns-then-not-blocks_fit
 unfolding fit_rule
 returns-then-not-blocks_fit c =
-    let e = values-miscounted c.args.values.now (ap not (sym c.blocks_fit.ensures) ∙ c.if-not-blocks_fit.true) in record {
+    let e = values-miscounted c.args.values.now (ap not (sym c.blocks_fit.ensures ∙ c.if-not-blocks_fit.true)) in record {
       answer = sym (ap (λ (k : ℕ). reply (pos 0, pos 0) k (midpoint steps (length c.args.values.now) (at c.args.values.now), slope steps (length c.args.values.now) (at c.args.values.now))) e);
       variant = lit< tt;
     }
 
 counted : (c : Else-not-blocks_fit) → not (blocks_fit_lem (length c.args.values.now)) ≡ false
-counted c = ap not (sym c.blocks_fit.ensures) ∙ c.if-not-blocks_fit.false
+counted c = ap not (sym c.blocks_fit.ensures ∙ c.if-not-blocks_fit.false)
 
 pub sums-s-requires : goal.sums-s-requires
 sums-s-requires c = let b = blocks-within _ (counted c) in (omega (arith, b.0), b.1)
@@ -85,7 +84,7 @@ midpoint-is : (c : After-nearest_by_span)
 unfolding midpoint
 midpoint-is c =
     let s = total-word (sums-are (goal.at.After-nearest_by_span c).Else-s) in
-    back-of c.nearest_by_count.type-inv ∙ c.nearest_by_count.ensures ∙ ap (λ (z : ℤ). nearest z (100 * steps * length (values c))) (plain-is (search bounds depth 9) tt)
+    back-of c.nearest_by_count.type_inv ∙ c.nearest_by_count.ensures ∙ ap (λ (z : ℤ). nearest z (100 * steps * length (values c))) (plain-is (search bounds depth 9) tt)
 
 slope-is : (c : After-nearest_by_span)
     → to_z w64 (of_z w64 c.nearest_by_span.result) ≡ slope steps (length (values c)) (at (values c))
@@ -93,13 +92,13 @@ unfolding slope
 slope-is c =
     let t = moment-word (sums-are (goal.at.After-nearest_by_span c).Else-s) in
     let k = length (values c) in
-    back-of c.nearest_by_span.type-inv
+    back-of c.nearest_by_span.type_inv
     ∙ c.nearest_by_span.ensures
     ∙ ap (λ (z : ℤ). nearest z (steps * (k * (k * k - 1)))) (plain-is (search bounds depth 12) tt)
 
 pub returns : goal.returns
 unfolding fit_rule
 returns c = record {
-      answer = rw (midpoint-is c, slope-is c) (sym (reply-accepted _ _ (accepted (goal.at.returns c).Else-s)));
-      variant = tt;
-    }
+  answer = rw (midpoint-is c, slope-is c) (sym (reply-accepted _ _ (accepted (goal.at.returns c).Else-s)));
+  variant = tt;
+}

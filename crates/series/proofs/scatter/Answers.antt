@@ -1,6 +1,5 @@
 -- `series::scatter` meets its contract.
 -- Assumes nothing.
-use borrow.Author.Rules.{rules}
 use mathlib.Core.Bool.{false, not}
 use mathlib.Core.List.{List}
 use mathlib.Core.Path.{◌≡◌, sym, ap, ◌∙◌, subst₂}
@@ -9,7 +8,8 @@ use native.Mathlib.Omega.{arith}
 use lib.Dec.{lit<}
 use lib.IntN.{ℤ, pos, nat_abs}
 use lib.ListN.{length}
-use Rattle.whole.proofs.Order.{◌⩽◌, ◌⋖◌, pos-le, pos-lt}
+use Rattle.whole.specs.Order.{◌⩽◌, ◌⋖◌}
+use Rattle.whole.proofs.Order.{pos-le, pos-lt}
 use Rattle.whole.specs.Words.{Within}
 use Rattle.whole.proofs.Words.{count-read, fits, count, plain-is, bounds}
 use Rattle.limits.specs.Limits.{dsg_number}
@@ -40,21 +40,21 @@ first l number h e =
 
 pub returns-then-not-blocks_fit : goal.returns-then-not-blocks_fit
 returns-then-not-blocks_fit c = record {
-      answer = first c.args.values.now 1 (lit< tt) (values-miscounted c.args.values.now (ap not (sym c.blocks_fit.ensures) ∙ c.if-not-blocks_fit.true));
-      variant = lit< tt;
-    }
+  answer = first c.args.values.now 1 (lit< tt) (values-miscounted c.args.values.now (ap not (sym c.blocks_fit.ensures ∙ c.if-not-blocks_fit.true)));
+  variant = lit< tt;
+}
 
 counted : (c : Else-not-blocks_fit) → not (blocks_fit_lem (length c.args.values.now)) ≡ false
-counted c = ap not (sym c.blocks_fit.ensures) ∙ c.if-not-blocks_fit.false
+counted c = ap not (sym c.blocks_fit.ensures ∙ c.if-not-blocks_fit.false)
 
 pub sums-s-requires : goal.sums-s-requires
 sums-s-requires c = let b = blocks-within _ (counted c) in (omega (arith, b.0), b.1)
 
 pub returns-then-s : goal.returns-then-s
 returns-then-s c = record {
-      answer = first c.args.values.now 2 (lit< tt) (values-beyond c.args.values.now (counted (goal.at.returns-then-s c).Else-not-blocks_fit) (sym c.sums-s.ensures.outside_value ∙ c.if-s.true));
-      variant = lit< tt;
-    }
+  answer = first c.args.values.now 2 (lit< tt) (values-beyond c.args.values.now (counted (goal.at.returns-then-s c).Else-not-blocks_fit) (sym c.sums-s.ensures.outside_value ∙ c.if-s.true));
+  variant = lit< tt;
+}
 
 -- the list is not refused, so its values are from 4 to 52 and inside their limit
 accepted : (c : Else-s) → series_number c.args.values.now ≡ 0

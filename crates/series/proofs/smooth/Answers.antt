@@ -1,6 +1,5 @@
 -- `series::smooth` meets its contract.
 -- Assumes nothing.
-use borrow.Author.Rules.{rules}
 use mathlib.Core.Path.{◌≡◌, sym, ap, ◌∙◌}
 use Prim.Native.Nat.{◌<◌}
 use native.Mathlib.Omega.{arith}
@@ -11,7 +10,7 @@ use Rattle.whole.specs.Nearest.{nearest}
 use Rattle.whole.proofs.Ring.{*ℤ-assoc}
 use Rattle.whole.proofs.Rounding.{nearest-scale}
 use Rattle.whole.specs.Sum.{sum}
-use Rattle.whole.proofs.Words.{Word, known, equal, back-of, fits, bound, plain-is, bounds}
+use Rattle.whole.proofs.Words.{Word, known, equal, fits, bound, plain-is, bounds, back-of}
 use Rattle.whole.specs.Table.{at}
 use Rattle.exact.specs.Corrected.{steps}
 use Rattle.exact.specs.Weights.{weights}
@@ -61,7 +60,7 @@ pub returns : goal.returns
 unfolding smooth_rule smoothed
 returns c =
     let w = sum-word (goal.at.returns c).After-weighted in record {
-      answer = rw (back-of c.nearest.type-inv ∙ c.nearest.ensures ∙ ap (λ (z : ℤ). nearest z 221) (plain-is (search bounds depth 9) tt) ∙ by-5 (sum 15 (λ i. at weights i *ℤ at c.args.measurements.now i)))
+      answer = rw (back-of c.nearest.type_inv ∙ c.nearest.ensures ∙ ap (λ (z : ℤ). nearest z 221) (plain-is (search bounds depth 9) tt) ∙ by-5 (sum 15 (λ i. at weights i *ℤ at c.args.measurements.now i)))
           (sym (reply-accepted _ _ (accepted (goal.at.returns c).Else-refusal-ne0)));
       variant = tt;
     }

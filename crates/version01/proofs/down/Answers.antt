@@ -18,7 +18,6 @@ use Rattle.reading.proofs.Readings.{accepted-case, accepted-values, refused-case
 use Rattle.reading.proofs.Refusals.{accepted}
 use Rattle.version01.specs.Convert.{down_answer, down_after, old_length}
 use Rattle.columns.specs.Text.{line_length}
-use borrow.Author.Rules.{rules}
 use Rattle.version01.proofs.down.Goals.{After-then-number, Then-number-eq0}
 use Rattle.version01.proofs.down.Goals as goal
 
@@ -33,10 +32,13 @@ returns-in_default c =
     let some = refused-case c.args.line.now c.in_default.is c.read-reading.ensures.answer c.read-reading.ensures.variant in
     let number = c.reading_number.ensures ∙ ap (λ (r : Reading). (read_reply r).number) c.in_default.is ∙ refused-number c.args.line.now c.in_default.is c.read-reading.ensures.answer in
     let answer = unread c.args.line.now (length c.args.old.now) some in
-    (number ∙ answer, sym (after-refused _ _ (λ z. above some (answer ∙ z))))
+    record {
+      answer = number ∙ answer;
+      written = sym (after-refused _ _ (λ z. above some (answer ∙ z)));
+    }
   where
     above : {n : ℕ} → 0 < n → n ≡ 0 → ⊥
-    above h c.in_default.is = omega arith
+    above h e = omega arith
 
 -- in a line that is read the letter is looked at, and then the room
 answer-is : (c : After-then-number) → c.then-number.result ≡ down_answer c.args.line.now (length c.args.old.now)
@@ -67,16 +69,16 @@ slice_bounds-write-end c = omega (arith, (accepted-is _ _ (passed c)).0)
 
 pub write-requires : goal.write-requires
 write-requires c = let a = accepted-is _ _ (passed (goal.at.write-requires c).Then-number-eq0) in record {
-      in_bounds = omega (arith, a.0);
-      behind_in_bounds = a.1;
-    }
+  in_bounds = omega (arith, a.0);
+  behind_in_bounds = a.1;
+}
 
 pub returns-then-number-eq0 : goal.returns-then-number-eq0
 unfolding down_after
 returns-then-number-eq0 c = record {
-      answer = answer-is (goal.at.returns-then-number-eq0 c).After-then-number;
-      written = c.write.ensures ∙ sym (after-accepted _ _ (passed (goal.at.returns-then-number-eq0 c).Then-number-eq0));
-    }
+  answer = answer-is (goal.at.returns-then-number-eq0 c).After-then-number;
+  written = c.write.ensures ∙ sym (after-accepted _ _ (passed (goal.at.returns-then-number-eq0 c).Then-number-eq0));
+}
 
 pub returns-else-number-eq0 : goal.returns-else-number-eq0
 unfolding down_after

@@ -4,7 +4,7 @@ use mathlib.Core.Path.{◌≡◌, sym, ap, ap₂, ◌∙◌}
 use mathlib.Core.List.{List, [], ◌∷◌, ◌++◌}
 use Prim.Native.Nat.{ℕ, ◌+◌, ◌≤◌}
 use native.Mathlib.Omega.{arith}
-use lib.ListN.{length, drop}
+use lib.ListN.{length, drop, length-append}
 use Rattle.limits.specs.Refusal.{◌then◌}
 use Rattle.limits.proofs.Laws.{then-zero, after-accepted, after-refused, room-passed}
 use Rattle.fields.specs.Text.{decimal}
@@ -13,7 +13,6 @@ use Rattle.characters.proofs.Spelled.{spelled}
 use Rattle.reading.specs.Old.{old_number}
 use Rattle.version01.specs.Convert.{form_text, supplied, up_text, up_answer, up_after, old_length}
 use Rattle.version01.proofs.Characters.{supplied-length}
-use borrow.Author.Rules.{rules}
 use Rattle.version01.proofs.up.Goals.{After-decimal, After-then-answer, Then-answer-eq0}
 use Rattle.version01.proofs.up.Goals as goal
 
@@ -27,11 +26,8 @@ behind-is : {digits : List ℕ} (hc frc1 frc2 frc3 : ℕ) → digits ≡ decimal
 unfolding supplied spaced decimal
 behind-is hc frc1 frc2 frc3 e = ap (λ (t : List ℕ). 48 ∷ 48 ∷ 32 ∷ (t ++ (32 ∷ frc1 ∷ frc2 ∷ frc3 ∷ 32 ∷ []))) e
 
-put-behind : (c : After-decimal) → 48 ∷ 48 ∷ 32 ∷ (c.decimal.new.1.0 ++ (32 ∷ c.args.frc1 ∷ c.args.frc2 ∷ c.args.frc3 ∷ 32 ∷ [])) ≡ supplied c.args.hc c.args.frc1 c.args.frc2 c.args.frc3
+put-behind : (c : After-decimal) → 48 ∷ 48 ∷ 32 ∷ (c.decimal.new.out ++ (32 ∷ c.args.frc1 ∷ c.args.frc2 ∷ c.args.frc3 ∷ 32 ∷ [])) ≡ supplied c.args.hc c.args.frc1 c.args.frc2 c.args.frc3
 put-behind c = behind-is _ _ _ _ c.decimal.ensures
-
-pub slice_bounds-write-end : goal.slice_bounds-write-end
-slice_bounds-write-end c = sym (ap length (put-behind (goal.at.slice_bounds-write-end c).After-decimal) ∙ supplied-length _ _ _ _)
 
 -- an accepted line has all columns, and there is room
 accepted-is : (hc frc1 frc2 frc3 : ℕ) (old : List ℕ) (room : ℕ) → up_answer hc frc1 frc2 frc3 old room ≡ 0 → (101 ≤ length old) × (line_length ≤ room)
@@ -47,18 +43,18 @@ pub write-requires : goal.write-requires
 write-requires c =
     let a = accepted-is _ _ _ _ _ _ (passed (goal.at.write-requires c).Then-answer-eq0) in record {
       in_bounds = a.0;
-      behind_in_bounds = omega (arith, a.1, ap length (put-behind (goal.at.write-requires c).After-decimal) ∙ supplied-length _ _ _ _);
+      behind_in_bounds = omega (arith, a.1, length-append {A = ℕ});
     }
 
 pub returns-then-answer-eq0 : goal.returns-then-answer-eq0
 unfolding up_after
 returns-then-answer-eq0 c = record {
-      answer = answer-is (goal.at.returns-then-answer-eq0 c).After-then-answer;
-      written = c.write.ensures
-          ∙ ap (λ (b : List ℕ). form_text 71 c.args.old.now b ++ drop (old_length + length b) c.args.line.now) (put-behind (goal.at.returns-then-answer-eq0 c).After-decimal)
-          ∙ ap (λ (n : ℕ). up_text c.args.hc c.args.frc1 c.args.frc2 c.args.frc3 c.args.old.now ++ drop (old_length + n) c.args.line.now) (supplied-length c.args.hc c.args.frc1 c.args.frc2 c.args.frc3)
-          ∙ sym (after-accepted _ _ (passed (goal.at.returns-then-answer-eq0 c).Then-answer-eq0));
-    }
+  answer = answer-is (goal.at.returns-then-answer-eq0 c).After-then-answer;
+  written = c.write.ensures
+      ∙ ap (λ (b : List ℕ). form_text 71 c.args.old.now b ++ drop (old_length + length b) c.args.line.now) (put-behind (goal.at.returns-then-answer-eq0 c).After-decimal)
+      ∙ ap (λ (n : ℕ). up_text c.args.hc c.args.frc1 c.args.frc2 c.args.frc3 c.args.old.now ++ drop (old_length + n) c.args.line.now) (supplied-length c.args.hc c.args.frc1 c.args.frc2 c.args.frc3)
+      ∙ sym (after-accepted _ _ (passed (goal.at.returns-then-answer-eq0 c).Then-answer-eq0));
+}
 
 pub returns-else-answer-eq0 : goal.returns-else-answer-eq0
 unfolding up_after

@@ -1,7 +1,6 @@
 -- `viewing::common_view` meets its contract: each test tells what is answered.
 -- Assumes nothing.
 use mathlib.Core.Path.{◌≡◌, sym, ap, ◌∙◌}
-use Prim.Native.Nat.{◌<◌}
 use native.Mathlib.Nat.{pos_of_ne-zero}
 use lib.Dec.{lit<}
 use lib.IntN.{ℤ, pos}
@@ -20,15 +19,15 @@ use Rattle.viewing.proofs.common_view.Goals as goal
 
 pub returns-then-first-second : goal.returns-then-first-second
 returns-then-first-second c = record {
-      answer = long-refused c.args.first.now c.args.second.now c.if-first-second.true;
-      variant = lit< tt;
-    }
+  answer = long-refused c.args.first.now c.args.second.now c.if-first-second.true;
+  variant = lit< tt;
+}
 
 pub returns-then-refusal-ne0 : goal.returns-then-refusal-ne0
 returns-then-refusal-ne0 c = record {
-      answer = files-refused c.args.first.now c.args.second.now c.if-first-second.false c.refusals-refusal.ensures (pos_of_ne-zero c.if-refusal-ne0.true);
-      variant = pos_of_ne-zero c.if-refusal-ne0.true;
-    }
+  answer = files-refused c.args.first.now c.args.second.now c.if-first-second.false c.refusals-refusal.ensures (pos_of_ne-zero c.if-refusal-ne0.true);
+  variant = pos_of_ne-zero c.if-refusal-ne0.true;
+}
 
 files-accepted : (c : Else-refusal-ne0)
     → file_number c.args.first.now then file_number c.args.second.now ≡ 0
@@ -50,9 +49,9 @@ pairs-are c = let f : Fits c.gather-figures.result = search rules in ap (λ (z :
 
 pub returns-then-figures-lt1 : goal.returns-then-figures-lt1
 returns-then-figures-lt1 c = record {
-      answer = no-pair c.args.first.now c.args.second.now c.if-first-second.false (files-accepted (goal.at.returns-then-figures-lt1 c).Else-refusal-ne0) c.gather-figures.result c.gather-figures.ensures (pairs-are (goal.at.returns-then-figures-lt1 c).After-gather-figures ∙ c.if-figures-lt1.true);
-      variant = lit< tt;
-    }
+  answer = no-pair c.args.first.now c.args.second.now c.if-first-second.false (files-accepted (goal.at.returns-then-figures-lt1 c).Else-refusal-ne0) c.gather-figures.result c.gather-figures.ensures (pairs-are (goal.at.returns-then-figures-lt1 c).After-gather-figures ∙ c.if-figures-lt1.true);
+  variant = lit< tt;
+}
 
 pub returns : goal.returns
 returns c =

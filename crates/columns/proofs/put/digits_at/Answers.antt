@@ -4,7 +4,6 @@ use Prim.Native.Nat.{ℕ}
 use Rattle.fields.specs.Text.{decimal}
 use Rattle.fields.proofs.Laws.{length-decimal}
 use Rattle.lent.proofs.Placing.{filled}
-use borrow.Author.Rules.{rules}
 use Rattle.columns.proofs.put.digits_at.Goals as goal
 
 pub returns : goal.returns

@@ -4,7 +4,6 @@ use mathlib.Core.List.{[], ◌∷◌}
 use native.Mathlib.Omega.{arith}
 use Rattle.lent.proofs.Placing.{placed-byte}
 use Rattle.columns.proofs.Placing.{put}
-use borrow.Author.Rules.{rules}
 use Rattle.columns.proofs.put.put_byte.Goals as goal
 
 pub returns : goal.returns

@@ -1,16 +1,12 @@
 -- `columns::put::put_clocks` meets its contract: its columns, one behind the other.
 -- Assumes nothing.
-use mathlib.Core.List.{[]}
-use lib.IntN.{nat_abs}
 use mir.Syntax.{w64}
 use mir.Val.{SFits}
 use mir.Facts.{to_z-of_z}
 use native.Mathlib.Omega.{arith}
-use Rattle.fields.specs.Text.{decimal, signed}
 use Rattle.fields.proofs.Laws.{length-decimal, length-signed}
-use Rattle.columns.specs.Text.{clock_columns, spaced}
+use Rattle.columns.specs.Text.{clock_columns}
 use Rattle.columns.proofs.Placing.{begin, column, end}
-use mathlib.Core.Path.{sym, ◌∙◌}
 use borrow.Author.Rules.{rules}
 use Rattle.columns.proofs.put.put_clocks.Goals.{Start}
 use Rattle.columns.proofs.put.put_clocks.Goals as goal
@@ -22,9 +18,6 @@ numbers_fit : (c : Start) → SFits w64 c.args.numbers.refsv
     × SFits w64 c.args.numbers.srsys
     × SFits w64 c.args.numbers.dsg
 numbers_fit c = (search rules, search rules, search rules, search rules, search rules)
-
-pub shape_of-line : goal.shape_of-line
-shape_of-line c = c.put_decimal.ensures.long ∙ sym c.requires
 
 pub returns : goal.returns
 unfolding clock_columns

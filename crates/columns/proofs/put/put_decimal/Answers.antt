@@ -5,7 +5,6 @@ use Prim.Native.Nat.{ℕ, ◌+◌}
 use native.Mathlib.Omega.{arith}
 use Rattle.fields.proofs.Laws.{length-decimal}
 use Rattle.columns.proofs.Placing.{onto}
-use borrow.Author.Rules.{rules}
 use Rattle.columns.proofs.put.put_decimal.Goals as goal
 
 pub returns : goal.returns

@@ -1,6 +1,6 @@
 -- `columns::put::put_delays` meets its contract: its columns, one behind the other.
 -- Assumes nothing.
-use mathlib.Core.Path.{refl, sym, ◌∙◌}
+use mathlib.Core.Path.{refl}
 use mir.Syntax.{w64}
 use mir.Val.{SFits}
 use mir.Facts.{to_z-of_z}
@@ -18,9 +18,6 @@ numbers_fit : (c : Start) → SFits w64 c.args.numbers.mdtr
     × SFits w64 c.args.numbers.mdio
     × SFits w64 c.args.numbers.smdi
 numbers_fit c = (search rules, search rules, search rules, search rules)
-
-pub shape_of-line : goal.shape_of-line
-shape_of-line c = c.put_code.ensures.long ∙ sym c.requires
 
 pub returns : goal.returns
 unfolding delay_columns

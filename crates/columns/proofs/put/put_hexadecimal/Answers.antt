@@ -4,7 +4,6 @@ use mathlib.Core.Path.{refl}
 use native.Mathlib.Omega.{arith}
 use Rattle.fields.specs.Text.{hexadecimal}
 use Rattle.columns.proofs.Placing.{onto}
-use borrow.Author.Rules.{rules}
 use Rattle.columns.proofs.put.put_hexadecimal.Goals as goal
 
 pub returns : goal.returns

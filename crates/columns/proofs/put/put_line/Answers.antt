@@ -1,6 +1,6 @@
 -- `columns::put::put_line` meets its contract: the three groups of columns make all of them, whose sum the last two columns hold.
 -- Assumes nothing.
-use mathlib.Core.Path.{refl, sym}
+use mathlib.Core.Path.{sym}
 use native.Mathlib.Omega.{arith}
 use lib.Seq.{length-take-le}
 use mir.Syntax.{w64}
@@ -12,7 +12,7 @@ use Rattle.columns.proofs.put.put_line.Goals.{Start}
 use Rattle.columns.proofs.put.put_line.Goals as goal
 
 pub slice_bounds-checksum-end-2 : goal.slice_bounds-checksum-end-2
-slice_bounds-checksum-end-2 c = sym (length-take-le _ c.put_delays.new.0 (omega (arith, c.put_delays.ensures.long)))
+slice_bounds-checksum-end-2 c = sym (length-take-le _ c.put_delays.new.line (omega (arith, c.put_delays.ensures.long)))
 
 trkl-fits : (c : Start) → SFits w64 c.args.numbers.trkl
 trkl-fits c = search rules

@@ -3,7 +3,6 @@
 use mathlib.Core.Path.{refl}
 use native.Mathlib.Omega.{arith}
 use Rattle.columns.proofs.Placing.{onto}
-use borrow.Author.Rules.{rules}
 use Rattle.columns.proofs.put.put_satellite.Goals as goal
 
 pub returns : goal.returns

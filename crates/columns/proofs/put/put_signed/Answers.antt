@@ -9,7 +9,6 @@ use Rattle.fields.specs.Text.{signed}
 use Rattle.fields.proofs.Laws.{length-signed}
 use Rattle.lent.specs.Placed.{placed}
 use Rattle.columns.proofs.Placing.{put, onto}
-use borrow.Author.Rules.{rules}
 use Rattle.columns.proofs.put.put_signed.Goals as goal
 
 pub returns : goal.returns

@@ -10,7 +10,6 @@ use Rattle.fields.proofs.Laws.{length-decimal}
 use Rattle.columns.specs.Placed.{with_space, Put}
 use Rattle.columns.specs.Text.{time_of_day}
 use Rattle.columns.proofs.Placing.{onto}
-use borrow.Author.Rules.{rules}
 use Rattle.columns.proofs.put.put_time.Goals as goal
 
 pub returns : goal.returns
@@ -19,7 +18,7 @@ returns c =
     let hour = decimal 2 (c.args.second / 3600) in
     let minute = decimal 2 (c.args.second / 60 % 60) in
     let second = decimal 2 (c.args.second % 60) in
-    subst (λ (t : List ℕ). Put c.args.line.now c.put_decimal.new.0 13 t)
+    subst (λ (t : List ℕ). Put c.args.line.now c.put_decimal.new.line 13 t)
     (append_assoc hour minute (with_space second)
     ∙ ap (λ (t : List ℕ). hour ++ t) (sym (append_assoc minute second (32 ∷ [])))
     ∙ sym (append_assoc hour (minute ++ second) (32 ∷ [])))

@@ -1,6 +1,6 @@
 -- `columns::put::put_track` meets its contract: its columns, one behind the other.
 -- Assumes nothing.
-use mathlib.Core.Path.{ap, sym, ◌∙◌}
+use mathlib.Core.Path.{ap}
 use Prim.Native.Nat.{suc}
 use mir.Facts.{to_z-of_z}
 use native.Mathlib.Omega.{arith}
@@ -8,11 +8,7 @@ use Rattle.fields.proofs.Laws.{length-decimal, length-hexadecimal}
 use Rattle.columns.specs.Text.{track_columns}
 use Rattle.columns.proofs.Placing.{begin, column, end}
 use Rattle.columns.proofs.Widths.{length-time}
-use borrow.Author.Rules.{rules}
 use Rattle.columns.proofs.put.put_track.Goals as goal
-
-pub shape_of-line : goal.shape_of-line
-shape_of-line c = c.put_decimal-4.ensures.long ∙ sym c.requires
 
 pub returns : goal.returns
 unfolding track_columns

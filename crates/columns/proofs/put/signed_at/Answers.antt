@@ -6,7 +6,6 @@ use mir.Facts.{to_z-of_z}
 use Rattle.fields.specs.Text.{signed}
 use Rattle.fields.proofs.Laws.{length-signed}
 use Rattle.lent.proofs.Placing.{filled}
-use borrow.Author.Rules.{rules}
 use Rattle.columns.proofs.put.signed_at.Goals as goal
 
 pub returns : goal.returns

@@ -1,23 +1,21 @@
 -- `correcting::correction::correct_blocks` meets its contract: after j turns the first j blocks are inside, and their values stand in the rows.
 -- Assumes nothing.
-use borrow.Author.Rules.{rules, sfits_of}
+use borrow.Author.Rules.{rules}
 use mathlib.Core.Path.{◌≡◌, refl, sym, ap, ◌∙◌, subst}
-use mathlib.Core.Bool.{true, false}
-use mathlib.Core.List.{List}
+use mathlib.Core.Bool.{false}
 use Prim.Native.Nat.{ℕ, ◌+◌, ◌*◌, ◌-◌, ◌≤◌, ◌<◌}
 use native.Mathlib.Nat.{le_antisymm}
 use native.Mathlib.Omega.{arith}
 use lib.IntN.{ℤ, pos, nat_abs}
-use lib.ListN.{length, take, drop, length-set}
+use lib.ListN.{length, take, drop}
 use mir.Syntax.{w64}
-use mir.Val.{to_z, of_z}
+use mir.Val.{SFits, to_z, of_z}
 use mir.Facts.{to_z-of_z}
-use Rattle.whole.proofs.Words.{Word, known, equal, read, sum_of, negation-of, bound, back-of}
+use Rattle.whole.proofs.Words.{Word, known, equal, read, bound}
 use Rattle.limits.specs.Limits.{measurement_limit, measurement_least, measurement_most}
 use Rattle.limits.specs.Lists.{any_beyond_lem}
 use Rattle.limits.specs.Scan.{read_to, scan_rule}
 use Rattle.limits.specs.declared.Scanned.{Scanned}
-use Rattle.limits.proofs.Lists.{within-limit}
 use Rattle.series.specs.declared.Smoothed.{Smoothed}
 use Rattle.series.specs.Answers.{smooth_reply}
 use Rattle.series.specs.Smooth.{smoothed, smooth_rule}
@@ -27,7 +25,7 @@ use Rattle.whole.specs.Table.{at}
 use Rattle.exact.specs.Corrected.{Given, steps, block, to_a, to_b}
 use Rattle.correcting.specs.declared.Corrected.{Corrected}
 use Rattle.correcting.specs.Correct.{given, blocks, smoothed_at, value_a, value_b, value_c, value_d}
-use Rattle.correcting.specs.Answer.{filled, whole_blocks}
+use Rattle.correcting.specs.Answer.{whole_blocks}
 use Rattle.correcting.proofs.Arrays.{filled_none, filled_more}
 use Rattle.correcting.proofs.Blocks.{part-value, part-bound}
 use Rattle.correcting.proofs.Parts.{Passed, part-read, part-most, none_passed, passed, found, found-blocks, done, done-blocks}
@@ -56,10 +54,10 @@ same c =
     λ z. given c.args.measurements.now (i z) (k z) (r z) (d z) c.args.geometry.now c.args.relativity.now c.args.ionosphere.now c.args.troposphere.now c.args.clock.now
 
 sizes : (c : Start) → Sized (g c)
-sizes c = sized (g c) c.requires.clock_value
+sizes c = sized (g c) c.requires.sizes_right
 
 limits : (c : Start) → Others (g c)
-limits c = others (g c) c.requires.clock_value_2
+limits c = others (g c) c.requires.others_inside
 
 -- the delays
 abbrev words : (c : Start) → Word c.args.int × Word c.args.cab × Word c.args.refdly × Word c.args.gd
@@ -69,7 +67,7 @@ words c = let l = limits c in (known l.in-int, known l.in-cab, known l.in-refdly
 rows : (c : At-loop-j) (k : ℕ) → c.loop-j.j ≡ k
     → Rows (g (goal.at.At-loop-j c).Start) k c.args.a.now c.args.b.now c.args.c.now c.args.d.now c.loop-j.a c.loop-j.b c.loop-j.c c.loop-j.d
 rows c k e =
-    let c.loop-j = c.loop-j in
+    let l = c.loop-j in
     subst (λ (m : ℕ). Rows (g (goal.at.At-loop-j c).Start) m c.args.a.now c.args.b.now c.args.c.now c.args.d.now l.a l.b l.c l.d) e
     (subst (λ (t : Given). Rows t l.j c.args.a.now c.args.b.now c.args.c.now c.args.d.now l.a l.b l.c l.d) (same (goal.at.At-loop-j c).Start) l.invariant.4)
 
@@ -126,7 +124,8 @@ value-bound c =
 smooth-is : (c : In-Value)
     → to_z w64 (of_z w64 c.in-Value.value) ≡ value-at (goal.at.In-Value c).At-loop-j
 smooth-is c =
-    let back : to_z w64 (of_z w64 c.in-Value.value) ≡ c.in-Value.value = back-of c.known_told-1.given.0.1 in
+    let fits : SFits w64 c.in-Value.value = search rules in
+    let back : to_z w64 (of_z w64 c.in-Value.value) ≡ c.in-Value.value = to_z-of_z fits in
     let same : c.in-Value.value ≡ value-at (goal.at.In-Value c).At-loop-j = cc (answered (goal.at.In-Value c).After-smooth-answer) in
     back ∙ same
 
@@ -148,10 +147,14 @@ overflow_add-read c = record { fits = omega (arith, c.loop-j.invariant.2, read-m
 pub returns-then-seen : goal.returns-then-seen
 returns-then-seen c =
     let r = room (goal.at.returns-then-seen c).In-loop-j in
-    let o = sym (any-is (goal.at.returns-then-seen c).After-scan-seen) ∙ c.if-seen.true in (
-      (λ z. Corrected.Refused 2 (c.loop-j.invariant.2 z + read_is (goal.at.returns-then-seen c).After-scan-seen z)) ∙ found c.args.measurements.now c.loop-j.j r c.loop-j.invariant.3 o,
-      rows (goal.at.returns-then-seen c).At-loop-j (whole_blocks c.args.measurements.now) (sym (found-blocks c.args.measurements.now c.loop-j.j r c.loop-j.invariant.3 o)),
-    )
+    let o = sym (any-is (goal.at.returns-then-seen c).After-scan-seen) ∙ c.if-seen.true in
+    let w = rows (goal.at.returns-then-seen c).At-loop-j (whole_blocks c.args.measurements.now) (sym (found-blocks c.args.measurements.now c.loop-j.j r c.loop-j.invariant.3 o)) in record {
+      answer = (λ z. Corrected.Refused 2 (c.loop-j.invariant.2 z + read_is (goal.at.returns-then-seen c).After-scan-seen z)) ∙ found c.args.measurements.now c.loop-j.j r c.loop-j.invariant.3 o;
+      a_after = w.0;
+      b_after = w.1.0;
+      c_after = w.1.1.0;
+      d_after = w.1.1.1;
+    }
 
 pub returns-in_default : goal.returns-in_default
 returns-in_default c = absurd (smooth-cases (answered (goal.at.returns-in_default c).After-smooth-answer) c.in_default.is)
@@ -163,12 +166,12 @@ corrected_at-values-requires c =
     let z = sizes (goal.at.corrected_at-values-requires c).Start in
     let y : Word (value-at (goal.at.corrected_at-values-requires c).At-loop-j) = known (value-bound (goal.at.corrected_at-values-requires c).Else-seen) in
     let h : c.loop-j.j < blocks (g (goal.at.corrected_at-values-requires c).Start) = c.loop-j-test.true in record {
-      within = (bound (equal (smooth-is c) y) tt, bound (read d.0) tt, bound (read d.1) tt, bound (read d.2) tt, bound (read d.3) tt);
-      j_in_bounds = (h, l.in-geometry);
-      j_in_bounds_2 = (subst (λ (m : ℕ). c.loop-j.j < m) (sym z.size-relativity) h, l.in-relativity);
-      j_in_bounds_3 = (subst (λ (m : ℕ). c.loop-j.j < m) (sym z.size-ionosphere) h, l.in-ionosphere);
-      j_in_bounds_4 = (subst (λ (m : ℕ). c.loop-j.j < m) (sym z.size-troposphere) h, l.in-troposphere);
-      j_in_bounds_5 = (subst (λ (m : ℕ). c.loop-j.j < m) (sym z.size-clock) h, l.in-clock);
+      smoothed_and_delays = (bound (equal (smooth-is c) y) tt, bound (read d.0) tt, bound (read d.1) tt, bound (read d.2) tt, bound (read d.3) tt);
+      geometry_inside = (h, l.in-geometry);
+      relativity_inside = (subst (λ (m : ℕ). c.loop-j.j < m) (sym z.size-relativity) h, l.in-relativity);
+      ionosphere_inside = (subst (λ (m : ℕ). c.loop-j.j < m) (sym z.size-ionosphere) h, l.in-ionosphere);
+      troposphere_inside = (subst (λ (m : ℕ). c.loop-j.j < m) (sym z.size-troposphere) h, l.in-troposphere);
+      clock_inside = (subst (λ (m : ℕ). c.loop-j.j < m) (sym z.size-clock) h, l.in-clock);
     }
 
 pub put-requires : goal.put-requires
@@ -179,8 +182,7 @@ overflow_add-j c = record { fits = omega (arith, c.loop-j-test.true, c.loop-j.in
 
 pub loop-j-preserved : goal.loop-j-preserved
 loop-j-preserved c =
-    let v = values-are (goal.at.loop-j-preserved c).After-corrected_at-values in
-    (
+    let v = values-are (goal.at.loop-j-preserved c).After-corrected_at-values in (
       omega (arith, c.loop-j-test.true),
       c.loop-j.invariant.1,
       omega (arith, c.loop-j.invariant.2, all_read (goal.at.loop-j-preserved c).Else-seen),
@@ -201,7 +203,11 @@ pub returns : goal.returns
 returns c =
     let e : c.loop-j.j ≡ blocks (g (goal.at.returns c).Start) = le_antisymm c.loop-j.invariant.0 c.loop-j-test.false in
     let p = subst (Passed c.args.measurements.now) e c.loop-j.invariant.3 in
-    let all = (sizes (goal.at.returns c).Start).size-measurements in (
-      (λ z. Corrected.Values ((c.loop-j.invariant.2 ∙ ap (λ (k : ℕ). 15 * k) e) z)) ∙ done c.args.measurements.now (blocks (g (goal.at.returns c).Start)) all p,
-      rows (goal.at.returns c).At-loop-j (whole_blocks c.args.measurements.now) (e ∙ sym (done-blocks c.args.measurements.now (blocks (g (goal.at.returns c).Start)) all p)),
-    )
+    let all = (sizes (goal.at.returns c).Start).size-measurements in
+    let w = rows (goal.at.returns c).At-loop-j (whole_blocks c.args.measurements.now) (e ∙ sym (done-blocks c.args.measurements.now (blocks (g (goal.at.returns c).Start)) all p)) in record {
+      answer = (λ z. Corrected.Values ((c.loop-j.invariant.2 ∙ ap (λ (k : ℕ). 15 * k) e) z)) ∙ done c.args.measurements.now (blocks (g (goal.at.returns c).Start)) all p;
+      a_after = w.0;
+      b_after = w.1.0;
+      c_after = w.1.1.0;
+      d_after = w.1.1.1;
+    }

@@ -1,37 +1,14 @@
 -- `correcting::correction::correct_blocks` meets its contract: after j turns the first j blocks are inside, and their values stand in the rows.
 -- Assumes nothing.
-use borrow.Author.Rules.{rules, sfits_of}
-use mathlib.Core.Path.{◌≡◌, refl, sym, ap, ◌∙◌, subst}
-use mathlib.Core.Bool.{true, false}
+use mathlib.Core.Path.{◌≡◌}
 use mathlib.Core.List.{List}
-use Prim.Native.Nat.{ℕ, ◌+◌, ◌*◌, ◌-◌, ◌≤◌, ◌<◌}
-use native.Mathlib.Nat.{le_antisymm}
-use native.Mathlib.Omega.{arith}
-use lib.IntN.{ℤ, pos, nat_abs}
-use lib.ListN.{length, take, drop, length-set}
-use mir.Syntax.{w64}
-use mir.Val.{to_z, of_z}
-use mir.Facts.{to_z-of_z}
-use Rattle.whole.proofs.Words.{Word, known, equal, read, sum_of, negation-of, bound, back-of}
-use Rattle.limits.specs.Limits.{measurement_limit, measurement_least, measurement_most}
-use Rattle.limits.specs.Lists.{any_beyond_lem}
-use Rattle.limits.specs.Scan.{read_to, scan_rule}
-use Rattle.limits.specs.declared.Scanned.{Scanned}
-use Rattle.limits.proofs.Lists.{within-limit}
-use Rattle.series.specs.declared.Smoothed.{Smoothed}
-use Rattle.series.specs.Answers.{smooth_reply}
-use Rattle.series.specs.Smooth.{smoothed, smooth_rule}
-use Rattle.series.proofs.Replies.{smooth-cases}
-use Rattle.series.proofs.Weights.{most_smoothed}
-use Rattle.whole.specs.Table.{at}
-use Rattle.exact.specs.Corrected.{Given, steps, block, to_a, to_b}
-use Rattle.correcting.specs.declared.Corrected.{Corrected}
-use Rattle.correcting.specs.Correct.{given, blocks, smoothed_at, value_a, value_b, value_c, value_d}
-use Rattle.correcting.specs.Answer.{filled, whole_blocks}
-use Rattle.correcting.proofs.Arrays.{filled_none, filled_more}
-use Rattle.correcting.proofs.Blocks.{part-value, part-bound}
-use Rattle.correcting.proofs.Parts.{Passed, part-read, part-most, none_passed, passed, found, found-blocks, done, done-blocks}
-use Rattle.correcting.proofs.Refusals.{Sized, sized, Others, others}
+use Prim.Native.Nat.{ℕ, ◌*◌, ◌-◌, ◌≤◌}
+use lib.IntN.{ℤ}
+use Rattle.exact.specs.Corrected.{Given}
+use Rattle.correcting.specs.Correct.{given, value_a, value_b, value_c, value_d}
+use Rattle.correcting.specs.Answer.{filled}
+use Rattle.correcting.proofs.Parts.{Passed}
+use Rattle.correcting.proofs.Refusals.{Sized}
 use Rattle.correcting.proofs.correction.correct_blocks.Given as goal
 
 -- the rows after k blocks

@@ -15,19 +15,18 @@ use Rattle.correcting.proofs.correction.corrected.Goals as goal
 abbrev words : (c : Start)
     → Word c.args.smoothed × Word c.args.int × Word c.args.cab × Word c.args.refdly × Word c.args.gd × Word c.args.geometry × Word c.args.relativity
     × Word c.args.ionosphere × Word c.args.troposphere × Word c.args.clock
-words c =
-    (
-      known c.requires.within.0.within,
-      known c.requires.within.1.within,
-      known c.requires.within.2.within,
-      known c.requires.within.3.within,
-      known c.requires.within.4.within,
-      known c.requires.within_2.0.within,
-      known c.requires.within_2.1.within,
-      known c.requires.within_2.2.within,
-      known c.requires.within_2.3.within,
-      known c.requires.within_2.4.within,
-    )
+words c = (
+  known c.requires.smoothed_and_delays.0.within,
+  known c.requires.smoothed_and_delays.1.within,
+  known c.requires.smoothed_and_delays.2.within,
+  known c.requires.smoothed_and_delays.3.within,
+  known c.requires.smoothed_and_delays.4.within,
+  known c.requires.corrections.0.within,
+  known c.requires.corrections.1.within,
+  known c.requires.corrections.2.within,
+  known c.requires.corrections.3.within,
+  known c.requires.corrections.4.within,
+)
 
 pub overflow_add-a : goal.overflow_add-a
 overflow_add-a c = let w = words c in fits (search bounds depth 24) tt

@@ -1,11 +1,7 @@
 -- `correcting::correction::corrected_at` meets its contract.
 -- Assumes nothing.
-use borrow.Author.Rules.{rules}
-use mathlib.Core.Path.{◌≡◌, ap, ◌∙◌}
+use mathlib.Core.Path.{ap, ◌∙◌}
 use lib.IntN.{ℤ, pos, ◌*ℤ◌}
-use mir.Syntax.{w64}
-use mir.Val.{to_z, of_z}
-use mir.Facts.{to_z-of_z}
 use Rattle.whole.proofs.Words.{Word, known, read, back, bound}
 use Rattle.whole.specs.Table.{at}
 use Rattle.exact.specs.Corrected.{steps, to_a, to_b}
@@ -20,33 +16,31 @@ use Rattle.correcting.proofs.correction.corrected_at.Goals as goal
 abbrev words : (c : Start)
     → Word c.args.smoothed × Word c.args.int × Word c.args.cab × Word c.args.refdly × Word c.args.gd × Word (at c.args.geometry.now c.args.j) × Word (at c.args.relativity.now c.args.j)
     × Word (at c.args.ionosphere.now c.args.j) × Word (at c.args.troposphere.now c.args.j) × Word (at c.args.clock.now c.args.j)
-words c =
-    (
-      known c.requires.within.0.within,
-      known c.requires.within.1.within,
-      known c.requires.within.2.within,
-      known c.requires.within.3.within,
-      known c.requires.within.4.within,
-      known (within-limit geometry_limit c.args.geometry.now c.requires.j_in_bounds.1 c.args.j),
-      known (within-limit delay_limit c.args.relativity.now c.requires.j_in_bounds_2.1 c.args.j),
-      known (within-limit delay_limit c.args.ionosphere.now c.requires.j_in_bounds_3.1 c.args.j),
-      known (within-limit delay_limit c.args.troposphere.now c.requires.j_in_bounds_4.1 c.args.j),
-      known (within-limit delay_limit c.args.clock.now c.requires.j_in_bounds_5.1 c.args.j),
-    )
+words c = (
+  known c.requires.smoothed_and_delays.0.within,
+  known c.requires.smoothed_and_delays.1.within,
+  known c.requires.smoothed_and_delays.2.within,
+  known c.requires.smoothed_and_delays.3.within,
+  known c.requires.smoothed_and_delays.4.within,
+  known (within-limit geometry_limit c.args.geometry.now c.requires.geometry_inside.1 c.args.j),
+  known (within-limit delay_limit c.args.relativity.now c.requires.relativity_inside.1 c.args.j),
+  known (within-limit delay_limit c.args.ionosphere.now c.requires.ionosphere_inside.1 c.args.j),
+  known (within-limit delay_limit c.args.troposphere.now c.requires.troposphere_inside.1 c.args.j),
+  known (within-limit delay_limit c.args.clock.now c.requires.clock_inside.1 c.args.j),
+)
 
 pub corrected-requires : goal.corrected-requires
 corrected-requires c =
     let w = words (goal.at.corrected-requires c).Start in record {
-      within = (bound (read w.0) tt, bound (read w.1) tt, bound (read w.2) tt, bound (read w.3) tt, bound (read w.4) tt);
-      within_2 = (bound (read w.5) tt, bound (read w.6) tt, bound (read w.7) tt, bound (read w.8) tt, bound (read w.9) tt);
+      smoothed_and_delays = (bound (read w.0) tt, bound (read w.1) tt, bound (read w.2) tt, bound (read w.3) tt, bound (read w.4) tt);
+      corrections = (bound (read w.5) tt, bound (read w.6) tt, bound (read w.7) tt, bound (read w.8) tt, bound (read w.9) tt);
     }
 
 -- the equations of one block are those of its place in the columns
 pub returns : goal.returns
 unfolding to_a to_b
 returns c =
-    let w = words (goal.at.returns c).Start in
-    (
+    let w = words (goal.at.returns c).Start in (
       c.corrected.ensures.0 ∙ (λ z. to_a (alone (back w.1 tt z) (back w.2 tt z) (back w.3 tt z) (back w.4 tt z) (back w.5 tt z) (back w.6 tt z) (back w.7 tt z) (back w.8 tt z) (back w.9 tt z)) (pos steps) 0 (back w.0 tt z)),
       c.corrected.ensures.1 ∙ (λ z. to_b (alone (back w.1 tt z) (back w.2 tt z) (back w.3 tt z) (back w.4 tt z) (back w.5 tt z) (back w.6 tt z) (back w.7 tt z) (back w.8 tt z) (back w.9 tt z)) (pos steps) 0 (back w.0 tt z)),
       c.corrected.ensures.2 ∙ ap (λ (x : ℤ). pos steps *ℤ x) (back w.8 tt),

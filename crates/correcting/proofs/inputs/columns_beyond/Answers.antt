@@ -3,7 +3,7 @@
 use borrow.Author.Rules.{rules}
 use mathlib.Core.Bool.{Bool, ◌||◌}
 use mathlib.Core.Path.{◌≡◌, refl, sym, ap, ◌∙◌}
-use Prim.Native.Nat.{◌+◌, ◌-◌, ◌≤◌}
+use Prim.Native.Nat.{◌+◌}
 use native.Mathlib.Omega.{arith}
 use Rattle.correcting.proofs.Columns.{From, from_row, from-none}
 use Rattle.correcting.proofs.inputs.columns_beyond.Goals.{After-row_beyond}
@@ -30,11 +30,10 @@ returns-then-row_beyond c =
     sym (rest (goal.at.returns-then-row_beyond c).After-row_beyond ∙ ap (λ (b : Bool). b || From c.args.geometry.now c.args.relativity.now c.args.ionosphere.now c.args.troposphere.now c.args.clock.now (c.loop-j.j + 1)) c.if-row_beyond.true)
 
 pub loop-j-preserved : goal.loop-j-preserved
-loop-j-preserved c =
-    (
-      search rules,
-      rest (goal.at.loop-j-preserved c).After-row_beyond ∙ ap (λ (b : Bool). b || From c.args.geometry.now c.args.relativity.now c.args.ionosphere.now c.args.troposphere.now c.args.clock.now (c.loop-j.j + 1)) c.if-row_beyond.false,
-    )
+loop-j-preserved c = (
+  search rules,
+  rest (goal.at.loop-j-preserved c).After-row_beyond ∙ ap (λ (b : Bool). b || From c.args.geometry.now c.args.relativity.now c.args.ionosphere.now c.args.troposphere.now c.args.clock.now (c.loop-j.j + 1)) c.if-row_beyond.false,
+)
 
 pub returns : goal.returns
 returns c = sym (c.loop-j.invariant.1 ∙ from-none _ _ _ _ _ c.requires c.loop-j.j c.loop-j-test.false)

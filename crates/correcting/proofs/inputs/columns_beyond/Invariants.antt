@@ -1,11 +1,8 @@
 -- `correcting::inputs::columns_beyond` meets its contract: after j turns the first j rows are inside, and the rest of the columns tells.
 -- Assumes nothing.
-use borrow.Author.Rules.{rules}
-use mathlib.Core.Bool.{Bool, ◌||◌}
-use mathlib.Core.Path.{◌≡◌, refl, sym, ap, ◌∙◌}
-use Prim.Native.Nat.{◌+◌, ◌-◌, ◌≤◌}
-use native.Mathlib.Omega.{arith}
-use Rattle.correcting.proofs.Columns.{From, from_row, from-none}
+use mathlib.Core.Path.{◌≡◌}
+use Prim.Native.Nat.{◌-◌, ◌≤◌}
+use Rattle.correcting.proofs.Columns.{From}
 use Rattle.correcting.proofs.inputs.columns_beyond.Given as goal
 
 abbrev pub invariant-loop-j : goal.invariant-loop-j

@@ -1,6 +1,5 @@
 -- `correcting::inputs::sizes_wrong` meets its contract: the row of tests is the rule's.
 -- Assumes nothing.
-use borrow.Author.Rules.{rules}
 use mathlib.Core.Bool.{true, false, not}
 use mathlib.Core.Path.{◌≡◌, sym, ap, ◌∙◌}
 use native.Mathlib.Omega.{arith}
@@ -11,10 +10,10 @@ use Rattle.correcting.proofs.inputs.sizes_wrong.Goals.{Else-not-blocks_fit, Then
 use Rattle.correcting.proofs.inputs.sizes_wrong.Goals as goal
 
 refused : (c : Then-not-blocks_fit) → not (blocks_fit_lem (length c.args.geometry.now)) ≡ true
-refused c = ap not (sym c.blocks_fit.ensures) ∙ c.if-not-blocks_fit.true
+refused c = ap not (sym c.blocks_fit.ensures ∙ c.if-not-blocks_fit.true)
 
 passed : (c : Else-not-blocks_fit) → not (blocks_fit_lem (length c.args.geometry.now)) ≡ false
-passed c = ap not (sym c.blocks_fit.ensures) ∙ c.if-not-blocks_fit.false
+passed c = ap not (sym c.blocks_fit.ensures ∙ c.if-not-blocks_fit.false)
 
 pub returns-then-not-blocks_fit : goal.returns-then-not-blocks_fit
 returns-then-not-blocks_fit c = rw (refused c)

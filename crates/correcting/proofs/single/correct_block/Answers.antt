@@ -18,7 +18,7 @@ use Rattle.correcting.specs.declared.BlockValues.{BlockValues}
 use Rattle.correcting.specs.Correct.{geometry_limit}
 use Rattle.correcting.specs.Block.{block_values, group_beyond_lem, block_values_rule}
 use Rattle.correcting.proofs.Groups.{alone}
-use Rattle.correcting.proofs.single.correct_block.Goals.{After-delays_beyond, After-group_beyond, After-struct_told-1, Else-group_beyond, Else-outside-delays_beyond}
+use Rattle.correcting.proofs.single.correct_block.Goals.{After-delays_beyond, After-corrected-values, After-group_beyond, Else-group_beyond, Else-outside-delays_beyond}
 use Rattle.correcting.proofs.single.correct_block.Goals as goal
 
 -- what the tests say
@@ -116,12 +116,12 @@ pub corrected-values-requires : goal.corrected-values-requires
 corrected-values-requires c =
     let o = other-words c in
     let g = group-words c in record {
-      within = (bound (read o.0) tt, bound (read o.1) tt, bound (read o.2) tt, bound (read o.3) tt, bound (read o.4) tt);
-      within_2 = (bound (read g.0) tt, bound (read g.1) tt, bound (read g.2) tt, bound (read g.3) tt, bound (read g.4) tt);
+      smoothed_and_delays = (bound (read o.0) tt, bound (read o.1) tt, bound (read o.2) tt, bound (read o.3) tt, bound (read o.4) tt);
+      corrections = (bound (read g.0) tt, bound (read g.1) tt, bound (read g.2) tt, bound (read g.3) tt, bound (read g.4) tt);
     }
 
 -- the values read back from their bits
-values-fit : (c : After-struct_told-1)
+values-fit : (c : After-corrected-values)
     → SFits w64 c.corrected-values.result.a × SFits w64 c.corrected-values.result.b × SFits w64 c.corrected-values.result.c × SFits w64 c.corrected-values.result.d
 values-fit c = (search rules, search rules, search rules, search rules)
 
@@ -130,7 +130,7 @@ unfolding to_a to_b
 returns c =
     let o = other-words (goal.at.returns c).Else-outside-delays_beyond in
     let g = group-words (goal.at.returns c).Else-outside-delays_beyond in
-    let f = values-fit c in
+    let f = values-fit (goal.at.returns c).After-corrected-values in
     let a = to_z-of_z f.0 ∙ c.corrected-values.ensures.0 ∙ (λ z. to_a (alone (back o.1 tt z) (back o.2 tt z) (back o.3 tt z) (back o.4 tt z) (back g.0 tt z) (back g.1 tt z) (back g.2 tt z) (back g.3 tt z) (back g.4 tt z)) (pos steps) 0 (back o.0 tt z)) in
     let b = to_z-of_z f.1 ∙ c.corrected-values.ensures.1 ∙ (λ z. to_b (alone (back o.1 tt z) (back o.2 tt z) (back o.3 tt z) (back o.4 tt z) (back g.0 tt z) (back g.1 tt z) (back g.2 tt z) (back g.3 tt z) (back g.4 tt z)) (pos steps) 0 (back o.0 tt z)) in
     let t = to_z-of_z f.2 ∙ c.corrected-values.ensures.2 ∙ ap (λ (x : ℤ). pos steps *ℤ x) (back g.3 tt) in

@@ -5,7 +5,6 @@ use mathlib.Core.Path.{◌≡◌, sym, ◌∙◌}
 use mir.Facts.{to_z-of_z}
 use Rattle.correcting.specs.Correct.{geometry_limit}
 use Rattle.limits.specs.Limits.{beyond, delay_limit}
-use borrow.Author.Rules.{rules}
 use Rattle.correcting.proofs.single.group_beyond.Goals.{After-outside, After-outside-2, After-outside-3, After-outside-4, After-outside-5, Else-outside, Else-outside-2, Else-outside-3, Else-outside-4}
 use Rattle.correcting.proofs.single.group_beyond.Goals as goal
 

@@ -1,15 +1,14 @@
 -- `decode::inside::fill` meets its contract. The loop keeps the numbers stored, and those that follow, together the whole.
 -- Assumes nothing.
 use mathlib.Core.Path.{◌≡◌, sym, ap, ap₂, ◌∙◌}
-use mathlib.Core.List.{◌++◌}
-use Prim.Native.Nat.{ℕ, ◌+◌, ◌*◌, ◌-◌, ◌≤◌, ◌<◌}
+use Prim.Native.Nat.{ℕ, ◌+◌, ◌*◌, ◌≤◌, ◌<◌}
 use native.Mathlib.Omega.{arith}
-use lib.ListN.{length, take, length-set}
+use lib.ListN.{length, length-set}
 use borrow.Author.Rules.{rules}
 use borrow.Author.Tests.{le-leb}
 use mir.Syntax.{w64}
-use mir.Val.{to_z, of_z}
-use Rattle.whole.proofs.Words.{back-of}
+use mir.Val.{to_z, of_z, SFits}
+use mir.Facts.{to_z-of_z}
 use Rattle.decode.specs.Number.{twos_complement_lem, signeds_at, signed_at_lem}
 use Rattle.decode.proofs.Little.{unsigned-inside}
 use Rattle.decode.proofs.Signeds.{signeds-step, signeds-done, row-places}
@@ -29,7 +28,8 @@ value : (c : After-twos_complement)
 unfolding signed_at_lem
 value c =
     let p = c.args.at + c.args.stride * c.loop-i.i in
-    back-of c.twos_complement.type-inv
+    let fits : SFits w64 c.twos_complement.result = search rules in
+    to_z-of_z fits
     ∙ c.twos_complement.ensures
     ∙ ap twos_complement_lem (c.unsigned64.ensures ∙ unsigned-inside 8 p c.args.bytes.now (le-leb (p + 8) (length c.args.bytes.now) (lies (goal.at.After-twos_complement c).In-loop-i)))
 

@@ -2,7 +2,6 @@
 -- Assumes nothing.
 use native.Mathlib.Omega.{arith}
 use Rattle.decode.proofs.Little.{halves}
-use borrow.Author.Rules.{rules}
 use Rattle.decode.proofs.inside.unsigned32.Goals as goal
 
 pub returns : goal.returns

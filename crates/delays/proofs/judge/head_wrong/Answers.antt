@@ -1,6 +1,5 @@
 -- `delays::judge::head_wrong` meets its contract: the tests are those of the rule.
 -- Assumes nothing.
-use borrow.Author.Rules.{rules}
 use Rattle.delays.proofs.judge.head_wrong.Goals as goal
 
 pub returns : goal.returns

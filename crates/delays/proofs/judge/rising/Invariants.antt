@@ -1,11 +1,8 @@
 -- `delays::judge::rising` meets its contract: a turn looks at a start and the one before.
 -- Assumes nothing.
-use Rattle.delays.proofs.Stores.{start-part, rising-one, rising-turn, rising-done}
 use Rattle.delays.specs.Store.{start, rising}
-use native.Mathlib.Omega.{arith}
-use Prim.Native.Nat.{ℕ, ◌+◌, ◌*◌, ◌-◌, ◌≤◌}
-use mathlib.Core.Path.{◌≡◌, ◌∙◌}
-use borrow.Author.Rules.{rules}
+use Prim.Native.Nat.{◌+◌, ◌-◌, ◌≤◌}
+use mathlib.Core.Path.{◌≡◌}
 use Rattle.delays.proofs.judge.rising.Given as goal
 
 -- with no entry the turns end at 1 as well

@@ -47,9 +47,9 @@ dates-in l v n m e g = omega (arith, groups-in l v n (group_width_lem v) m e ref
 
 pub rising-requires : goal.rising-requires
 rising-requires c = record {
-      n_bound = search rules;
-      n_in_bounds = dates-in (length c.args.store.now) (version c.args.store.now) (count c.args.store.now) c.count-entries.result (long (length c.args.store.now) (version c.args.store.now) (count c.args.store.now) (sym (head (goal.at.rising-requires c).After-head_wrong) ∙ c.if-head_wrong.false)) c.count-entries.ensures.value;
-    }
+  n_bound = search rules;
+  n_in_bounds = dates-in (length c.args.store.now) (version c.args.store.now) (count c.args.store.now) c.count-entries.result (long (length c.args.store.now) (version c.args.store.now) (count c.args.store.now) (sym (head (goal.at.rising-requires c).After-head_wrong) ∙ c.if-head_wrong.false)) c.count-entries.ensures.value;
+}
 
 product : (c : After-group_width) → c.group_width.result * c.count-entries.result ≤ 262144
 product c = width-times c.group_width.ensures.upper_bound (omega arith)
@@ -57,18 +57,19 @@ product c = width-times c.group_width.ensures.upper_bound (omega arith)
 room : (c : After-group_width)
     → 4 + 4 * c.count-entries.result + 8 * (c.group_width.result * c.count-entries.result) ≤ length c.args.store.now
 room c =
-    let e = long (length t.args.store.now) (version t.args.store.now) (count t.args.store.now) (sym (head t) ∙ t.if1.false) in
-    groups-in (length t.args.store.now) (version t.args.store.now) (count t.args.store.now) c.group_width.result t.count.result e (c.group_width.ensures.value ∙ ap group_width_lem t.unsigned16.ensures) t.count.ensures.0
+    let s = c.args.store.now in
+    let e = long (length s) (version s) (count s) (sym (head (goal.at.After-group_width c).After-head_wrong) ∙ c.if-head_wrong.false) in
+    groups-in (length s) (version s) (count s) c.group_width.result c.count-entries.result e (c.group_width.ensures.value ∙ ap group_width_lem c.unsigned16-version.ensures) c.count-entries.ensures.value
 
 pub overflow_mul-group_width : goal.overflow_mul-group_width
 overflow_mul-group_width c = omega (arith, product c)
 
 pub any_beyond-requires : goal.any_beyond-requires
 any_beyond-requires c = record {
-      at_bound = omega arith;
-      n_bound = omega (arith, product c);
-      n_in_bounds = omega (arith, room c);
-    }
+  at_bound = omega arith;
+  n_bound = omega (arith, product c);
+  n_in_bounds = omega (arith, room c);
+}
 
 pub returns : goal.returns
 unfolding store_number delays

@@ -1,7 +1,6 @@
 -- `delays::store::in_force` meets its contract: what lies behind the walk starts after the date.
 -- Assumes nothing.
 use Rattle.delays.proofs.Stores.{start-part, in-force-none, in-force-here, in-force-before}
-use Rattle.delays.specs.Lookup.{in_force_lem}
 use Rattle.delays.specs.Store.{start}
 use native.Mathlib.Omega.{arith}
 use lib.ListN.{length}
@@ -20,7 +19,7 @@ read : (c : After-unsigned32)
 read c h =
     c.unsigned32.ensures ∙ start-part c.args.store.now (4 * c.loop-left.left) 4 0 (c.loop-left.left - 1) h.1 (omega arith) (place h.0)
   where
-    place : {c.loop-left.left : ℕ} → 0 < c.loop-left.left → 4 * c.loop-left.left + 0 ≡ 4 + 4 * (c.loop-left.left - 1)
+    place : {left : ℕ} → 0 < left → 4 * left + 0 ≡ 4 + 4 * (left - 1)
     place h = omega arith
 
 pub returns-then-unsigned32-mjd : goal.returns-then-unsigned32-mjd

@@ -5,7 +5,6 @@ use lib.Dec.{ltb}
 use Prim.Native.Nat.{ℕ}
 use mathlib.Core.Path.{ap, ◌∙◌}
 use Rattle.delays.specs.Store.{start}
-use borrow.Author.Rules.{rules}
 use Rattle.delays.proofs.store.later.Goals as goal
 
 pub returns-then-n-eq0 : goal.returns-then-n-eq0

@@ -1,7 +1,9 @@
 -- `delays::store::set_of` meets its contract: the group begins as many numbers on as the groups before it hold.
 -- Assumes nothing.
 use Rattle.delays.proofs.Stores.{width-times, set_is}
-use Rattle.whole.proofs.Words.{back-of}
+use mir.Facts.{to_z-of_z}
+use mir.Syntax.{w64}
+use mir.Val.{SFits}
 use Prim.Native.Nat.{◌*◌, ◌≤◌}
 use native.Mathlib.Omega.{arith}
 use mathlib.Core.Path.{ap, ◌∙◌}
@@ -34,12 +36,17 @@ pub overflow_add-at-5 : goal.overflow_add-at-5
 overflow_add-at-5 c = omega (arith, product (goal.at.overflow_add-at-5 c).After-group_width)
 
 pub returns : goal.returns
-returns c = record {
-      result_value = ap (λ (v : List ℤ). record { number = 0; values = v })
+returns c =
+    let int : SFits w64 c.signed64.result = search rules in
+    let cab : SFits w64 c.signed64-2.result = search rules in
+    let refdly : SFits w64 c.signed64-3.result = search rules in
+    let gd : SFits w64 c.gd.result = search rules in
+    record {
+      answer = ap (λ (v : List ℤ). record { number = 0; values = v })
           (set_is c.args.store.now c.args.k c.unsigned16-version.ensures c.count.ensures.value c.group_width.ensures.value
-          (back-of c.signed64.type-inv ∙ c.signed64.ensures)
-          (back-of c.signed64-2.type-inv ∙ c.signed64-2.ensures)
-          (back-of c.signed64-3.type-inv ∙ c.signed64-3.ensures)
-          (back-of c.gd.type-inv ∙ c.gd.ensures));
-      delays_numbered = tt;
+          (to_z-of_z {w = w64} int ∙ c.signed64.ensures)
+          (to_z-of_z {w = w64} cab ∙ c.signed64-2.ensures)
+          (to_z-of_z {w = w64} refdly ∙ c.signed64-3.ensures)
+          (to_z-of_z {w = w64} gd ∙ c.gd.ensures));
+      variant = tt;
     }

@@ -1,7 +1,6 @@
 -- `delays::store::start` meets its contract: by the offset.
 -- Assumes nothing.
 use Rattle.delays.specs.Store.{start}
-use borrow.Author.Rules.{rules}
 use Rattle.delays.proofs.store.start.Goals as goal
 
 pub returns : goal.returns

@@ -5,7 +5,6 @@ use native.Mathlib.Omega.{arith}
 use Prim.Native.Nat.{ℕ, ◌+◌, ◌*◌}
 use mathlib.Core.Path.{ap}
 use Rattle.delays.specs.Store.{store_length_lem}
-use borrow.Author.Rules.{rules}
 use Rattle.delays.proofs.store.store_length.Goals as goal
 
 pub overflow_mul-result-2 : goal.overflow_mul-result-2

@@ -4,11 +4,10 @@ use Prim.Native.Nat.{ℕ, ◌+◌, ◌*◌, ◌≤◌}
 use native.Mathlib.Omega.{arith}
 use lib.ListN.{length}
 use Rattle.delays.proofs.Writing.{dates-written}
-use borrow.Author.Rules.{rules}
 use Rattle.delays.proofs.write.put_dates.Goals as goal
 
 head-room : (entries store file : ℕ) → 4 + 4 * entries ≤ store → store + 4 ≤ file → 8 + 4 * entries ≤ file
 head-room entries store file h k = omega arith
 
 pub returns : goal.returns
-returns c = dates-written c.args.store.now c.args.entries c.requires.entries_value c.requires.entries_in_bounds c.args.mjd c.args.file.now (head-room c.args.entries (length c.args.store.now) (length c.args.file.now) c.requires.entries_in_bounds c.requires.store_in_bounds) c.put.ensures c.put_number.ensures c.put-2.ensures c.put_number-2.ensures
+returns c = dates-written c.args.store.now c.args.entries c.requires.entries_value c.requires.entries_in_bounds c.args.mjd c.args.file.now (head-room c.args.entries (length c.args.store.now) (length c.args.file.now) c.requires.entries_in_bounds c.requires.file_room) c.put.ensures c.put_number.ensures c.put-2.ensures c.put_number-2.ensures

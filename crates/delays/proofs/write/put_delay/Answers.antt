@@ -5,7 +5,6 @@ use Rattle.lent.specs.Placed.{placed}
 use mir.Facts.{to_z-of_z}
 use Prim.Native.Nat.{ℕ}
 use mathlib.Core.Path.{ap, ◌∙◌}
-use borrow.Author.Rules.{rules}
 use Rattle.delays.proofs.write.put_delay.Goals as goal
 
 pub returns : goal.returns

@@ -10,7 +10,6 @@ use lib.ListN.{length, take}
 use Prim.Native.Nat.{ℕ, ◌≤◌}
 use mathlib.Core.List.{[], ◌∷◌}
 use mathlib.Core.Path.{◌≡◌, sym, ap, ◌∙◌}
-use borrow.Author.Rules.{rules}
 use Rattle.delays.proofs.write.put_group.Goals.{After-put_delay-3, Start}
 use Rattle.delays.proofs.write.put_group.Goals as goal
 
@@ -18,13 +17,13 @@ pub put_delay-requires : goal.put_delay-requires
 put_delay-requires c = omega (arith, three-wide c.args.version)
 
 pub put_delay-requires-2 : goal.put_delay-requires-2
-put_delay-requires-2 c = omega (arith, three-wide c.args.version, c.put_delay.auto.1.0)
+put_delay-requires-2 c = omega (arith, three-wide c.args.version, c.put_delay.auto.file)
 
 pub put_delay-requires-3 : goal.put_delay-requires-3
-put_delay-requires-3 c = omega (arith, three-wide c.args.version, c.put_delay.auto.1.0, c.put_delay-2.auto.1.0)
+put_delay-requires-3 c = omega (arith, three-wide c.args.version, c.put_delay.auto.file, c.put_delay-2.auto.file)
 
 pub put_delay-requires-then-version-ne1 : goal.put_delay-requires-then-version-ne1
-put_delay-requires-then-version-ne1 c = omega (arith, wide-two c.args.version c.if-version-ne1.true, c.put_delay.auto.1.0, c.put_delay-2.auto.1.0, c.put_delay-3.auto.1.0)
+put_delay-requires-then-version-ne1 c = omega (arith, wide-two c.args.version c.if-version-ne1.true, c.put_delay.auto.file, c.put_delay-2.auto.file, c.put_delay-3.auto.file)
 
 -- the offset lies within the buffer
 room : (a : Start) → a.args.at ≤ length a.args.file.now
@@ -32,7 +31,7 @@ room a = omega arith
 
 -- after three delays
 three : (c : After-put_delay-3)
-    → c.put_delay-3.new.1.0 ≡ placed c.args.file.now c.args.at (group_bytes (c.args.int ∷ c.args.cab ∷ c.args.refdly ∷ []))
+    → c.put_delay-3.new.file ≡ placed c.args.file.now c.args.at (group_bytes (c.args.int ∷ c.args.cab ∷ c.args.refdly ∷ []))
 three c =
     next-delay c.args.file.now c.args.at (room (goal.at.After-put_delay-3 c).Start) (c.args.int ∷ c.args.cab ∷ [])
     (next-delay c.args.file.now c.args.at (room (goal.at.After-put_delay-3 c).Start) (c.args.int ∷ [])

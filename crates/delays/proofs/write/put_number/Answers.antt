@@ -4,7 +4,6 @@ use Rattle.encode.proofs.Bytes.{length-bytes}
 use Rattle.encode.specs.Encode.{little_bytes}
 use Rattle.lent.proofs.Placing.{filled}
 use Prim.Native.Nat.{ℕ}
-use borrow.Author.Rules.{rules}
 use Rattle.delays.proofs.write.put_number.Goals as goal
 
 pub returns : goal.returns

@@ -3,17 +3,17 @@
 use borrow.Author.Rules.{rules}
 use mathlib.Core.Path.{◌≡◌, refl, sym, ap, ap₂, ◌∙◌, subst}
 use mathlib.Core.Bool.{Bool, true, false, ◌||◌, or-true}
-use mathlib.Core.List.{List, []}
+use mathlib.Core.List.{[]}
 use Prim.Native.Nat.{ℕ, ◌+◌, ◌*◌, ◌-◌, ◌≤◌, ◌<◌}
 use native.Mathlib.Nat.{le_antisymm}
 use native.Mathlib.Omega.{arith}
-use lib.Dec.{lit≤}
-use lib.IntN.{ℤ, pos, ◌*ℤ◌}
+use lib.Dec.{lit≤, lit<}
+use lib.IntN.{pos, ◌*ℤ◌}
 use lib.ListN.{length, take, drop}
 use mir.Syntax.{w64}
-use mir.Val.{to_z, of_z}
+use mir.Val.{SFits, to_z, of_z}
 use mir.Facts.{to_z-of_z}
-use Rattle.whole.proofs.Words.{back-of}
+use Rattle.whole.proofs.Words.{fits-of}
 use Rattle.limits.specs.Limits.{beyond, delays_beyond_lem}
 use Rattle.limits.specs.Refusal.{◌when◌}
 use Rattle.limits.proofs.Laws.{within-magnitude}
@@ -23,11 +23,10 @@ use Rattle.decode.specs.Number.{signed_at_lem}
 use Rattle.decode.proofs.Signeds.{length-signeds}
 use Rattle.whole.specs.Table.{at}
 use Rattle.exact.specs.Corrected.{Given, steps, to_a, to_b}
-use Rattle.correcting.specs.Answer.{filled, others_beyond}
+use Rattle.correcting.specs.Answer.{others_beyond}
 use Rattle.correcting.specs.Block.{group_beyond_lem, block_values_number_lem, block_values_rule}
-use Rattle.correcting.specs.declared.BlockValues.{BlockValues}
 use Rattle.correcting.proofs.Arrays.{filled_none, filled_more}
-use Rattle.correcting.proofs.Columns.{From, from_row, from-none}
+use Rattle.correcting.proofs.Columns.{from_row, from-none}
 use Rattle.correcting.proofs.Groups.{group-refused, group-values}
 use Rattle.fit.specs.Packed.{grouped}
 use Rattle.fit.proofs.Unpacked.{unpacked-group}
@@ -95,6 +94,7 @@ group-is : (c : After-correct_group-values)
     ≡ block_values_rule (at c.args.smoothed.now c.loop-j.j) c.args.int c.args.cab c.args.refdly c.args.gd (at t.geometry c.loop-j.j) (at t.relativity c.loop-j.j) (at t.ionosphere c.loop-j.j)
     (at t.troposphere c.loop-j.j) (at t.clock c.loop-j.j)
 group-is c =
+    let fits : SFits w64 (at c.args.smoothed.now c.loop-j.j) = fits-of (within-limit value_limit c.args.smoothed.now c.requires.2 c.loop-j.j) (lit< tt) in
     let e : 40 * c.loop-j.j + 40 - 40 * c.loop-j.j ≡ 40 = omega arith in
     let read = unpacked-group c.args.corrections.now c.args.n c.loop-j.j in
     let h = in_group c in
@@ -102,7 +102,7 @@ group-is c =
     ≡ block_values_rule (to_z w64 (of_z w64 (at c.args.smoothed.now c.loop-j.j))) (to_z w64 (of_z w64 c.args.int)) (to_z w64 (of_z w64 c.args.cab)) (to_z w64 (of_z w64 c.args.refdly))
     (to_z w64 (of_z w64 c.args.gd)) (signed_at_lem (take m (drop (40 * c.loop-j.j) c.args.corrections.now)) 0) (signed_at_lem (take m (drop (40 * c.loop-j.j) c.args.corrections.now)) 8) (signed_at_lem (take m (drop (40 * c.loop-j.j) c.args.corrections.now)) 16)
     (signed_at_lem (take m (drop (40 * c.loop-j.j) c.args.corrections.now)) 24) (signed_at_lem (take m (drop (40 * c.loop-j.j) c.args.corrections.now)) 32)) e c.correct_group-values.ensures
-    ∙ (λ z. block_values_rule (back-of {z = at c.args.smoothed.now c.loop-j.j} c.correct_group-arg-in-loop-j-1.given z) (to_z-of_z c.ranges.int z) (to_z-of_z c.ranges.cab z) (to_z-of_z c.ranges.refdly z) (to_z-of_z c.ranges.gd z)
+    ∙ (λ z. block_values_rule (to_z-of_z fits z) (to_z-of_z c.ranges.int z) (to_z-of_z c.ranges.cab z) (to_z-of_z c.ranges.refdly z) (to_z-of_z c.ranges.gd z)
     (read 0 c.requires.1 h (lit≤ tt) z) (read 8 c.requires.1 h (lit≤ tt) z) (read 16 c.requires.1 h (lit≤ tt) z) (read 24 c.requires.1 h (lit≤ tt) z) (read 32 c.requires.1 h (lit≤ tt) z))
 
 -- the smoothed value is inside
@@ -112,7 +112,7 @@ inside c =
 
 -- what is left of the columns tells with this group
 row_is : (c : After-correct_group-values)
-    → let t = g (c) in
+    → let t = g (goal.at.After-correct_group-values c).Start in
     Left t c.loop-j.j ≡ group_beyond_lem (at t.geometry c.loop-j.j) (at t.relativity c.loop-j.j) (at t.ionosphere c.loop-j.j) (at t.troposphere c.loop-j.j) (at t.clock c.loop-j.j) || Left t (c.loop-j.j + 1)
 row_is c =
     let t = g (goal.at.After-correct_group-values c).Start in
@@ -121,26 +121,29 @@ row_is c =
 
 -- the values of this group, as they are put
 values-are : (w : In-Values)
-    → let t = h (w) in
+    → let t = h (goal.at.In-Values w).Start in
     let y = at w.args.smoothed.now w.loop-j.j in
     (to_z w64 (of_z w64 w.in-Values.va) ≡ to_a t (pos steps) w.loop-j.j y) × (to_z w64 (of_z w64 w.in-Values.vb) ≡ to_b t (pos steps) w.loop-j.j y)
     × (to_z w64 (of_z w64 w.in-Values.vc) ≡ pos steps *ℤ at t.troposphere w.loop-j.j) × (to_z w64 (of_z w64 w.in-Values.vd) ≡ pos steps *ℤ at t.ionosphere w.loop-j.j)
 unfolding to_a to_b
 values-are w =
+    let fva : SFits w64 w.in-Values.va = search rules in
+    let fvb : SFits w64 w.in-Values.vb = search rules in
+    let fvc : SFits w64 w.in-Values.vc = search rules in
+    let fvd : SFits w64 w.in-Values.vd = search rules in
     let y = at w.args.smoothed.now w.loop-j.j in
-    let r = group-values _ _ _ _ _ _ _ _ _ _ (inside (goal.at.In-Values w).After-correct_group-values) (delays-left (goal.at.In-Values w).Else-delays_beyond) (group-is (goal.at.In-Values w).After-correct_group-values) w.in-Values.is in
-    (
-      back-of w.known_told-1.given.0.1 ∙ r.1 ∙ ap (λ (u : Given). to_a u (pos steps) w.loop-j.j y) (sym (same (goal.at.In-Values w).Start)),
-      back-of w.known_told-1.given.1.0.1 ∙ r.2 ∙ ap (λ (u : Given). to_b u (pos steps) w.loop-j.j y) (sym (same (goal.at.In-Values w).Start)),
-      back-of w.known_told-1.given.1.1.0.1 ∙ r.3,
-      back-of w.known_told-1.given.1.1.1.0.1 ∙ r.4,
+    let r = group-values _ _ _ _ _ _ _ _ _ _ (inside (goal.at.In-Values w).After-correct_group-values) (delays-left (goal.at.In-Values w).Else-delays_beyond) (group-is (goal.at.In-Values w).After-correct_group-values) w.in-Values.is in (
+      to_z-of_z fva ∙ r.1 ∙ ap (λ (u : Given). to_a u (pos steps) w.loop-j.j y) (sym (same (goal.at.In-Values w).Start)),
+      to_z-of_z fvb ∙ r.2 ∙ ap (λ (u : Given). to_b u (pos steps) w.loop-j.j y) (sym (same (goal.at.In-Values w).Start)),
+      to_z-of_z fvc ∙ r.3,
+      to_z-of_z fvd ∙ r.4,
     )
 
 pub returns-then-delays_beyond : goal.returns-then-delays_beyond
 returns-then-delays_beyond c = record {
-      value = two (others_by (g (goal.at.returns-then-delays_beyond c).Start) (Left (g (goal.at.returns-then-delays_beyond c).Start) 0) true refl (sym (delays-are (goal.at.returns-then-delays_beyond c).After-delays_beyond) ∙ c.if-delays_beyond.true) ∙ or-true (Left (g (goal.at.returns-then-delays_beyond c).Start) 0));
-      a_after = λ z. absurd (omega (arith, z));
-    }
+  answer = two (others_by (g (goal.at.returns-then-delays_beyond c).Start) (Left (g (goal.at.returns-then-delays_beyond c).Start) 0) true refl (sym (delays-are (goal.at.returns-then-delays_beyond c).After-delays_beyond) ∙ c.if-delays_beyond.true) ∙ or-true (Left (g (goal.at.returns-then-delays_beyond c).Start) 0));
+  rows_after = λ z. absurd (omega (arith, z));
+}
 
 pub loop-j-init : goal.loop-j-init
 loop-j-init c =
@@ -148,12 +151,12 @@ loop-j-init c =
 
 pub returns-in_default : goal.returns-in_default
 returns-in_default c =
-    let t = g (c) in
+    let t = g (goal.at.returns-in_default c).Start in
     let r = group-refused _ _ _ _ _ _ _ _ _ _ (inside (goal.at.returns-in_default c).After-correct_group-values) (delays-left (goal.at.returns-in_default c).Else-delays_beyond) (group-is (goal.at.returns-in_default c).After-correct_group-values) c.in_default.is in
     let left : Left t 0 ≡ true = c.loop-j.invariant.3 ∙ row_is (goal.at.returns-in_default c).After-correct_group-values ∙ ap (λ (b : Bool). b || Left t (c.loop-j.j + 1)) r.1 in
     let e : c.block_values_number.result ≡ 2 = c.block_values_number.ensures ∙ ap block_values_number_lem c.in_default.is ∙ r.0 in record {
-      value = e ∙ two (others_by t true false left (delays-left (goal.at.returns-in_default c).Else-delays_beyond));
-      a_after = λ z. absurd (omega (arith, z, e));
+      answer = e ∙ two (others_by t true false left (delays-left (goal.at.returns-in_default c).Else-delays_beyond));
+      rows_after = λ z. absurd (omega (arith, z, e));
     }
 
 pub loop-j-preserved : goal.loop-j-preserved
@@ -179,7 +182,7 @@ returns c =
     let e : c.loop-j.j ≡ c.args.n = le_antisymm c.loop-j.invariant.0 c.loop-j-test.false in
     let end : length t.geometry ≤ c.loop-j.j = omega (arith, length-signeds c.args.corrections.now 0 40 c.args.n, e) in
     let left : Left t 0 ≡ false = c.loop-j.invariant.3 ∙ from-none t.geometry t.relativity t.ionosphere t.troposphere t.clock (lengths (goal.at.returns c).Start) c.loop-j.j end in record {
-      value = none (others_by t false false left (delays-left (goal.at.returns c).Else-delays_beyond));
-      a_after = λ z. subst (λ (m : ℕ). Rows t c.args.smoothed.now m c.args.a.now c.args.b.now c.args.c.now c.args.d.now c.loop-j.a c.loop-j.b c.loop-j.c c.loop-j.d) e
+      answer = none (others_by t false false left (delays-left (goal.at.returns c).Else-delays_beyond));
+      rows_after = λ z. subst (λ (m : ℕ). Rows t c.args.smoothed.now m c.args.a.now c.args.b.now c.args.c.now c.args.d.now c.loop-j.a c.loop-j.b c.loop-j.c c.loop-j.d) e
           (subst (λ (u : Given). Rows u c.args.smoothed.now c.loop-j.j c.args.a.now c.args.b.now c.args.c.now c.args.d.now c.loop-j.a c.loop-j.b c.loop-j.c c.loop-j.d) (same (goal.at.returns c).Start) c.loop-j.invariant.4);
     }

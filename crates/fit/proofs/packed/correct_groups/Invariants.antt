@@ -1,36 +1,16 @@
 -- `fit::packed::correct_groups` meets its contract: after j turns the first j groups are inside, and their values stand in the rows.
 -- Assumes nothing.
-use borrow.Author.Rules.{rules}
-use mathlib.Core.Path.{◌≡◌, refl, sym, ap, ap₂, ◌∙◌, subst}
-use mathlib.Core.Bool.{Bool, true, false, ◌||◌, or-true}
+use mathlib.Core.Path.{◌≡◌}
+use mathlib.Core.Bool.{Bool}
 use mathlib.Core.List.{List, []}
-use Prim.Native.Nat.{ℕ, ◌+◌, ◌*◌, ◌-◌, ◌≤◌, ◌<◌}
-use native.Mathlib.Nat.{le_antisymm}
-use native.Mathlib.Omega.{arith}
-use lib.Dec.{lit≤}
+use Prim.Native.Nat.{ℕ, ◌*◌, ◌-◌, ◌≤◌}
 use lib.IntN.{ℤ, pos, ◌*ℤ◌}
-use lib.ListN.{length, take, drop}
-use mir.Syntax.{w64}
-use mir.Val.{to_z, of_z}
-use mir.Facts.{to_z-of_z}
-use Rattle.whole.proofs.Words.{back-of}
-use Rattle.limits.specs.Limits.{beyond, delays_beyond_lem}
-use Rattle.limits.specs.Refusal.{◌when◌}
-use Rattle.limits.proofs.Laws.{within-magnitude}
-use Rattle.limits.proofs.Lists.{within-limit}
-use Rattle.series.specs.Fit.{value_limit}
-use Rattle.decode.specs.Number.{signed_at_lem}
-use Rattle.decode.proofs.Signeds.{length-signeds}
+use lib.ListN.{length}
 use Rattle.whole.specs.Table.{at}
 use Rattle.exact.specs.Corrected.{Given, steps, to_a, to_b}
-use Rattle.correcting.specs.Answer.{filled, others_beyond}
-use Rattle.correcting.specs.Block.{group_beyond_lem, block_values_number_lem, block_values_rule}
-use Rattle.correcting.specs.declared.BlockValues.{BlockValues}
-use Rattle.correcting.proofs.Arrays.{filled_none, filled_more}
-use Rattle.correcting.proofs.Columns.{From, from_row, from-none}
-use Rattle.correcting.proofs.Groups.{group-refused, group-values}
+use Rattle.correcting.specs.Answer.{filled}
+use Rattle.correcting.proofs.Columns.{From}
 use Rattle.fit.specs.Packed.{grouped}
-use Rattle.fit.proofs.Unpacked.{unpacked-group}
 use Rattle.fit.proofs.packed.correct_groups.Given as goal
 
 -- the rows after j blocks

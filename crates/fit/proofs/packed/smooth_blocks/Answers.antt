@@ -10,14 +10,14 @@ use native.Mathlib.Omega.{arith}
 use lib.IntN.{ℤ}
 use lib.ListN.{length, take, drop}
 use mir.Syntax.{w64}
-use mir.Val.{to_z, of_z}
-use Rattle.whole.proofs.Words.{back-of}
+use mir.Val.{SFits, to_z, of_z}
+use mir.Facts.{to_z-of_z}
 use Rattle.limits.specs.Limits.{measurement_limit, measurement_least, measurement_most}
 use Rattle.limits.specs.Lists.{any_beyond_lem}
 use Rattle.limits.specs.Scan.{read_to, scan_rule}
 use Rattle.limits.specs.declared.Scanned.{Scanned}
 use Rattle.series.specs.declared.Smoothed.{Smoothed}
-use Rattle.series.specs.Smooth.{smoothed, smooth_rule}
+use Rattle.series.specs.Smooth.{smooth_rule}
 use Rattle.series.proofs.Replies.{smooth-cases}
 use Rattle.decode.specs.Number.{signeds_at}
 use Rattle.correcting.specs.declared.Corrected.{Corrected}
@@ -85,21 +85,22 @@ answered c =
 smooth-is : (c : In-Value)
     → to_z w64 (of_z w64 c.in-Value.value) ≡ smoothed_of (list (goal.at.In-Value c).At-loop-j) c.loop-j.j
 smooth-is c =
+    let fits : SFits w64 c.in-Value.value = search rules in
     let same : c.in-Value.value ≡ smoothed_of (list (goal.at.In-Value c).At-loop-j) c.loop-j.j = cc (answered (goal.at.In-Value c).After-smooth-answer) in
-    back-of c.known_told-1.given.0.1 ∙ same
+    to_z-of_z fits ∙ same
 
 pub loop-j-init : goal.loop-j-init
 loop-j-init c = (search rules, c.requires.0, c.requires.1, refl, none_passed _, filled_none _ _)
 
 pub overflow_add-read : goal.overflow_add-read
 overflow_add-read c =
-    record { fits = omega (arith, c.loop-j.invariant.3, read-most (goal.at.overflow_add-read c).After-scan-seen, room (goal.at.overflow_add-read c).In-loop-j, list_length (c), c.loop-j.invariant.1) }
+    record { fits = omega (arith, c.loop-j.invariant.3, read-most (goal.at.overflow_add-read c).After-scan-seen, room (goal.at.overflow_add-read c).In-loop-j, list_length (goal.at.overflow_add-read c).At-loop-j, c.loop-j.invariant.1) }
 
 pub returns-then-seen : goal.returns-then-seen
 returns-then-seen c =
     let r = room (goal.at.returns-then-seen c).In-loop-j in
     let o = sym (any-is (goal.at.returns-then-seen c).After-scan-seen) ∙ c.if-seen.true in record {
-      value = (λ z. Corrected.Refused 2 (c.loop-j.invariant.3 z + read_is (goal.at.returns-then-seen c).After-scan-seen z)) ∙ found (list (goal.at.returns-then-seen c).At-loop-j) c.loop-j.j r c.loop-j.invariant.4 o;
+      answer = (λ z. Corrected.Refused 2 (c.loop-j.invariant.3 z + read_is (goal.at.returns-then-seen c).After-scan-seen z)) ∙ found (list (goal.at.returns-then-seen c).At-loop-j) c.loop-j.j r c.loop-j.invariant.4 o;
       row_after = c.loop-j.invariant.5 ∙ ap (λ (m : ℕ). filled m (smoothed_of (list (goal.at.returns-then-seen c).At-loop-j)) c.args.row.now) (sym (found-blocks (list (goal.at.returns-then-seen c).At-loop-j) c.loop-j.j r c.loop-j.invariant.4 o));
     }
 
@@ -107,20 +108,19 @@ pub returns-in_default : goal.returns-in_default
 returns-in_default c = absurd (smooth-cases (answered (goal.at.returns-in_default c).After-smooth-answer) c.in_default.is)
 
 pub loop-j-preserved : goal.loop-j-preserved
-loop-j-preserved c =
-    (
-      omega (arith, c.loop-j-test.true),
-      c.loop-j.invariant.1,
-      c.loop-j.invariant.2,
-      omega (arith, c.loop-j.invariant.3, all_read (goal.at.loop-j-preserved c).Else-seen),
-      passed (list (goal.at.loop-j-preserved c).At-loop-j) c.loop-j.j (room-else (goal.at.loop-j-preserved c).Else-seen) c.loop-j.invariant.4 (inside (goal.at.loop-j-preserved c).Else-seen),
-      filled_more (smoothed_of (list (goal.at.loop-j-preserved c).At-loop-j)) c.args.row.now c.loop-j.row c.loop-j.j c.loop-j.invariant.5 (smooth-is c),
-    )
+loop-j-preserved c = (
+  omega (arith, c.loop-j-test.true),
+  c.loop-j.invariant.1,
+  c.loop-j.invariant.2,
+  omega (arith, c.loop-j.invariant.3, all_read (goal.at.loop-j-preserved c).Else-seen),
+  passed (list (goal.at.loop-j-preserved c).At-loop-j) c.loop-j.j (room-else (goal.at.loop-j-preserved c).Else-seen) c.loop-j.invariant.4 (inside (goal.at.loop-j-preserved c).Else-seen),
+  filled_more (smoothed_of (list (goal.at.loop-j-preserved c).At-loop-j)) c.args.row.now c.loop-j.row c.loop-j.j c.loop-j.invariant.5 (smooth-is c),
+)
 
 pub returns : goal.returns
 returns c =
     let e : c.loop-j.j ≡ c.args.n = le_antisymm c.loop-j.invariant.0 c.loop-j-test.false in
     let p = subst (Passed (list (goal.at.returns c).At-loop-j)) e c.loop-j.invariant.4 in record {
-      value = (λ z. Corrected.Values ((c.loop-j.invariant.3 ∙ ap (λ (m : ℕ). 15 * m) e) z)) ∙ done (list (goal.at.returns c).At-loop-j) c.args.n (list_length (goal.at.returns c).At-loop-j) p;
+      answer = (λ z. Corrected.Values ((c.loop-j.invariant.3 ∙ ap (λ (m : ℕ). 15 * m) e) z)) ∙ done (list (goal.at.returns c).At-loop-j) c.args.n (list_length (goal.at.returns c).At-loop-j) p;
       row_after = c.loop-j.invariant.5 ∙ ap (λ (m : ℕ). filled m (smoothed_of (list (goal.at.returns c).At-loop-j)) c.args.row.now) (e ∙ sym (done-blocks (list (goal.at.returns c).At-loop-j) c.args.n (list_length (goal.at.returns c).At-loop-j) p));
     }

@@ -1,6 +1,5 @@
 -- `fit::packed::track_packed` meets its contract: what the two loops leave is what Track makes of the lists.
 -- Assumes nothing.
-use borrow.Author.Rules.{rules}
 use borrow.Author.Tests.{ne_eqb}
 use mathlib.Core.Path.{◌≡◌, refl, sym, ap, ap₂, ◌∙◌, subst}
 use mathlib.Core.Bool.{Bool, true, false, not, ◌||◌}
@@ -45,16 +44,15 @@ n c = length c.args.corrections.now / 40
 
 -- both clauses, from the answer
 both : (s : Start) (x : Found) → x ≡ found_rule (g s) → (x ≡ found_rule (g s)) × (found_number_lem x ≡ 0 → AccurateTrack steps (n s) (g s) (found_numbers x))
-both s x e =
-    (
-      e,
-      λ z. subst (λ (k : ℕ). AccurateTrack steps k (g s) (found_numbers x))
-          (packed-blocks s.args.measurements.now s.args.corrections.now s.args.int s.args.cab s.args.refdly s.args.gd) (found-accurate (g s) x e z),
-    )
+both s x e = (
+  e,
+  λ z. subst (λ (k : ℕ). AccurateTrack steps k (g s) (found_numbers x))
+      (packed-blocks s.args.measurements.now s.args.corrections.now s.args.int s.args.cab s.args.refdly s.args.gd) (found-accurate (g s) x e z),
+)
 
 -- the sizes have passed
 fit : (c : Else-not-blocks_fit) → not (blocks_fit_lem (n (goal.at.Else-not-blocks_fit c).Start)) ≡ false
-fit c = ap not (sym c.blocks_fit.ensures) ∙ c.if-not-blocks_fit.false
+fit c = ap not (sym c.blocks_fit.ensures ∙ c.if-not-blocks_fit.false)
 
 count : (c : Else-measurements-n) → length c.args.measurements.now / 8 ≡ 15 * n (goal.at.Else-measurements-n c).Start
 count c = c.if-measurements-n.false
@@ -95,59 +93,55 @@ limits-by c p q e f =
 
 inside : (c : In-Values) → any_beyond_lem measurement_limit (list (goal.at.In-Values c).Start) ≡ false
 inside c =
-    measurements-values (list (c)) c.smooth_blocks-read.ensures.value c.in-Values.is
+    measurements-values (list (goal.at.In-Values c).Start) c.smooth_blocks-read.ensures.answer c.in-Values.is
 
 number_is : (c : After-correct_groups-number) → c.correct_groups-number.result ≡ 2 when others_beyond (others (goal.at.After-correct_groups-number c).Start)
-number_is c = c.correct_groups-number.ensures.value ∙ ap (λ (t : Given). 2 when others_beyond t) (same (goal.at.After-correct_groups-number c).Start)
+number_is c = c.correct_groups-number.ensures.answer ∙ ap (λ (t : Given). 2 when others_beyond t) (same (goal.at.After-correct_groups-number c).Start)
 
 -- where nothing is refused, the rows have the places of the record
 module _ (c : Else-number-ne0) where
-  abbrev w : After-correct_groups-number
-  w = c
-
   abbrev e : Else-measurements-n
-  e = w
+  e = (goal.at.Else-number-ne0 c).Else-measurements-n
 
   abbrev s : Start
-  s = e
+  s = (goal.at.Else-number-ne0 c).Start
 
   abbrev row : List ℤ
-  row = (smoothed-told (groups-told w)).smooth-blocks.new.1.1.0
+  row = c.smooth_blocks-read.new.row
+
+  in_limits : any_beyond_lem measurement_limit (list s) ≡ false
+  in_limits = inside (goal.at.Else-number-ne0 c).In-Values
 
   row_at : (j : ℕ) → j < n s → at row j ≡ smoothed_of (list s) j
-  row_at = smoothed-at (list s) (n s) (list_length s) (few e).1 (inside (groups-told w)) (smoothed-told (groups-told w)).smooth-blocks.ensures.1
+  row_at = smoothed-at (list s) (n s) (list_length s) (few e).1 in_limits c.smooth_blocks-read.ensures.row_after
 
   others-left : others_beyond (others s) ≡ false
-  others-left = when-zero 1 (others_beyond (others s)) (sym (number_is w) ∙ c.if3.false)
+  others-left = when-zero 1 (others_beyond (others s)) (sym (number_is (goal.at.Else-number-ne0 c).After-correct_groups-number) ∙ c.if-number-ne0.false)
 
   limits-left : out_of_limits (g s) ≡ false
-  limits-left = limits-by e false false (inside (groups-told w)) others-left
+  limits-left = limits-by e false false in_limits others-left
 
-  a-is : w.correct-groups.last.1.1.1.1.1.1.1.0 ≡ places (n s) (value_a (g s))
+  a-is : c.correct_groups-number.new.a ≡ places (n s) (value_a (g s))
   a-is =
-      let x = s.args in
-      (w.correct-groups.ensures.1 c.if3.false).0
+      (c.correct_groups-number.ensures.rows_after c.if-number-ne0.false).0
       ∙ ap (λ (t : Given). filled (n s) (λ j. to_a t (pos steps) j (at row j)) (replicate 52 (pos 0))) (same s)
-      ∙ a-row x.measurements.now x.corrections.now x.int x.cab x.refdly x.gd (fit e) (count e) row row_at
+      ∙ a-row c.args.measurements.now c.args.corrections.now c.args.int c.args.cab c.args.refdly c.args.gd (fit (goal.at.Else-number-ne0 c).Else-not-blocks_fit) (count e) row row_at
 
-  b-is : w.correct-groups.last.1.1.1.1.1.1.1.1.0 ≡ places (n s) (value_b (g s))
+  b-is : c.correct_groups-number.new.b ≡ places (n s) (value_b (g s))
   b-is =
-      let x = s.args in
-      (w.correct-groups.ensures.1 c.if3.false).1
+      (c.correct_groups-number.ensures.rows_after c.if-number-ne0.false).1
       ∙ ap (λ (t : Given). filled (n s) (λ j. to_b t (pos steps) j (at row j)) (replicate 52 (pos 0))) (same s)
-      ∙ b-row x.measurements.now x.corrections.now x.int x.cab x.refdly x.gd (fit e) (count e) row row_at
+      ∙ b-row c.args.measurements.now c.args.corrections.now c.args.int c.args.cab c.args.refdly c.args.gd (fit (goal.at.Else-number-ne0 c).Else-not-blocks_fit) (count e) row row_at
 
-  c-is : w.correct-groups.last.1.1.1.1.1.1.1.1.1.0 ≡ places (n s) (value_c (g s))
+  c-is : c.correct_groups-number.new.c ≡ places (n s) (value_c (g s))
   c-is =
-      let x = s.args in
-      (w.correct-groups.ensures.1 c.if3.false).2
-      ∙ c-row x.measurements.now x.corrections.now x.int x.cab x.refdly x.gd (fit e) (count e)
+      (c.correct_groups-number.ensures.rows_after c.if-number-ne0.false).2
+      ∙ c-row c.args.measurements.now c.args.corrections.now c.args.int c.args.cab c.args.refdly c.args.gd (fit (goal.at.Else-number-ne0 c).Else-not-blocks_fit) (count e)
 
-  d-is : w.correct-groups.last.1.1.1.1.1.1.1.1.1.1.0 ≡ places (n s) (value_d (g s))
+  d-is : c.correct_groups-number.new.d ≡ places (n s) (value_d (g s))
   d-is =
-      let x = s.args in
-      (w.correct-groups.ensures.1 c.if3.false).3
-      ∙ d-row x.measurements.now x.corrections.now x.int x.cab x.refdly x.gd (fit e) (count e)
+      (c.correct_groups-number.ensures.rows_after c.if-number-ne0.false).3
+      ∙ d-row c.args.measurements.now c.args.corrections.now c.args.int c.args.cab c.args.refdly c.args.gd (fit (goal.at.Else-number-ne0 c).Else-not-blocks_fit) (count e)
 
   long : (f : ℕ → ℤ) {l : List ℤ} → l ≡ places (n s) f → length l ≡ 52
   long f h = ap length h ∙ places-length (n s) f (few e).1
@@ -158,20 +152,23 @@ module _ (c : Else-number-ne0) where
 
 pub returns-then-not-blocks_fit : goal.returns-then-not-blocks_fit
 returns-then-not-blocks_fit c =
-    both (goal.at.returns-then-not-blocks_fit c).Start _ (sizes-found (g (goal.at.returns-then-not-blocks_fit c).Start) (unfit-sizes _ _ _ _ _ _ (ap not (sym c.blocks_fit.ensures) ∙ c.if-not-blocks_fit.true)))
+    let b = both (goal.at.returns-then-not-blocks_fit c).Start _ (sizes-found (g (goal.at.returns-then-not-blocks_fit c).Start) (unfit-sizes _ _ _ _ _ _ (ap not (sym c.blocks_fit.ensures ∙ c.if-not-blocks_fit.true)))) in
+    record { answer = b.0; accurate = b.1 }
 
 pub returns-then-measurements-n : goal.returns-then-measurements-n
 returns-then-measurements-n c =
-    both (goal.at.returns-then-measurements-n c).Start _ (sizes-found (g (goal.at.returns-then-measurements-n c).Start) (miscounted-sizes _ _ _ _ _ _ (fit (goal.at.returns-then-measurements-n c).Else-not-blocks_fit) (ne_eqb _ _ c.if-measurements-n.true)))
+    let b = both (goal.at.returns-then-measurements-n c).Start _ (sizes-found (g (goal.at.returns-then-measurements-n c).Start) (miscounted-sizes _ _ _ _ _ _ (fit (goal.at.returns-then-measurements-n c).Else-not-blocks_fit) (ne_eqb _ _ c.if-measurements-n.true))) in
+    record { answer = b.0; accurate = b.1 }
 
 pub smooth_blocks-read-requires : goal.smooth_blocks-read-requires
 smooth_blocks-read-requires c = ((few (goal.at.smooth_blocks-read-requires c).Else-measurements-n).1, omega (arith, count (goal.at.smooth_blocks-read-requires c).Else-measurements-n))
 
 pub returns-in_default : goal.returns-in_default
 returns-in_default c =
-    let r = measurements-refused (list (goal.at.returns-in_default c).Start) c.smooth_blocks-read.ensures.value c.in_default.is in
+    let r = measurements-refused (list (goal.at.returns-in_default c).Start) c.smooth_blocks-read.ensures.answer c.in_default.is in
     let two = c.corrected_number.ensures ∙ ap corrected_number_lem c.in_default.is ∙ r.0 in
-    both (goal.at.returns-in_default c).Start _ (ap Found.Refused two ∙ limits-found (g (goal.at.returns-in_default c).Start) (sizes (goal.at.returns-in_default c).Else-measurements-n) (limits-by (goal.at.returns-in_default c).Else-measurements-n true (others_beyond (others (goal.at.returns-in_default c).Start)) r.1 refl))
+    let b = both (goal.at.returns-in_default c).Start _ (ap Found.Refused two ∙ limits-found (g (goal.at.returns-in_default c).Start) (sizes (goal.at.returns-in_default c).Else-measurements-n) (limits-by (goal.at.returns-in_default c).Else-measurements-n true (others_beyond (others (goal.at.returns-in_default c).Start)) r.1 refl)) in
+    record { answer = b.0; accurate = b.1 }
 
 pub correct_groups-number-requires : goal.correct_groups-number-requires
 correct_groups-number-requires c =
@@ -180,37 +177,40 @@ correct_groups-number-requires c =
 pub returns-then-number-ne0 : goal.returns-then-number-ne0
 returns-then-number-ne0 c =
     let r = when-some 2 (others_beyond (others (goal.at.returns-then-number-ne0 c).Start)) (number_is (goal.at.returns-then-number-ne0 c).After-correct_groups-number) c.if-number-ne0.true in
-    both (goal.at.returns-then-number-ne0 c).Start _ (ap Found.Refused r.0 ∙ limits-found (g (goal.at.returns-then-number-ne0 c).Start) (sizes (goal.at.returns-then-number-ne0 c).Else-measurements-n) (limits-by (goal.at.returns-then-number-ne0 c).Else-measurements-n false true (inside (goal.at.returns-then-number-ne0 c).In-Values) r.1))
+    let b = both (goal.at.returns-then-number-ne0 c).Start _ (ap Found.Refused r.0 ∙ limits-found (g (goal.at.returns-then-number-ne0 c).Start) (sizes (goal.at.returns-then-number-ne0 c).Else-measurements-n) (limits-by (goal.at.returns-then-number-ne0 c).Else-measurements-n false true (inside (goal.at.returns-then-number-ne0 c).In-Values) r.1)) in
+    record { answer = b.0; accurate = b.1 }
 
 pub slice_bounds-ten_numbers-end : goal.slice_bounds-ten_numbers-end
-slice_bounds-ten_numbers-end c = sym (long c _ (a-is c))
+slice_bounds-ten_numbers-end c = sym (long (goal.at.slice_bounds-ten_numbers-end c).Else-number-ne0 _ (a-is (goal.at.slice_bounds-ten_numbers-end c).Else-number-ne0))
 
 pub slice_bounds-ten_numbers-end-2 : goal.slice_bounds-ten_numbers-end-2
-slice_bounds-ten_numbers-end-2 c = sym (long c _ (b-is c))
+slice_bounds-ten_numbers-end-2 c = sym (long (goal.at.slice_bounds-ten_numbers-end-2 c).Else-number-ne0 _ (b-is (goal.at.slice_bounds-ten_numbers-end-2 c).Else-number-ne0))
 
 pub slice_bounds-ten_numbers-end-3 : goal.slice_bounds-ten_numbers-end-3
-slice_bounds-ten_numbers-end-3 c = sym (long c _ (c-is c))
+slice_bounds-ten_numbers-end-3 c = sym (long (goal.at.slice_bounds-ten_numbers-end-3 c).Else-number-ne0 _ (c-is (goal.at.slice_bounds-ten_numbers-end-3 c).Else-number-ne0))
 
 pub slice_bounds-ten_numbers-end-4 : goal.slice_bounds-ten_numbers-end-4
-slice_bounds-ten_numbers-end-4 c = sym (long c _ (d-is c))
+slice_bounds-ten_numbers-end-4 c = sym (long (goal.at.slice_bounds-ten_numbers-end-4 c).Else-number-ne0 _ (d-is (goal.at.slice_bounds-ten_numbers-end-4 c).Else-number-ne0))
 
 pub ten_numbers-requires : goal.ten_numbers-requires
 ten_numbers-requires c =
-    let i = within c in record {
-      le_n = few (e c);
-      a_len = (long c _ (a-is c), long c _ (b-is c), long c _ (c-is c), long c _ (d-is c));
-      a_value = (
-          ap (any_beyond_lem value_limit) (a-is c) ∙ i.in-a,
-          ap (any_beyond_lem value_limit) (b-is c) ∙ i.in_b,
-          ap (any_beyond_lem value_limit) (c-is c) ∙ i.in_c,
-          ap (any_beyond_lem value_limit) (d-is c) ∙ i.in-d,
-        );
+    let t = (goal.at.ten_numbers-requires c).Else-number-ne0 in
+    let i = within t in record {
+      few_blocks = few (e t);
+      lengths = (long t _ (a-is t), long t _ (b-is t), long t _ (c-is t), long t _ (d-is t));
+      inside = (
+        ap (any_beyond_lem value_limit) (a-is t) ∙ i.in-a,
+        ap (any_beyond_lem value_limit) (b-is t) ∙ i.in_b,
+        ap (any_beyond_lem value_limit) (c-is t) ∙ i.in_c,
+        ap (any_beyond_lem value_limit) (d-is t) ∙ i.in-d,
+      );
     }
 
 pub returns : goal.returns
 returns c =
-    let x = (s c).args in
-    both (s c) _
+    let t = (goal.at.returns c).Else-number-ne0 in
+    let b = both (s t) _
     (c.ten_numbers.ensures
-    ∙ ap judged_rule (packed-results x.measurements.now x.corrections.now x.int x.cab x.refdly x.gd (fit (e c)) (count (e c)) (a-is c) (b-is c) (c-is c) (d-is c))
-    ∙ judged-found (g (s c)) (sizes (e c)) (limits-left c))
+    ∙ ap judged_rule (packed-results c.args.measurements.now c.args.corrections.now c.args.int c.args.cab c.args.refdly c.args.gd (fit (goal.at.returns c).Else-not-blocks_fit) (count (e t)) (a-is t) (b-is t) (c-is t) (d-is t))
+    ∙ judged-found (g (s t)) (sizes (e t)) (limits-left t)) in
+    record { answer = b.0; accurate = b.1 }

@@ -1,6 +1,5 @@
 -- `fit::results::fit_blocks` meets its contract: Fit refuses none of the values, and reads none past the first n.
 -- Assumes nothing.
-use borrow.Author.Rules.{rules}
 use mathlib.Core.Path.{◌≡◌, subst}
 use Prim.Native.Nat.{ℕ, ◌-◌, ◌≤◌}
 use native.Mathlib.Omega.{arith}

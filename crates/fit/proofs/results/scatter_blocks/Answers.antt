@@ -1,6 +1,5 @@
 -- `fit::results::scatter_blocks` meets its contract: Scatter refuses none of the values but for their DSG, and reads none past the first n.
 -- Assumes nothing.
-use borrow.Author.Rules.{rules}
 use mathlib.Core.Path.{◌≡◌, ◌∙◌, subst}
 use Prim.Native.Nat.{ℕ, ◌-◌, ◌≤◌}
 use native.Mathlib.Omega.{arith}

@@ -6,8 +6,9 @@ use Prim.Native.Nat.{ℕ, zero, suc, ◌*◌, ◌≤◌, ◌<◌}
 use native.Mathlib.Omega.{arith}
 use lib.IntN.{ℤ, pos}
 use mir.Syntax.{w64}
-use mir.Val.{to_z, of_z}
-use Rattle.whole.proofs.Words.{count, count-read, fits, plain-is, back-of}
+use mir.Val.{SFits, to_z, of_z}
+use mir.Facts.{to_z-of_z}
+use Rattle.whole.proofs.Words.{count-read, plain-is}
 use Rattle.limits.specs.declared.Numbers.{Numbers}
 use Rattle.limits.specs.Limits.{limits_number, dsg_number}
 use Rattle.limits.specs.Refusal.{◌then◌}
@@ -39,7 +40,7 @@ accept r e = sym (ap (λ (k : ℕ). found k r.numbers) e)
 
 -- the track length
 seconds : (s : Start) → 15 * s.args.n ≤ 780
-seconds s = omega (arith, s.requires.le_n.1)
+seconds s = omega (arith, s.requires.few_blocks.1)
 
 -- the numbers as they are put together, and what they are
 abbrev put : (c : In-Line-line_d) (dsg : ℤ) → Numbers
@@ -60,10 +61,18 @@ put c dsg =
 numbers-are : (c : In-Line-line_d) (dsg : ℤ) → put c dsg ≡ numbers_with dsg c.args.n c.args.a.now c.args.b.now c.args.c.now c.args.d.now
 unfolding numbers_with
 numbers-are c dsg =
-    let A = line-numbers c.fit_blocks-line_a.ensures c.in-Line.is c.known_told-1.given.0.1 c.known_told-1.given.1.0.1 in
-    let B = line-numbers c.fit_blocks-line_b.ensures c.in-Line-line_b.is c.known_told-in-Line-line_b-1.given.0.1 c.known_told-in-Line-line_b-1.given.1.0.1 in
-    let C = line-numbers c.fit_blocks-line_c.ensures c.in-Line-line_c.is c.known_told-in-Line-line_c-1.given.0.1 c.known_told-in-Line-line_c-1.given.1.0.1 in
-    let D = line-numbers c.fit_blocks-line_d.ensures c.in-Line-line_d.is c.known_told-in-Line-line_d-1.given.0.1 c.known_told-in-Line-line_d-1.given.1.0.1 in
+    let frefsv : SFits w64 c.in-Line.refsv = search rules in
+    let fsrsv : SFits w64 c.in-Line.srsv = search rules in
+    let frefsys : SFits w64 c.in-Line-line_b.refsys = search rules in
+    let fsrsys : SFits w64 c.in-Line-line_b.srsys = search rules in
+    let fmdtr : SFits w64 c.in-Line-line_c.mdtr = search rules in
+    let fsmdt : SFits w64 c.in-Line-line_c.smdt = search rules in
+    let fmdio : SFits w64 c.in-Line-line_d.mdio = search rules in
+    let fsmdi : SFits w64 c.in-Line-line_d.smdi = search rules in
+    let A = line-numbers c.fit_blocks-line_a.ensures c.in-Line.is frefsv.sfits fsrsv.sfits in
+    let B = line-numbers c.fit_blocks-line_b.ensures c.in-Line-line_b.is frefsys.sfits fsrsys.sfits in
+    let C = line-numbers c.fit_blocks-line_c.ensures c.in-Line-line_c.is fmdtr.sfits fsmdt.sfits in
+    let D = line-numbers c.fit_blocks-line_d.ensures c.in-Line-line_d.is fmdio.sfits fsmdi.sfits in
     let n : to_z w64 (15 * c.args.n) ≡ pos (15 * c.args.n) = plain-is (count-read (seconds (goal.at.In-Line-line_d c).Start)) tt in
     λ z. record {
       refsv = A.0 z;
@@ -102,58 +111,53 @@ sigma c = c.scatter_blocks-answer.ensures.0
 sigma-is : (c : In-Sigma)
     → let d = (t (goal.at.In-Sigma c).Start).numbers.dsg in (dsg_number d ≡ 0) × (c.in-Sigma.dsg ≡ d)
 sigma-is c =
-    let d = (t (c)).numbers.dsg in
+    let d = (t (goal.at.In-Sigma c).Start).numbers.dsg in
     reply-values (pos 0) d (dsg_number d) (sym (ap scatter_reply c.in-Sigma.is) ∙ sigma (goal.at.In-Sigma c).After-scatter_blocks-answer)
 
 ten-are : (c : In-Sigma) → put (goal.at.In-Sigma c).In-Line-line_d (to_z w64 (of_z w64 c.in-Sigma.dsg)) ≡ (t (goal.at.In-Sigma c).Start).numbers
 unfolding record_of numbers_with
 ten-are c =
+    let fits : SFits w64 c.in-Sigma.dsg = search rules in
     numbers-are (goal.at.In-Sigma c).In-Line-line_d (to_z w64 (of_z w64 c.in-Sigma.dsg))
-    ∙ ap (λ (d : ℤ). numbers_with d c.args.n c.args.a.now c.args.b.now c.args.c.now c.args.d.now) (back-of c.known_told-in-Sigma-1.given.0.1 ∙ (sigma-is c).1)
+    ∙ ap (λ (d : ℤ). numbers_with d c.args.n c.args.a.now c.args.b.now c.args.c.now c.args.d.now) (to_z-of_z fits ∙ (sigma-is c).1)
 
 pub fit_blocks-line_a-requires : goal.fit_blocks-line_a-requires
-fit_blocks-line_a-requires c = (c.requires.le_n.0, c.requires.le_n.1, c.requires.a_len.0, c.requires.a_value.0)
+fit_blocks-line_a-requires c = (c.requires.few_blocks.0, c.requires.few_blocks.1, c.requires.lengths.0, c.requires.inside.0)
 
 pub returns-in_default : goal.returns-in_default
 returns-in_default c = absurd (fit-never c.fit_blocks-line_a.ensures c.in_default.is)
 
 pub fit_blocks-line_b-requires : goal.fit_blocks-line_b-requires
-fit_blocks-line_b-requires c = (c.requires.le_n.0, c.requires.le_n.1, c.requires.a_len.1, c.requires.a_value.1)
+fit_blocks-line_b-requires c = (c.requires.few_blocks.0, c.requires.few_blocks.1, c.requires.lengths.1, c.requires.inside.1)
 
 pub returns-in_default-line_b : goal.returns-in_default-line_b
 returns-in_default-line_b c = absurd (fit-never c.fit_blocks-line_b.ensures c.in_default-line_b.is)
 
 pub fit_blocks-line_c-requires : goal.fit_blocks-line_c-requires
-fit_blocks-line_c-requires c = (c.requires.le_n.0, c.requires.le_n.1, c.requires.a_len.2, c.requires.a_value.2)
+fit_blocks-line_c-requires c = (c.requires.few_blocks.0, c.requires.few_blocks.1, c.requires.lengths.2, c.requires.inside.2)
 
 pub returns-in_default-line_c : goal.returns-in_default-line_c
 returns-in_default-line_c c = absurd (fit-never c.fit_blocks-line_c.ensures c.in_default-line_c.is)
 
 pub fit_blocks-line_d-requires : goal.fit_blocks-line_d-requires
-fit_blocks-line_d-requires c = (c.requires.le_n.0, c.requires.le_n.1, c.requires.a_len.3, c.requires.a_value.3)
+fit_blocks-line_d-requires c = (c.requires.few_blocks.0, c.requires.few_blocks.1, c.requires.lengths.3, c.requires.inside.3)
 
 pub returns-in_default-line_d : goal.returns-in_default-line_d
 returns-in_default-line_d c = absurd (fit-never c.fit_blocks-line_d.ensures c.in_default-line_d.is)
 
-pub overflow_mul-numbers : goal.overflow_mul-numbers
-overflow_mul-numbers c = record { fits = omega (arith, seconds (goal.at.overflow_mul-numbers c).Start) }
-
-pub overflow_cast-numbers : goal.overflow_cast-numbers
-overflow_cast-numbers c = fits (count (seconds (goal.at.overflow_cast-numbers c).Start)) tt
-
 pub returns-then-refusal-ne0 : goal.returns-then-refusal-ne0
 returns-then-refusal-ne0 c =
     let h : 0 < c.limits-refusal.result = omega (arith, c.if-refusal-ne0.true) in
-    refuse (t (c)) c.limits-refusal.result h (from-limits (goal.at.returns-then-refusal-ne0 c).After-limits-refusal h)
+    refuse (t (goal.at.returns-then-refusal-ne0 c).Start) c.limits-refusal.result h (from-limits (goal.at.returns-then-refusal-ne0 c).After-limits-refusal h)
 
 pub scatter_blocks-answer-requires : goal.scatter_blocks-answer-requires
 scatter_blocks-answer-requires c =
-    (c.requires.le_n.0, c.requires.le_n.1, c.requires.a_len.1, c.requires.a_value.1)
+    (c.requires.few_blocks.0, c.requires.few_blocks.1, c.requires.lengths.1, c.requires.inside.1)
 
 pub returns-in_default-answer : goal.returns-in_default-answer
 returns-in_default-answer c =
     let some : 0 < c.scattered_number.result = rw (c.scattered_number.ensures ∙ ap (λ (r : Scattered). (scatter_reply r).number) c.in_default-answer.is) (subst ScatterNumbered c.in_default-answer.is c.scatter_blocks-answer.ensures.1) in
-    refuse (t (c)) c.scattered_number.result some
+    refuse (t (goal.at.returns-in_default-answer c).Start) c.scattered_number.result some
     (from-scatter (goal.at.returns-in_default-answer c).Else-refusal-ne0 ∙ sym (c.scattered_number.ensures ∙ ap (λ (r : Reply ℤ). r.number) (sigma (goal.at.returns-in_default-answer c).After-scatter_blocks-answer) ∙ reply-number _ _ _))
 
 pub returns : goal.returns

@@ -1,7 +1,6 @@
 -- `labels::ranges::labels_fit` meets its contract: the tests are those of the definition, each call by its own contract.
 -- Assumes nothing.
 use Rattle.labels.specs.Labels.{labels_fit_lem}
-use borrow.Author.Rules.{rules}
 use Rattle.labels.proofs.ranges.labels_fit.Goals as goal
 
 pub returns : goal.returns

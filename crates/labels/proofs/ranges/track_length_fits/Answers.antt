@@ -1,7 +1,6 @@
 -- `labels::ranges::track_length_fits` meets its contract: the blocks are judged by their seconds.
 -- Assumes nothing.
 use mir.Facts.{to_z-of_z}
-use borrow.Author.Rules.{rules}
 use Rattle.labels.proofs.Lengths.{by-seconds}
 use Rattle.labels.proofs.ranges.track_length_fits.Goals as goal
 

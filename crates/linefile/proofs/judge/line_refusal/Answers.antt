@@ -9,7 +9,6 @@ use Rattle.reading.proofs.Readings.{accepted-case, refused-case, refused-number}
 use Rattle.linefile.specs.Files.{columns_of}
 use Rattle.linefile.proofs.Judging.{refused-line, read-line}
 use Rattle.columns.specs.Text.{line_length}
-use borrow.Author.Rules.{rules}
 use Rattle.linefile.proofs.judge.line_refusal.Goals as goal
 
 pub slice_bounds-read-end : goal.slice_bounds-read-end

@@ -3,7 +3,6 @@
 use mathlib.Core.Path.{ap, ◌∙◌}
 use Rattle.linefile.specs.Walk.{rank}
 use Rattle.linefile.proofs.Lines.{line-part}
-use borrow.Author.Rules.{rules}
 use Rattle.linefile.proofs.rank.rank_at.Goals as goal
 
 pub returns : goal.returns

@@ -3,7 +3,7 @@
 use mathlib.Core.Path.{◌≡◌, refl, sym, ap, ◌∙◌}
 use mathlib.Core.Bool.{Bool, true, not, ◌&&◌, and-true, and_assoc}
 use mathlib.Core.List.{List, []}
-use Prim.Native.Nat.{ℕ, ◌+◌, ◌-◌, ◌≤◌, ◌<◌}
+use Prim.Native.Nat.{ℕ, ◌+◌, ◌≤◌, ◌<◌}
 use native.Mathlib.Numerals.{add-one}
 use native.Mathlib.Omega.{arith}
 use lib.Dec.{eqb}
@@ -11,7 +11,6 @@ use lib.ListN.{length, drop, get_or, drop_of_length-le}
 use lib.Seq.{drop-cons}
 use Rattle.linefile.proofs.Keys.{same_refl}
 use borrow.Author.Rules.{rules}
-use Rattle.columns.specs.Text.{ended_length}
 use Rattle.linefile.specs.Files.{same}
 use Rattle.merging.proofs.walk.differ.Goals.{After-loop-i}
 use Rattle.merging.proofs.walk.differ.Goals as goal
@@ -29,13 +28,12 @@ pub loop-i-init : goal.loop-i-init
 loop-i-init c = (search rules, refl)
 
 pub loop-i-preserved : goal.loop-i-preserved
-loop-i-preserved c =
-    (
-      search rules,
-      c.loop-i.invariant.1
-          ∙ ap (λ (b : Bool). c.loop-i.equal && b) (turn c.args.line.now c.args.other.now c.loop-i.i (omega arith) (omega arith))
-          ∙ sym (and_assoc c.loop-i.equal (eqb (get_or c.args.line.now c.loop-i.i 0) (get_or c.args.other.now c.loop-i.i 0)) (same (drop (c.loop-i.i + 1) c.args.line.now) (drop (c.loop-i.i + 1) c.args.other.now))),
-    )
+loop-i-preserved c = (
+  search rules,
+  c.loop-i.invariant.1
+      ∙ ap (λ (b : Bool). c.loop-i.equal && b) (turn c.args.line.now c.args.other.now c.loop-i.i (omega arith) (omega arith))
+      ∙ sym (and_assoc c.loop-i.equal (eqb (get_or c.args.line.now c.loop-i.i 0) (get_or c.args.other.now c.loop-i.i 0)) (same (drop (c.loop-i.i + 1) c.args.line.now) (drop (c.loop-i.i + 1) c.args.other.now))),
+)
 
 -- all bytes have been compared
 compared : (c : After-loop-i)

@@ -1,15 +1,11 @@
 -- `merging::walk::measure` meets its contract: what is left to merge is what is left of the two files.
 -- Assumes nothing.
-use mathlib.Core.Path.{◌≡◌, refl, sym}
-use mathlib.Core.Bool.{◌||◌}
-use Prim.Native.Nat.{◌+◌, ◌-◌, ◌/◌, ◌≤◌, ◌<◌}
+use mathlib.Core.Path.{refl, sym}
+use Prim.Native.Nat.{◌/◌, ◌<◌}
 use native.Mathlib.Omega.{arith}
-use lib.ListN.{length, drop}
-use borrow.Author.Rules.{rules}
+use lib.ListN.{length}
 use Rattle.columns.specs.Text.{ended_length}
 use Rattle.linefile.specs.Files.{lines}
-use Rattle.linefile.specs.Partners.{partners}
-use Rattle.merging.specs.Merge.{any_differ, merged}
 use Rattle.linefile.proofs.Lines.{length-lines, line-file, lines_left}
 use Rattle.merging.proofs.Walking.{Walked, walked, found-more, count-more, end-length, end-differ, length_merged}
 use native.Mathlib.Nat.{zero-add}
@@ -33,7 +29,11 @@ next c =
     walked c.args.first.now c.args.second.now c.requires.first_value c.requires.second_value _ _ t.0 t.1 c.step-next.ensures
 
 pub partners_differ-found-requires : goal.partners_differ-found-requires
-partners_differ-found-requires c = turn (goal.at.partners_differ-found-requires c).In-loop-m
+partners_differ-found-requires c =
+    let t = turn (goal.at.partners_differ-found-requires c).In-loop-m in record {
+      m_in_bounds = t.0;
+      n_in_bounds = t.1;
+    }
 
 pub overflow_add-count : goal.overflow_add-count
 overflow_add-count c = let t = turn (goal.at.overflow_add-count c).In-loop-m in omega arith

@@ -1,18 +1,12 @@
 -- `merging::walk::measure` meets its contract: what is left to merge is what is left of the two files.
 -- Assumes nothing.
-use mathlib.Core.Path.{◌≡◌, refl, sym}
+use mathlib.Core.Path.{◌≡◌}
 use mathlib.Core.Bool.{◌||◌}
-use Prim.Native.Nat.{◌+◌, ◌-◌, ◌/◌, ◌≤◌, ◌<◌}
-use native.Mathlib.Omega.{arith}
+use Prim.Native.Nat.{◌+◌, ◌-◌, ◌≤◌}
 use lib.ListN.{length, drop}
-use borrow.Author.Rules.{rules}
-use Rattle.columns.specs.Text.{ended_length}
 use Rattle.linefile.specs.Files.{lines}
 use Rattle.linefile.specs.Partners.{partners}
 use Rattle.merging.specs.Merge.{any_differ, merged}
-use Rattle.linefile.proofs.Lines.{length-lines, line-file, lines_left}
-use Rattle.merging.proofs.Walking.{Walked, walked, found-more, count-more, end-length, end-differ, length_merged}
-use native.Mathlib.Nat.{zero-add}
 use Rattle.merging.proofs.walk.measure.Given as goal
 
 abbrev pub invariant-loop-m : goal.invariant-loop-m

@@ -6,7 +6,6 @@ use mathlib.Core.List.{List}
 use Prim.Native.Nat.{ℕ}
 use Rattle.linefile.specs.Files.{same, line_at}
 use Rattle.linefile.proofs.Lines.{line-part}
-use borrow.Author.Rules.{rules}
 use Rattle.merging.proofs.walk.partners_differ.Goals as goal
 
 pub returns-then-level : goal.returns-then-level

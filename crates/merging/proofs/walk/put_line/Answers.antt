@@ -12,7 +12,6 @@ use Rattle.lent.proofs.Placing.{within}
 use Rattle.columns.specs.Text.{ended_length}
 use Rattle.linefile.specs.Files.{line_at}
 use Rattle.linefile.proofs.Lines.{line-part}
-use borrow.Author.Rules.{rules}
 use Rattle.merging.proofs.walk.put_line.Goals as goal
 
 -- a line of a file fits into its place

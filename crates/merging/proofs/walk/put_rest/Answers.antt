@@ -7,7 +7,6 @@ use Rattle.lent.specs.Placed.{placed_within}
 use Rattle.limits.proofs.Parts.{rest_part}
 use Rattle.lent.proofs.Placing.{within}
 use Rattle.columns.specs.Text.{ended_length}
-use borrow.Author.Rules.{rules}
 use Rattle.merging.proofs.walk.put_rest.Goals as goal
 
 pub returns : goal.returns

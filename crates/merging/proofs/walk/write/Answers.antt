@@ -6,10 +6,9 @@ use native.Mathlib.Omega.{arith}
 use mathlib.Core.List.{◌++◌}
 use lib.ListN.{length, drop, length-append, length-drop}
 use Rattle.lent.specs.Placed.{placed}
-use borrow.Author.Rules.{rules}
 use Rattle.columns.specs.Text.{ended_length}
-use Rattle.linefile.specs.Files.{lines, joined}
-use Rattle.merging.specs.Merge.{merged, merged_file}
+use Rattle.linefile.specs.Files.{lines}
+use Rattle.merging.specs.Merge.{merged_file}
 use Rattle.linefile.proofs.Lines.{length-lines, lines_long, line-file, lines_left}
 use Rattle.lent.proofs.Written.{Written, nothing_written, room, more-written, rests-written}
 use Rattle.merging.proofs.Walking.{Walked, walked, line-room, line-written, end-text}
@@ -34,8 +33,7 @@ place : (c : After-step-next)
     → (ended_length * (c.loop-m.k + 1) ≤ length c.loop-m.file)
     × (length c.loop-m.file ≡ length c.args.file.now)
 place c =
-    let t = turn (goal.at.After-step-next c).In-loop-m in
-    (
+    let t = turn (goal.at.After-step-next c).In-loop-m in (
       line-room (lines c.args.first.now) (lines c.args.second.now) c.loop-m.m c.loop-m.n _ (next c) (lines_long c.args.first.now) (lines_long c.args.second.now) (rw (length-lines c.args.first.now) t.0) (rw (length-lines c.args.second.now) t.1) c.loop-m.k c.requires.second_in_bounds c.loop-m.invariant.2,
       (room c.requires.second_in_bounds c.loop-m.invariant.2).1,
     )
@@ -54,7 +52,7 @@ put_line-requires c =
 
 pub overflow_add-k : goal.overflow_add-k
 overflow_add-k c =
-    omega (arith, place (goal.at.overflow_add-k c).After-step-next, c.well-formed)
+    omega (arith, place (goal.at.overflow_add-k c).After-step-next, c.well_formed)
 
 pub loop-m-smaller : goal.loop-m-smaller
 loop-m-smaller c =
@@ -76,7 +74,7 @@ rests : (c : After-loop-m)
     → Written (merged_file c.args.first.now c.args.second.now) c.args.file.now c.loop-m.file (ended_length * c.loop-m.k)
     (drop (ended_length * c.loop-m.m) c.args.first.now ++ drop (ended_length * c.loop-m.n) c.args.second.now)
 rests c =
-    let c.loop-m = c.loop-m in
+    let l = c.loop-m in
     subst
     (Written (merged_file c.args.first.now c.args.second.now) c.args.file.now l.file (ended_length * l.k))
     (end-text c.args.first.now c.args.second.now (line-file c.args.first.now c.requires.first_value) (line-file c.args.second.now c.requires.second_value) l.m l.n c.loop-m-test.false)
@@ -101,9 +99,9 @@ places c =
 
 pub put_rest-requires : goal.put_rest-requires
 put_rest-requires c = record {
-      i_in_bounds = omega (arith, c.loop-m.invariant.0, (line-file c.args.first.now c.requires.first_value).whole);
-      source_in_bounds = (places (goal.at.put_rest-requires c).After-loop-m).ranges;
-    }
+  i_in_bounds = omega (arith, c.loop-m.invariant.0, (line-file c.args.first.now c.requires.first_value).whole);
+  source_in_bounds = (places (goal.at.put_rest-requires c).After-loop-m).fits;
+}
 
 pub overflow_sub-a : goal.overflow_sub-a
 overflow_sub-a c = c.loop-m.invariant.0
@@ -111,7 +109,7 @@ overflow_sub-a c = c.loop-m.invariant.0
 pub overflow_add-k-2 : goal.overflow_add-k-2
 overflow_add-k-2 c =
     let p = places (goal.at.overflow_add-k-2 c).After-loop-m in
-    omega (arith, p.same, p.fits, p.after, c.well-formed)
+    omega (arith, p.same, p.fits, p.after, c.well_formed)
 
 pub put_rest-requires-2 : goal.put_rest-requires-2
 put_rest-requires-2 c =
@@ -121,12 +119,8 @@ put_rest-requires-2 c =
       source_in_bounds = omega (arith, r.0, (places (goal.at.put_rest-requires-2 c).After-loop-m).after);
     }
 
-pub shape_of-file : goal.shape_of-file
-shape_of-file c =
-    c.put_rest-2.auto.1.1.0 ∙ c.put_rest.auto.1.1.0 ∙ (places (goal.at.shape_of-file c).After-loop-m).same
-
 pub returns : goal.returns
 returns c =
     let second = drop (ended_length * c.loop-m.n) c.args.second.now in
     rests-written (drop (ended_length * c.loop-m.m) c.args.first.now) second c.requires.second_in_bounds (rests (goal.at.returns c).After-loop-m) c.put_rest.ensures
-    (c.put_rest-2.ensures ∙ ap (λ (k : ℕ). placed c.put_rest.new.1.1.0 k second) (places (goal.at.returns c).After-loop-m).after)
+    (c.put_rest-2.ensures ∙ ap (λ (k : ℕ). placed c.put_rest.new.file k second) (places (goal.at.returns c).After-loop-m).after)

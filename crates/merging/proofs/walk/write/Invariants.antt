@@ -1,18 +1,11 @@
 -- `merging::walk::write` meets its contract: what is left to write is what is left of the two files.
 -- Assumes nothing.
-use mathlib.Core.Path.{◌≡◌, ap, subst, ◌∙◌}
-use Prim.Native.Nat.{ℕ, ◌+◌, ◌-◌, ◌*◌, ◌/◌, ◌≤◌, ◌<◌}
-use native.Mathlib.Omega.{arith}
-use mathlib.Core.List.{◌++◌}
-use lib.ListN.{length, drop, length-append, length-drop}
-use Rattle.lent.specs.Placed.{placed}
-use borrow.Author.Rules.{rules}
+use Prim.Native.Nat.{◌+◌, ◌-◌, ◌*◌, ◌≤◌}
+use lib.ListN.{drop}
 use Rattle.columns.specs.Text.{ended_length}
 use Rattle.linefile.specs.Files.{lines, joined}
 use Rattle.merging.specs.Merge.{merged, merged_file}
-use Rattle.linefile.proofs.Lines.{length-lines, lines_long, line-file, lines_left}
-use Rattle.lent.proofs.Written.{Written, nothing_written, room, more-written, rests-written}
-use Rattle.merging.proofs.Walking.{Walked, walked, line-room, line-written, end-text}
+use Rattle.lent.proofs.Written.{Written}
 use Rattle.merging.proofs.walk.write.Given as goal
 
 abbrev pub invariant-loop-m : goal.invariant-loop-m

@@ -1,10 +1,9 @@
 -- `path::coordinate::apart` meets its contract: both are read back from their bits, the difference fits, and its magnitude is at most 10^11.
 -- Assumes nothing.
-use mathlib.Core.Path.{◌≡◌, sym, ap, ap₂, ◌∙◌, subst}
+use mathlib.Core.Path.{◌≡◌, sym, ap, ◌∙◌, subst}
 use Prim.Native.Nat.{ℕ, ◌≤◌}
 use lib.Dec.{lit<}
-use lib.IntN.{ℤ, nat_abs, ◌-ℤ◌}
-use borrow.Author.Rules.{rules}
+use lib.IntN.{nat_abs, ◌-ℤ◌}
 use mir.Syntax.{w64}
 use mir.Val.{to_z, of_z}
 use mir.Facts.{to_z-of_z}
@@ -27,8 +26,8 @@ module _ (c : After-millimetres-2) where
   first : to_z w64 (of_z w64 c.millimetres.result) ≡ millimetres c.args.x
   first = limited c.args.x c.requires.1 c.millimetres.ensures
 
-  second : to_z w64 (of_z w64 c.millimetres2.result) ≡ millimetres c.args.y
-  second = limited c.args.y c.requires.3 c.millimetres2.ensures
+  second : to_z w64 (of_z w64 c.millimetres-2.result) ≡ millimetres c.args.y
+  second = limited c.args.y c.requires.3 c.millimetres-2.ensures
 
   small : difference c.args.x c.args.y ≤ difference_limit
   small = difference-bound c.args.x c.args.y c.requires.1 c.requires.3
@@ -46,6 +45,6 @@ overflow_sub-millimetres c = simp (first c, second c) (fits-of (small c) (lit< t
 pub returns : goal.returns
 unfolding difference
 returns c =
-    let e : c.magnitude.result ≡ difference c.args.x c.args.y =
-    c.magnitude.ensures ∙ ap nat_abs (taken (goal.at.returns c).After-millimetres-2) in
-    (e, subst (λ (k : ℕ). k ≤ difference_limit) (sym e) (small c))
+    let m = (goal.at.returns c).After-millimetres-2 in
+    let e : c.magnitude.result ≡ difference c.args.x c.args.y = c.magnitude.ensures ∙ ap nat_abs (taken m) in
+    (e, subst (λ (k : ℕ). k ≤ difference_limit) (sym e) (small m))

@@ -17,4 +17,4 @@ returns-then-x c =
 pub returns : goal.returns
 unfolding of_bits neg div
 returns c =
-    far-whole c.args.x (subst T (sym c.well-formed.0.1) tt) (sym (range-is 1 52 (omega arith) c.args.x) ∙ c.if-x.false)
+    far-whole c.args.x (subst T (sym c.well_formed.0.1) tt) (sym (range-is 1 52 (omega arith) c.args.x) ∙ c.if-x.false)

@@ -1,6 +1,5 @@
 -- `path::coordinate::millimetres` meets its contract: zero of either sign is 0, and the cast is that of any other coordinate that is not refused.
 -- Assumes nothing.
-use mathlib.Core.Path.{◌≡◌, ◌∙◌}
 use native.Mathlib.Omega.{arith}
 use lib.Dec.{lit<}
 use lib.IntN.{pos}

@@ -1,8 +1,6 @@
 -- `path::root::estimate` is safe and ends. Nothing is said of its result.
 -- Assumes nothing.
-use Prim.Native.Nat.{◌-◌, ◌≤◌}
 use native.Mathlib.Omega.{arith}
-use borrow.Author.Rules.{rules}
 use Rattle.path.proofs.root.estimate.Goals as goal
 
 pub loop-init : goal.loop-init

@@ -5,13 +5,12 @@ use native.Mathlib.Omega.{arith}
 use lib.Dec.{T}
 use lib.Ieee.{binary64, fits}
 use lib.Ieee.Bits.{to_bits-lt}
-use borrow.Author.Rules.{rules}
 use Rattle.path.proofs.Patterns.{no-nan-above, low-pattern}
 use Rattle.path.proofs.root.guess.Goals.{Start}
 use Rattle.path.proofs.root.guess.Goals as goal
 
 held : (c : Start) → T (fits binary64 c.args.n)
-held c = subst T (sym c.well-formed.0.1) tt
+held c = subst T (sym c.well_formed.0.1) tt
 
 pub float_to_bits-half : goal.float_to_bits-half
 float_to_bits-half c = no-nan-above _ c.args.n c.if-n.true

@@ -1,10 +1,10 @@
 -- `path::root::halved` meets its contract: low's square is not above the number, that of the number behind high is, and they come together.
 -- Assumes nothing.
 use mathlib.Core.Path.{◌≡◌, sym, subst, ◌∙◌}
-use Prim.Native.Nat.{ℕ, suc, ◌+◌, ◌*◌, ◌-◌, ◌/◌, ◌≤◌, ◌<◌}
+use Prim.Native.Nat.{ℕ, suc, ◌+◌, ◌*◌, ◌/◌, ◌<◌}
 use native.Mathlib.Omega.{arith}
 use borrow.Author.Tests.{leb-true, leb-false}
-use Rattle.path.specs.Wide.{radix, wide_value, factor_limit}
+use Rattle.path.specs.Wide.{wide_value}
 use Rattle.path.proofs.Roots.{square-lt, root-only}
 use Rattle.path.proofs.root.halved.Goals as goal
 

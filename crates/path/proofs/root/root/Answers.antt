@@ -2,7 +2,6 @@
 -- Assumes nothing.
 use native.Mathlib.Omega.{arith}
 use Prim.Native.Nat.{suc, ◌<◌}
-use borrow.Author.Rules.{rules}
 use Rattle.path.specs.Wide.{Between}
 use Rattle.path.specs.declared.wide.Wide.{Wide}
 use Rattle.path.specs.declared.root.Bounds.{Bounds}

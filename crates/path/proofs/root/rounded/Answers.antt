@@ -1,6 +1,5 @@
 -- `path::root::rounded` is safe: what is no number has no bits taken. Nothing is said of its result.
 -- Assumes nothing.
-use borrow.Author.Rules.{rules}
 use Rattle.path.proofs.Patterns.{no-nan-above}
 use Rattle.path.proofs.root.rounded.Goals as goal
 

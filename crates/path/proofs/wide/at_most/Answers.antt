@@ -1,9 +1,8 @@
 -- `path::wide::at_most` meets its contract: the words of the product are compared with the number's.
 -- Assumes nothing.
-use mathlib.Core.Path.{◌≡◌, ap, ◌∙◌}
+use mathlib.Core.Path.{ap, ◌∙◌}
 use Prim.Native.Nat.{ℕ}
 use lib.Dec.{leb}
-use borrow.Author.Rules.{rules}
 use Rattle.path.specs.Wide.{wide_value}
 use Rattle.path.proofs.Products.{compared}
 use Rattle.path.proofs.wide.at_most.Goals as goal

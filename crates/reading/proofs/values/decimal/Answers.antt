@@ -2,10 +2,8 @@
 -- Assumes nothing.
 use mathlib.Core.Path.{ap, ◌∙◌}
 use Rattle.fields.specs.Read.{read_decimal}
-use Rattle.reading.specs.Fields.{digits}
 use Rattle.columns.proofs.Widths.{field_is}
 use Rattle.reading.proofs.Columns.{within-line, field-length, field-digits}
-use borrow.Author.Rules.{rules}
 use Rattle.reading.proofs.values.decimal.Goals as goal
 
 pub slice_bounds-digits-end : goal.slice_bounds-digits-end

@@ -3,7 +3,6 @@
 use native.Mathlib.Omega.{arith}
 use lib.Dec.{lit≤}
 use Rattle.reading.proofs.Columns.{at_most, field_bound}
-use borrow.Author.Rules.{rules}
 use Rattle.reading.proofs.values.decimal16.Goals as goal
 
 pub decimal-requires : goal.decimal-requires

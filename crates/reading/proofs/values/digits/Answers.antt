@@ -1,9 +1,9 @@
 -- `reading::values::digits` meets its contract: what was read so far, with the digits left behind it, is the number of all.
 -- Assumes nothing.
-use mathlib.Core.Path.{◌≡◌, refl, sym, ap, ◌∙◌}
-use Prim.Native.Nat.{◌-◌, ◌^◌, ◌≤◌, ◌<◌}
+use mathlib.Core.Path.{refl, sym, ap, ◌∙◌}
+use Prim.Native.Nat.{◌^◌, ◌≤◌, ◌<◌}
 use native.Mathlib.Omega.{arith}
-use lib.ListN.{length, drop, get_or, drop_of_length-le}
+use lib.ListN.{length, get_or, drop_of_length-le}
 use borrow.Author.Rules.{rules}
 use Rattle.fields.specs.Read.{digits_from, read_decimal}
 use Rattle.fields.proofs.Decimals.{room, value-turn, after_turn}
@@ -38,12 +38,11 @@ pub overflow_add-value : goal.overflow_add-value
 overflow_add-value c = omega (arith, digit c, small (goal.at.overflow_add-value c).In-loop-i)
 
 pub loop-i-preserved : goal.loop-i-preserved
-loop-i-preserved c =
-    (
-      search rules,
-      sym (after_turn c.args.text.now c.loop-i.i c.loop-i.value (search rules)) ∙ c.loop-i.invariant.1,
-      value-turn c.loop-i.i c.loop-i.value (get_or c.args.text.now c.loop-i.i 0) c.loop-i.invariant.2 (digit c),
-    )
+loop-i-preserved c = (
+  search rules,
+  sym (after_turn c.args.text.now c.loop-i.i c.loop-i.value (search rules)) ∙ c.loop-i.invariant.1,
+  value-turn c.loop-i.i c.loop-i.value (get_or c.args.text.now c.loop-i.i 0) c.loop-i.invariant.2 (digit c),
+)
 
 pub returns : goal.returns
 unfolding digits_from

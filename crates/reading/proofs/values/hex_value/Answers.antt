@@ -3,7 +3,6 @@
 use mathlib.Core.Path.{sym}
 use Rattle.fields.proofs.Hexadecimals.{hex-least, letter-value, figure-value}
 use Rattle.characters.proofs.Allowed.{hex-range}
-use borrow.Author.Rules.{rules}
 use Rattle.reading.proofs.values.hex_value.Goals as goal
 
 pub overflow_sub-result-else-b-ge65 : goal.overflow_sub-result-else-b-ge65

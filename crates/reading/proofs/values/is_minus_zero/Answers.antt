@@ -7,7 +7,6 @@ use lib.Dec.{eqb}
 use lib.IntN.{nat_abs}
 use mir.Facts.{to_z-of_z}
 use Rattle.reading.specs.Read.{is_minus_zero_lem}
-use borrow.Author.Rules.{rules}
 use Rattle.reading.proofs.values.is_minus_zero.Goals as goal
 
 pub returns : goal.returns

@@ -4,7 +4,6 @@ use mathlib.Core.Path.{refl, ◌∙◌}
 use lib.Dec.{lit≤}
 use Rattle.columns.specs.Columns.{labels_with_lem, read_labels}
 use Rattle.reading.proofs.Columns.{Columns, columns_of_lem, at_most}
-use borrow.Author.Rules.{rules}
 use Rattle.reading.proofs.values.labels_with.Goals.{Start}
 use Rattle.reading.proofs.values.labels_with.Goals as goal
 
@@ -34,16 +33,16 @@ unfolding labels_with_lem read_labels
 returns c =
     λ i. record {
       constellation = c.args.constellation;
-      c = c.decimal8.ensures i;
+      satellite = c.decimal8.ensures i;
       cl = c.class.ensures i;
       fr = c.args.fr;
       hc = c.args.hc;
       frc1 = c.args.frc1;
       frc2 = c.args.frc2;
       frc3 = c.args.frc3;
-      c = c.decimal32.ensures i;
-      c = (c.start.ensures ∙ refl) i;
-      c = c.decimal16.ensures i;
-      c = c.decimal16-2.ensures i;
+      mjd = c.decimal32.ensures i;
+      start = (c.start.ensures ∙ refl) i;
+      elv = c.decimal16.ensures i;
+      azth = c.decimal16-2.ensures i;
       ioe = c.decimal16-3.ensures i;
     }

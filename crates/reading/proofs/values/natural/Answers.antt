@@ -6,7 +6,6 @@ use Prim.Native.Nat.{◌≤◌}
 use native.Mathlib.Omega.{arith}
 use Rattle.whole.proofs.Words.{count, count-read, fits, plain-is}
 use Rattle.reading.proofs.Columns.{field-most}
-use borrow.Author.Rules.{rules}
 use Rattle.reading.proofs.values.natural.Goals.{After-decimal}
 use Rattle.reading.proofs.values.natural.Goals as goal
 

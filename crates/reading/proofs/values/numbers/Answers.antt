@@ -45,14 +45,14 @@ pub returns : goal.returns
 unfolding read_numbers
 returns c =
     λ i. record {
-      c = (back-of c.signed.type-inv ∙ c.signed.ensures) i;
-      c = (back-of c.signed-2.type-inv ∙ c.signed-2.ensures) i;
-      c = (back-of c.signed-3.type-inv ∙ c.signed-3.ensures) i;
-      c = (back-of c.signed-4.type-inv ∙ c.signed-4.ensures) i;
-      c = (back-of c.natural.type-inv ∙ c.natural.ensures) i;
-      c = (back-of c.signed-5.type-inv ∙ c.signed-5.ensures) i;
-      c = (back-of c.natural-2.type-inv ∙ c.natural-2.ensures) i;
-      c = (back-of c.signed-6.type-inv ∙ c.signed-6.ensures) i;
-      c = (back-of c.natural-3.type-inv ∙ c.natural-3.ensures) i;
-      trkl = (back-of c.natural-4.type-inv ∙ c.natural-4.ensures) i;
+      refsv = (back-of c.signed.type_inv ∙ c.signed.ensures) i;
+      srsv = (back-of c.signed-2.type_inv ∙ c.signed-2.ensures) i;
+      refsys = (back-of c.signed-3.type_inv ∙ c.signed-3.ensures) i;
+      srsys = (back-of c.signed-4.type_inv ∙ c.signed-4.ensures) i;
+      mdtr = (back-of c.natural.type_inv ∙ c.natural.ensures) i;
+      smdt = (back-of c.signed-5.type_inv ∙ c.signed-5.ensures) i;
+      mdio = (back-of c.natural-2.type_inv ∙ c.natural-2.ensures) i;
+      smdi = (back-of c.signed-6.type_inv ∙ c.signed-6.ensures) i;
+      dsg = (back-of c.natural-3.type_inv ∙ c.natural-3.ensures) i;
+      trkl = (back-of c.natural-4.type_inv ∙ c.natural-4.ensures) i;
     }

@@ -7,7 +7,6 @@ use Rattle.whole.proofs.Words.{Word, count, equal, fits, plain-is, bounds}
 use Rattle.fields.specs.Read.{read_signed}
 use Rattle.fields.proofs.Signs.{minus-read, plus-read}
 use Rattle.reading.proofs.Columns.{within-line, field-most, signed-field}
-use borrow.Author.Rules.{rules}
 use Rattle.reading.proofs.values.signed.Goals.{After-natural-size}
 use Rattle.reading.proofs.values.signed.Goals as goal
 

@@ -1,6 +1,5 @@
 -- `series::number::floor` meets its contract: the quotient of the folded number is turned into the floor on either side of 0.
 -- Assumes nothing.
-use borrow.Author.Rules.{rules}
 use mathlib.Core.Bool.{true, false, true≢false}
 use mathlib.Core.Path.{◌≡◌, refl, sym, ap, ◌∙◌}
 use Prim.Native.Nat.{ℕ, ◌/◌, ◌-◌, ◌≤◌, ◌^◌}

@@ -1,6 +1,5 @@
 -- `series::number::nearest` meets its contract: half of d, rounded down, is below 2^31, so the sum fits.
 -- Assumes nothing.
-use borrow.Author.Rules.{rules}
 use mathlib.Core.Path.{◌≡◌, ap, ◌∙◌}
 use Prim.Native.Nat.{◌/◌, ◌-◌, ◌≤◌, ◌^◌}
 use native.Mathlib.Omega.{arith}
@@ -8,7 +7,7 @@ use lib.IntN.{ℤ, pos, ◌+ℤ◌}
 use lib.Signed.{shr_z}
 use mir.Syntax.{w64}
 use mir.Val.{to_z, of_z}
-use Rattle.whole.proofs.Words.{Word, known, count-read, back-of, fits, plain-is, bounds}
+use Rattle.whole.proofs.Words.{Word, known, count-read, fits, plain-is, bounds, back-of}
 use Rattle.whole.proofs.Rounding.{nearest-floor}
 use Rattle.series.proofs.number.nearest.Goals.{Start}
 use Rattle.series.proofs.number.nearest.Goals as goal
@@ -34,7 +33,7 @@ floor-requires c = c.requires.1
 
 pub returns : goal.returns
 returns c =
-    back-of c.floor.type-inv
+    back-of c.floor.type_inv
     ∙ c.floor.ensures
     ∙ ap (λ (z : ℤ). shr_z z c.args.d) (x-is (goal.at.returns c).Start)
     ∙ nearest-floor c.args.n c.args.d c.requires.1

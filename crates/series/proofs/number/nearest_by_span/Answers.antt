@@ -7,7 +7,7 @@ use native.Mathlib.Omega.{arith}
 use lib.IntN.{ℤ}
 use mir.Facts.{to_z-of_z}
 use Rattle.whole.specs.Nearest.{nearest}
-use Rattle.whole.proofs.Words.{Word, known, read, back-of, bound}
+use Rattle.whole.proofs.Words.{Word, known, read, bound, back-of}
 use Rattle.exact.specs.Corrected.{steps}
 use Rattle.series.proofs.Fitting.{span-bound, span-some}
 use Rattle.series.proofs.number.nearest_by_span.Goals.{Start}
@@ -24,7 +24,7 @@ nearest-requires c = (bound (read (numerator-word (goal.at.nearest-requires c).S
 
 pub returns-then-n-eq52 : goal.returns-then-n-eq52
 returns-then-n-eq52 c =
-    back-of c.nearest.type-inv
+    back-of c.nearest.type_inv
     ∙ c.nearest.ensures
     ∙ ap₂ (λ (z : ℤ) (n : ℕ). nearest z (c.args.s * (n * (n * n - 1)))) (to_z-of_z c.ranges.numerator) (sym c.if-n-eq52.true)
 
@@ -51,11 +51,10 @@ pub nearest-requires-2 : goal.nearest-requires-2
 nearest-requires-2 c = (
   bound (read (numerator-word (goal.at.nearest-requires-2 c).Start)) tt,
   one-le-mul c.requires.1 (span-some c.args.n c.requires.3),
-
 )
 
 pub returns : goal.returns
 returns c =
-    back-of c.nearest-2.type-inv
+    back-of c.nearest-2.type_inv
     ∙ c.nearest-2.ensures
     ∙ ap (λ (z : ℤ). nearest z (c.args.s * (c.args.n * (c.args.n * c.args.n - 1)))) (to_z-of_z c.ranges.numerator)

@@ -1,14 +1,10 @@
 -- `series::sums::dsg` meets its contract: low's threshold is reached, high's is not, and they come together.
 -- Assumes nothing.
-use mathlib.Core.Path.{◌≡◌, sym, subst}
-use Prim.Native.Nat.{ℕ, suc, ◌-◌, ◌≤◌, ◌<◌}
-use native.Mathlib.Omega.{arith}
-use lib.Dec.{lit<}
-use lib.IntN.{ℤ, pos}
-use Rattle.whole.proofs.Order.{◌⩽◌, ◌⋖◌, pos-le, pos-lt}
+use Prim.Native.Nat.{◌-◌, ◌≤◌, ◌<◌}
+use lib.IntN.{pos}
+use Rattle.whole.specs.Order.{◌⩽◌, ◌⋖◌}
 use Rattle.exact.specs.Corrected.{steps}
 use Rattle.series.specs.Scatter.{threshold}
-use Rattle.series.proofs.Thresholds.{cap-is, dsg-greatest, greatest-only}
 use Rattle.series.proofs.sums.dsg.Given as goal
 
 abbrev pub invariant-loop-low : goal.invariant-loop-low

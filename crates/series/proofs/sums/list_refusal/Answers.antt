@@ -1,6 +1,5 @@
 -- `series::sums::list_refusal` meets its contract: the row of tests is the rule's.
 -- Assumes nothing.
-use borrow.Author.Rules.{rules}
 use mathlib.Core.Bool.{Bool}
 use mathlib.Core.Path.{ap, ap₂, ◌∙◌}
 use lib.IntN.{ℤ}

@@ -19,14 +19,13 @@ use Rattle.series.proofs.sums.residual.Goals as goal
 -- what is known of the numbers and of n² - 1
 abbrev words : (c : Start)
     → Word c.args.value × Word c.args.place × Word c.args.total × Word c.args.moment × Word (to_z w64 (c.args.n * c.args.n - 1))
-words c =
-    (
-      known c.requires.within.0.within,
-      known c.requires.within.1.within,
-      known c.requires.within.2.within,
-      known c.requires.within.3.within,
-      count-read (square-bound c.args.n c.requires.le_n.1),
-    )
+words c = (
+  known c.requires.within.0.within,
+  known c.requires.within.1.within,
+  known c.requires.within.2.within,
+  known c.requires.within.3.within,
+  count-read (square-bound c.args.n c.requires.le_n.1),
+)
 
 -- what the line takes off, times n (n² - 1), and how large it can be
 abbrev taken : Start → ℤ

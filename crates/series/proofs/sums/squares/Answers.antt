@@ -3,15 +3,14 @@
 -- Assumes nothing.
 use borrow.Author.Rules.{rules}
 use mathlib.Core.Path.{◌≡◌, refl, ap, ◌∙◌}
-use Prim.Native.Nat.{ℕ, ◌*◌, ◌^◌, ◌-◌, ◌≤◌}
+use Prim.Native.Nat.{ℕ, ◌*◌, ◌-◌, ◌≤◌}
 use native.Mathlib.Nat.{le_antisymm, le_trans, mul-le-mul}
 use native.Mathlib.Omega.{arith}
 use lib.IntN.{ℤ, pos, nat_abs}
 use lib.ListN.{length}
 use Rattle.whole.specs.Sum.{sum}
-use Rattle.whole.specs.Square.{squared}
 use Rattle.whole.specs.Nearest.{nearest}
-use Rattle.whole.proofs.Words.{Word, known, count as count_of, equal, back-of, bound, plain-is, bounds}
+use Rattle.whole.proofs.Words.{Word, known, count as count_of, equal, bound, plain-is, bounds, back-of}
 use Rattle.whole.specs.Table.{at}
 use Rattle.series.specs.Fit.{value_limit}
 use Rattle.series.specs.Scatter.{residual, squares}
@@ -63,7 +62,7 @@ r-is c =
     let k = count (goal.at.After-magnitude-r c).Start in
     c.magnitude-r.ensures
     ∙ ap nat_abs
-    (back-of c.residual.type-inv
+    (back-of c.residual.type_inv
     ∙ c.residual.ensures
     ∙ ap (λ (z : ℤ). nearest z (k * (k * k - 1))) (plain-is (search bounds depth 12) tt))
 
@@ -106,13 +105,12 @@ overflow_add-q c =
     omega (arith, mul-le-mul c.if-r-gt100000000.false c.if-r-gt100000000.false, c.loop-j.invariant, most (goal.at.overflow_add-q c).Start)
 
 pub loop-j-preserved : goal.loop-j-preserved
-loop-j-preserved c =
-    (
-      search rules,
-      omega (arith, mul-le-mul c.if-r-gt100000000.false c.if-r-gt100000000.false, c.loop-j.invariant.1),
-      square-more (residual (count (goal.at.loop-j-preserved c).Start) (at c.args.values.now)) c.loop-j.q c.magnitude-r.result c.loop-j.j
-          c.loop-j.invariant.2 (r-is (goal.at.loop-j-preserved c).After-magnitude-r),
-    )
+loop-j-preserved c = (
+  search rules,
+  omega (arith, mul-le-mul c.if-r-gt100000000.false c.if-r-gt100000000.false, c.loop-j.invariant.1),
+  square-more (residual (count (goal.at.loop-j-preserved c).Start) (at c.args.values.now)) c.loop-j.q c.magnitude-r.result c.loop-j.j
+      c.loop-j.invariant.2 (r-is (goal.at.loop-j-preserved c).After-magnitude-r),
+)
 
 -- at the end q is the whole sum
 q-is : (c : After-loop-j) → c.loop-j.q ≡ nat_abs (squares (count (goal.at.After-loop-j c).Start) (at c.args.values.now))

@@ -2,7 +2,6 @@
 -- Assumes nothing.
 use mathlib.Core.Path.{refl, sym}
 use lib.Dec.{lit≤}
-use borrow.Author.Rules.{rules}
 use Rattle.series.proofs.sums.sums.Goals as goal
 
 pub sums_of-requires : goal.sums_of-requires

@@ -2,19 +2,20 @@
 -- Assumes nothing.
 use borrow.Author.Rules.{rules}
 use mathlib.Core.Path.{◌≡◌, refl, sym, ap, ◌∙◌, subst}
-use mathlib.Core.Bool.{true, false, true≢false}
+use mathlib.Core.Bool.{false, true≢false}
 use mathlib.Core.List.{List}
-use Prim.Native.Nat.{ℕ, ◌+◌, ◌*◌, ◌≤◌, ◌<◌, ◌-◌}
-use native.Mathlib.Nat.{le_antisymm, le_trans, le_of_lt}
+use Prim.Native.Nat.{ℕ, ◌≤◌, ◌-◌}
+use native.Mathlib.Nat.{le_antisymm, le_trans}
 use native.Mathlib.Numerals.{add-one}
 use native.Mathlib.Omega.{arith}
 use lib.IntN.{ℤ, pos, ◌-ℤ◌, ◌*ℤ◌}
 use lib.ListN.{length}
 use mir.Syntax.{w64}
-use mir.Val.{to_z, of_z}
+use mir.Val.{SFits, to_z, of_z}
+use mir.Facts.{to_z-of_z}
 use Rattle.whole.specs.Sum.{sum}
 use Rattle.whole.proofs.Sums.{sum-suc}
-use Rattle.whole.proofs.Words.{Word, known, count, count-read, equal, back-of, fits, bound, plain-is, bounds}
+use Rattle.whole.proofs.Words.{Word, known, count, count-read, equal, fits, bound, plain-is, bounds}
 use Rattle.whole.specs.Table.{at}
 use Rattle.limits.specs.Limits.{beyond}
 use Rattle.limits.specs.Lists.{any_beyond_lem}
@@ -29,10 +30,10 @@ few : (c : At-loop-j) → c.loop-j.j ≤ 52
 few c = le_trans c.loop-j.invariant.0 c.requires.2
 
 -- what is known of the two sums so far, and of a value that is inside
-abbrev total-word : (c : At-loop-j) → Word (to_z w64 c.loop-j.total)
+abbrev total-word : (c : At-loop-j) → Word (to_z w64 c.loop-j.total-bits)
 total-word c = equal c.loop-j.invariant.2 (known (total-so-far c.args.values.now c.loop-j.j (few c) c.loop-j.invariant.1))
 
-abbrev totals-word : (c : At-loop-j) → Word (to_z w64 c.loop-j.totals)
+abbrev totals-word : (c : At-loop-j) → Word (to_z w64 c.loop-j.totals-bits)
 totals-word c = equal c.loop-j.invariant.3 (known (totals-so-far c.args.values.now c.loop-j.j (few c) c.loop-j.invariant.1))
 
 -- the test says whether the value is outside
@@ -40,7 +41,8 @@ tested : (c : After-outside)
     → c.outside.result ≡ beyond value_limit (at c.args.values.now c.loop-j.j)
 tested c =
     let z = at c.args.values.now c.loop-j.j in
-    let e : to_z w64 (of_z w64 z) ≡ z = back-of c.value-1.given in
+    let fits : SFits w64 z = search rules in
+    let e : to_z w64 (of_z w64 z) ≡ z = to_z-of_z fits in
     c.outside.ensures ∙ ap (beyond value_limit) e
 
 passed : (c : Else-outside)
@@ -57,9 +59,9 @@ loop-j-init c = (search rules, λ i h. absurd (omega (arith, h)), refl, refl)
 
 pub returns-then-outside : goal.returns-then-outside
 returns-then-outside c = record {
-      outside_value = outside-found c.args.values.now c.loop-j.j (sym (tested (goal.at.returns-then-outside c).After-outside) ∙ c.if-outside.true);
-      total_value = λ e. absurd (true≢false e);
-    }
+  outside_value = outside-found c.args.values.now c.loop-j.j (sym (tested (goal.at.returns-then-outside c).After-outside) ∙ c.if-outside.true);
+  total_value = λ e. absurd (true≢false e);
+}
 
 pub loop-j-preserved : goal.loop-j-preserved
 loop-j-preserved c =
@@ -107,11 +109,11 @@ few-values : {n m : ℕ} → n ≡ m → n ≤ 52 → m ≤ 52
 few-values e h = omega arith
 
 moment-is : (c : After-loop-j)
-    → to_z w64 (of_z w64 (to_z w64 (of_z w64 (to_z w64 (c.args.n - 1) *ℤ to_z w64 c.loop-j.total)) -ℤ to_z w64 (of_z w64 (pos 2 *ℤ to_z w64 c.loop-j.totals))))
+    → to_z w64 (of_z w64 (to_z w64 (of_z w64 (to_z w64 (c.args.n - 1) *ℤ to_z w64 c.loop-j.total-bits)) -ℤ to_z w64 (of_z w64 (pos 2 *ℤ to_z w64 c.loop-j.totals-bits))))
     ≡ moment (length c.args.values.now) (at c.args.values.now)
 unfolding total
 moment-is c =
-    let c.args.values.now = c.args.values.now in
+    let l = c.args.values.now in
     let n = count-read (most c) in
     let s = total-word (goal.at.After-loop-j c).At-loop-j in
     let w = totals-word (goal.at.After-loop-j c).At-loop-j in
@@ -123,7 +125,7 @@ moment-is c =
 pub returns : goal.returns
 returns c =
     let e = all c in
-    let S : to_z w64 c.loop-j.total ≡ total (length c.args.values.now) (at c.args.values.now) = total-is c.args.values.now _ e c.loop-j.invariant.2 in
+    let S : to_z w64 c.loop-j.total-bits ≡ total (length c.args.values.now) (at c.args.values.now) = total-is c.args.values.now _ e c.loop-j.invariant.2 in
     let T = moment-is c in record {
       outside_value = sym (inside c);
       total_value = λ z. ((S, T), (bound (total-word (goal.at.returns c).At-loop-j) tt, bound (equal T (known (moment-bound c.args.values.now (inside c) (length c.args.values.now) (few-values c.requires.0 c.requires.2)))) tt));

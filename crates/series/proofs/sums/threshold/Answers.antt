@@ -1,6 +1,5 @@
 -- `series::sums::threshold` meets its contract: up to 10000 the square stays below 10^14, and there are at most 52.
 -- Assumes nothing.
-use borrow.Author.Rules.{rules}
 use mathlib.Core.Path.{sym, ap, ◌∙◌}
 use Prim.Native.Nat.{ℕ, ◌*◌, ◌-◌, ◌≤◌}
 use native.Mathlib.Nat.{mul-le-mul}

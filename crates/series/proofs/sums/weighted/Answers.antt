@@ -1,13 +1,10 @@
 -- `series::sums::weighted` meets its contract: after i turns the sum is that of the first i products.
 -- Assumes nothing.
 use borrow.Author.Rules.{rules}
-use mathlib.Core.List.{List}
 use mathlib.Core.Path.{◌≡◌, refl, ap, ◌∙◌}
-use Prim.Native.Nat.{ℕ, ◌≤◌, ◌-◌}
+use Prim.Native.Nat.{ℕ}
 use native.Mathlib.Nat.{le_antisymm}
 use native.Mathlib.Numerals.{add-one}
-use lib.IntN.{ℤ, ◌*ℤ◌}
-use lib.ListN.{length}
 use mir.Syntax.{w64}
 use mir.Val.{to_z}
 use Rattle.whole.specs.Sum.{sum}
@@ -29,7 +26,7 @@ weight-word i = known (weight-bound i)
 abbrev measurement-word : (c : Start) (i : ℕ) → Word (at c.args.measurements.now i)
 measurement-word c i = known (within-limit measurement_limit c.args.measurements.now c.requires.1 i)
 
-abbrev sum-word : (c : At-loop-i) → Word (to_z w64 c.loop-i.sum)
+abbrev sum-word : (c : At-loop-i) → Word (to_z w64 c.loop-i.sum-bits)
 sum-word c =
     equal c.loop-i.invariant.2
     (known (weighted-bound (at c.args.measurements.now) (within-limit measurement_limit c.args.measurements.now c.requires.1) c.loop-i.i c.loop-i.invariant.0))

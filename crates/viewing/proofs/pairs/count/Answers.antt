@@ -5,9 +5,9 @@ use mathlib.Core.Bool.{cond, ◌||◌}
 use lib.IntN.{pos, ◌+ℤ◌}
 use lib.Signed.{lt_z}
 use mir.Syntax.{w64}
-use mir.Val.{to_z, of_z}
+use mir.Val.{SFits, to_z, of_z}
 use mir.Facts.{to_z-of_z}
-use Rattle.whole.proofs.Words.{Word, known, literal, sum_of, fits, back-of}
+use Rattle.whole.proofs.Words.{Word, known, literal, sum_of, fits}
 use Rattle.viewing.specs.Gather.{counted}
 use Rattle.viewing.proofs.Gathering.{Fits}
 use borrow.Author.Rules.{rules}
@@ -42,6 +42,8 @@ returns c =
     let l = to_z-of_z f.largest in
     let pairs : to_z w64 (of_z w64 (to_z w64 (of_z w64 c.args.figures.pairs) +ℤ pos 1)) ≡ c.args.figures.pairs +ℤ pos 1 = rw n (to_z-of_z (fits (pairs-word (goal.at.returns c).Start) tt)) in
     let sum : to_z w64 (of_z w64 (to_z w64 (of_z w64 c.args.figures.sum) +ℤ to_z w64 (of_z w64 c.args.difference))) ≡ c.args.figures.sum +ℤ c.args.difference = rw (to_z-of_z f.sum, d) (to_z-of_z (fits (sum-word (goal.at.returns c).Start) tt)) in
-    let smallest = back-of c.choose.type-inv ∙ c.choose.ensures ∙ (λ i. cond (lt_z (n i) (pos 1) || lt_z (d i) (s i)) (d i) (s i)) in
-    let largest = back-of c.choose-2.type-inv ∙ c.choose-2.ensures ∙ (λ i. cond (lt_z (n i) (pos 1) || lt_z (l i) (d i)) (d i) (l i)) in
+    let smallest_fits : SFits w64 c.choose.result = search rules in
+    let largest_fits : SFits w64 c.choose-2.result = search rules in
+    let smallest = to_z-of_z smallest_fits ∙ c.choose.ensures ∙ (λ i. cond (lt_z (n i) (pos 1) || lt_z (d i) (s i)) (d i) (s i)) in
+    let largest = to_z-of_z largest_fits ∙ c.choose-2.ensures ∙ (λ i. cond (lt_z (n i) (pos 1) || lt_z (l i) (d i)) (d i) (l i)) in
     λ i. record { pairs = pairs i; sum = sum i; smallest = smallest i; largest = largest i }

@@ -8,7 +8,7 @@ use lib.IntN.{ℤ, nat_abs, ◌-ℤ◌}
 use mir.Syntax.{w64}
 use mir.Val.{SFits, to_z, of_z}
 use mir.Facts.{to_z-of_z}
-use Rattle.whole.proofs.Words.{fits-of, back-of}
+use Rattle.whole.proofs.Words.{fits-of}
 use Rattle.viewing.specs.View.{refsys_of}
 use Rattle.viewing.specs.Gather.{counted, widest}
 use Rattle.viewing.proofs.Values.{refsys-bound, trkl-same, trkl-other}
@@ -24,7 +24,9 @@ difference c =
 
 difference-is : (c : After-refsys-then-trkl) → to_z w64 (of_z w64 c.refsys.result) -ℤ to_z w64 (of_z w64 c.refsys-then-trkl.result) ≡ difference c
 difference-is c =
-    ap₂ ◌-ℤ◌ (back-of c.refsys.type-inv ∙ c.refsys.ensures) (back-of c.refsys-then-trkl.type-inv ∙ c.refsys-then-trkl.ensures)
+    let line_fits : SFits w64 c.refsys.result = search rules in
+    let other_fits : SFits w64 c.refsys-then-trkl.result = search rules in
+    ap₂ ◌-ℤ◌ (to_z-of_z line_fits ∙ c.refsys.ensures) (to_z-of_z other_fits ∙ c.refsys-then-trkl.ensures)
 
 small : (c : After-refsys-then-trkl) → nat_abs (difference c) ≤ widest
 small c =
@@ -39,9 +41,9 @@ overflow_sub-refsys c = subst (SFits w64) (sym (difference-is c)) (fits-of (smal
 
 pub count-requires : goal.count-requires
 count-requires c = record {
-      bounded = c.requires.bounded;
-      difference_bound = subst (λ (z : ℤ). nat_abs z ≤ widest) (sym (passed c)) (small c);
-    }
+  bounded = c.requires.bounded;
+  difference_bound = subst (λ (z : ℤ). nat_abs z ≤ widest) (sym (passed c)) (small c);
+}
 
 pub returns-then-trkl : goal.returns-then-trkl
 returns-then-trkl c =

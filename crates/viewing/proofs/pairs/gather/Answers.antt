@@ -2,18 +2,18 @@
 -- Assumes nothing.
 use mathlib.Core.Path.{sym, subst}
 use mathlib.Core.List.{[]}
-use Prim.Native.Nat.{ℕ, ◌+◌, ◌-◌, ◌/◌, ◌≤◌, ◌<◌}
+use Prim.Native.Nat.{ℕ, ◌+◌, ◌/◌, ◌≤◌, ◌<◌}
 use native.Mathlib.Omega.{arith}
 use lib.ListN.{length, get_or}
 use borrow.Author.Rules.{rules}
 use Rattle.columns.specs.Text.{ended_length}
 use Rattle.linefile.specs.Files.{lines}
 use Rattle.viewing.specs.View.{pairs_of, viewed, longest}
-use Rattle.viewing.specs.Gather.{Bounded, most_steps}
+use Rattle.viewing.specs.Gather.{most_steps}
 use Rattle.linefile.proofs.Ascending.{Accepted}
 use Rattle.linefile.proofs.Lines.{length-lines, line-file, line-part, line-accepted, lines_left}
 use Rattle.linefile.proofs.Steps.{Stepped, stepped}
-use Rattle.viewing.proofs.Gathering.{Gathered, viewed_from, nothing-gathered, nothing-bounded, more-bounded, pair-gathered, pair-bounded, all-gathered, end-viewed}
+use Rattle.viewing.proofs.Gathering.{nothing-gathered, nothing-bounded, more-bounded, pair-gathered, pair-bounded, all-gathered, end-viewed}
 use Rattle.viewing.proofs.pairs.gather.Goals.{After-step-next, In-loop-m}
 use Rattle.viewing.proofs.pairs.gather.Goals as goal
 
@@ -59,13 +59,11 @@ second-line c =
 
 pub count_pair-gathered-requires : goal.count_pair-gathered-requires
 count_pair-gathered-requires c =
-    let t = turn (goal.at.count_pair-gathered-requires c).In-loop-m in (
-      more-bounded (c.loop-m.m + c.loop-m.n) most_steps (few t c.requires.first_len_bound c.requires.second_len_bound) c.loop-m.invariant.2,
-      (
-        subst Accepted (sym (line-part c.args.first.now c.loop-m.m t.0)) (first-line (goal.at.count_pair-gathered-requires c).In-loop-m),
-        subst Accepted (sym (line-part c.args.second.now c.loop-m.n t.1)) (second-line (goal.at.count_pair-gathered-requires c).In-loop-m),
-      ),
-    )
+    let t = turn (goal.at.count_pair-gathered-requires c).In-loop-m in record {
+      bounded = more-bounded (c.loop-m.m + c.loop-m.n) most_steps (few t c.requires.first_len_bound c.requires.second_len_bound) c.loop-m.invariant.2;
+      line_value = subst Accepted (sym (line-part c.args.first.now c.loop-m.m t.0)) (first-line (goal.at.count_pair-gathered-requires c).In-loop-m);
+      other_value = subst Accepted (sym (line-part c.args.second.now c.loop-m.n t.1)) (second-line (goal.at.count_pair-gathered-requires c).In-loop-m);
+    }
   where
     few : {m n p q : ℕ} → (m < p / ended_length) × (n < q / ended_length) → p ≤ longest → q ≤ longest → m + n ≤ most_steps
     few t h k = omega (arith, t.0, t.1)

@@ -1,19 +1,10 @@
 -- `viewing::pairs::gather` meets its contract: what is left to view is what is left of the two files.
 -- Assumes nothing.
-use mathlib.Core.Path.{sym, subst}
-use mathlib.Core.List.{[]}
-use Prim.Native.Nat.{ℕ, ◌+◌, ◌-◌, ◌/◌, ◌≤◌, ◌<◌}
-use native.Mathlib.Omega.{arith}
-use lib.ListN.{length, get_or}
-use borrow.Author.Rules.{rules}
-use Rattle.columns.specs.Text.{ended_length}
+use Prim.Native.Nat.{◌+◌, ◌-◌, ◌≤◌}
 use Rattle.linefile.specs.Files.{lines}
-use Rattle.viewing.specs.View.{pairs_of, viewed, longest}
-use Rattle.viewing.specs.Gather.{Bounded, most_steps}
-use Rattle.linefile.proofs.Ascending.{Accepted}
-use Rattle.linefile.proofs.Lines.{length-lines, line-file, line-part, line-accepted, lines_left}
-use Rattle.linefile.proofs.Steps.{Stepped, stepped}
-use Rattle.viewing.proofs.Gathering.{Gathered, viewed_from, nothing-gathered, nothing-bounded, more-bounded, pair-gathered, pair-bounded, all-gathered, end-viewed}
+use Rattle.viewing.specs.View.{viewed}
+use Rattle.viewing.specs.Gather.{Bounded}
+use Rattle.viewing.proofs.Gathering.{Gathered, viewed_from}
 use Rattle.viewing.proofs.pairs.gather.Given as goal
 
 abbrev pub invariant-loop-m : goal.invariant-loop-m

@@ -5,7 +5,6 @@ use native.Mathlib.Omega.{arith}
 use lib.IntN.{+ℤ_idl}
 use Rattle.whole.proofs.Words.{Word, count, equal, fits, plain-is, bounds}
 use Rattle.viewing.proofs.Values.{line-long, size-bound, refsys-minus, refsys-plus}
-use borrow.Author.Rules.{rules}
 use Rattle.viewing.proofs.pairs.refsys.Goals.{After-refsys_size-size}
 use Rattle.viewing.proofs.pairs.refsys.Goals as goal
 

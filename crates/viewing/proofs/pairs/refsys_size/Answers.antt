@@ -10,7 +10,6 @@ use Rattle.fields.specs.Read.{read_decimal}
 use Rattle.columns.specs.Columns.{field}
 use Rattle.linefile.specs.Files.{columns_of}
 use Rattle.viewing.proofs.Values.{refsys-raw, size-bound}
-use borrow.Author.Rules.{rules}
 use Rattle.viewing.proofs.pairs.refsys_size.Goals.{After-two_digits-5}
 use Rattle.viewing.proofs.pairs.refsys_size.Goals as goal
 

@@ -2,7 +2,6 @@
 -- Assumes nothing.
 use native.Mathlib.Omega.{arith}
 use Rattle.viewing.proofs.Values.{trkl-raw}
-use borrow.Author.Rules.{rules}
 use Rattle.viewing.proofs.pairs.trkl.Goals as goal
 
 pub returns : goal.returns
