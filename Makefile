@@ -1,8 +1,8 @@
 # make help          what can be made; make alone says it too
 # make run           prove and build trackline and run it on a hire block: make run BLOCK=examples/sample.blk
 # make test          every test, and last the proofs (rt ci): the last line is 'N passed, 0 failed'
-# make beside        the tests without the proofs from nothing
-# make proofs        the proofs from nothing (rt ci); PROVER_TMP=folder, here and for all that is proved, for the prover's files
+# make beside        the tests without the gate
+# make proofs        the gate (rt ci): what has not passed on this machine is proved from nothing; PROVER_TMP=folder, here and for all that is proved, for the prover's files
 # make bench         the technician's cases and the published lines: what each gave and what it should be
 # make speed         the proved library beside plain Rust that is written for speed, on the same blocks and lines, and a day over its number of blocks
 # make instructions  the instructions of both, part by part, with valgrind
@@ -15,7 +15,7 @@
 # make shared        the shared library: target/libtrackline.so.1
 # make install       the programs, the libraries, the header, the manual pages: make install PREFIX=/usr/local DESTDIR=
 # make uninstall     remove what install put there, with the same PREFIX and DESTDIR; folders stay
-# make clean         remove target/, which holds everything that was built
+# make clean         remove target/ and crates/*/out, which hold everything that was built
 VERSION := 1.11.0
 BLOCK ?= examples/sample.blk
 PREFIX ?= /usr/local
@@ -137,7 +137,7 @@ compared:
 	$(CC) $(CFLAGS) $(STRICT) -Iinclude examples/receiver.c $(ARCHIVE) -o target/receiver
 	target/receiver | cmp - crates/trackline/stdout
 	python3 tests/c/receiver.py target/receiver
-	$(CC) $(CFLAGS) $(STRICT) -Iinclude tests/c/stack.c $(ARCHIVE) -pthread -o target/stack
+	$(CC) $(CFLAGS) $(STRICT) -Iinclude tests/c/stack.c $(ARCHIVE) -pthread -Wl,-z,now -o target/stack
 	python3 tests/c/stack.py target/stack
 	python3 tests/layout.py
 	python3 tests/trackline/test_trackline.py

@@ -119,8 +119,8 @@ for number in 0 26 99 100; do
 done
 
 # clean, in a folder of its own
-mkdir -p "$scratch/clean/target/bin" "$scratch/clean/crates"
+mkdir -p "$scratch/clean/target/bin" "$scratch/clean/crates/one/out/seed" "$scratch/clean/crates/one/src"
 cp Makefile "$scratch/clean"
 "$make" --no-print-directory -C "$scratch/clean" clean >/dev/null
-[ "$(ls "$scratch/clean" | xargs)" = 'Makefile crates' ] || fail 'make clean'
-echo "make: help names every target, bench fails where it should, proving and refusals are told, clean removes target/"
+[ "$(cd "$scratch/clean" && find . | sort | xargs)" = '. ./Makefile ./crates ./crates/one ./crates/one/src' ] || fail 'make clean'
+echo "make: help names every target, bench fails where it should, proving and refusals are told, clean removes what was built"

@@ -3,7 +3,10 @@
  * byte, calls, and looks for the lowest byte that has changed. The manual page trackline(3) promises the figures in MOST, and
  * the header that of trackline_day; the test fails if a call takes more. tests/c/stack.py compares what is printed with the figures that documents give.
  *
- *     cc -std=c11 -Iinclude tests/c/stack.c libtrackline.a -pthread -o stack && ./stack
+ *     cc -std=c11 -Iinclude tests/c/stack.c libtrackline.a -pthread -Wl,-z,now -o stack && ./stack
+ *
+ * By -z now memset is bound before the calls: the loader saves the processor's registers on the stack of the first call otherwise, and
+ * how many bytes that takes goes by the processor.
  */
 #define _POSIX_C_SOURCE 200809L
 

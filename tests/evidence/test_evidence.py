@@ -4,6 +4,7 @@
     python3 tests/evidence/test_evidence.py
 """
 import pathlib
+import re
 import shutil
 import subprocess
 import sys
@@ -30,7 +31,7 @@ class Evidence(unittest.TestCase):
         cls.addClassCleanup(scratch.cleanup)
         cls.root = pathlib.Path(scratch.name)
         for part in 'crates', 'docs', 'tools':
-            shutil.copytree(ROOT / part, cls.root / part)
+            shutil.copytree(ROOT / part, cls.root / part, ignore=shutil.ignore_patterns('out'))
         for part in 'crates.txt', 'include/trackline.h', 'README.md':
             (cls.root / part).parent.mkdir(exist_ok=True)
             shutil.copy(ROOT / part, cls.root / part)
@@ -69,6 +70,21 @@ class Evidence(unittest.TestCase):
         new = self.rows('contracts')[0]
         self.assertIn('| `lent::again` | same | `placed_within` | The same |', new)
         self.assertEqual(len(new), 2, 'the row, and the count of the functions')
+
+    def test_a_function_with_attributes(self):
+        path = self.kept('crates/lent/src/lib.rt')
+        path.write_text(path.read_text() + FUNCTION % '// The same.\n#[tactic(auto, unfolding(crate::specs::Placed::placed_within),\n    using(other::proofs::Placed::same))]\n')
+        self.assertIn('| `lent::again` | same | `placed_within` | The same |', self.rows('contracts')[0])
+
+    def test_functions_passed_on_together(self):
+        self.change('crates/fit/src/lib.rt', 'pub use packed::track_packed;\n', 'pub use packed::{SHORTEST, track_packed};\n')
+        self.assertEqual(self.rows('contracts'), ([], []))
+
+    def test_a_static_library(self):
+        path = self.kept('crates.txt')
+        for name in 'boundary', 'boundary staticlib', 'boundary staticlib opt_level=3':
+            path.write_text(re.sub(r'(?m)^boundary\b[^:\n]*:', name + ':', path.read_text()))
+            self.assertEqual(self.rows('contracts'), ([], []), name)
 
     def test_a_function_passed_on(self):
         self.change('crates/fit/src/lib.rt', 'pub use packed::track_packed;\n', '')

@@ -38,7 +38,8 @@ ORDER = re.compile(r'\d+(?:(?:,|,? and|,? or|,? then)\s\d+)+')
 # prose: documents and manual pages whole, of these others the comments
 DOCUMENTS = ('README.md', 'docs/*.md', 'docs/evidence/*.md', 'man/*.[1-8]')
 COMMENTS = {'.h': r'(?s)/\*.*?\*/', '.c': r'(?s)/\*.*?\*/', '.antt': r'(?m)(?:^ *--.*\n)+|--.*', '.rt': r'(?m)(?:^ *//.*\n)+|//.*'}
-COMMENTED = C + ('crates/*/specs/**/*.antt', 'crates/*/src/**/*.rt')
+# the laws of whole and exact are no proofs of code
+COMMENTED = C + ('crates/*/specs/**/*.antt', 'crates/whole/proofs/**/*.antt', 'crates/exact/proofs/**/*.antt', 'crates/*/src/**/*.rt')
 # a 10 that is no part of a name or of a longer number, and is no count by the word beside it
 UNITS = r' (?:ps|ns|µs|ms|blocks|bytes|entries|times)\b'
 BARE = re.compile(r'(?<![\w^-])(?<!\d[.,:])(?<!Job )10(?![\w^⁰¹²³⁴-⁹-]|[.,:]\d| ?\(n| [x×^]| \d{3}\b|%s)' % UNITS)
@@ -55,7 +56,7 @@ EXCEPTIONS = {
     'docs/SHARED-OFFSET.md': ('| 10 | 1250370 |', 'with 10, 50 and 300 ps more'),
     'man/cggtts.1': ('700 written, 10 equal to a written one', '($4/10)'),
     'cggtts/picture.c': ('The smallest of 1, 2, 5, 10 .. units',),
-    'crates/whole/specs/Linear/Examples.antt': ('a + b = 10',),
+    'crates/whole/proofs/Linear/Examples.antt': ('a + b = 10',),
 }
 # of other texts, how one speaks of 10: behind such a word, or as what it is or does
 SPEAKING = ('tools/*', 'crates/*/must-fail/*.edit', 'cggtts/*.[ch]', 'examples/*.c')

@@ -1,6 +1,6 @@
 -- What is promised of a track's figures (document 01, "Exact figures"; document 02, Jobs 3 and 8): each is near the exact one, for every choice of
 -- least curves and of denominators. The bound itself is taken in. The contracts have s = `steps`, tenths. What was promised of whole picoseconds
--- follows (`EarlierTrack` and law `earlier-track` of the module Accuracy).
+-- follows (`EarlierTrack` of the module Accuracy and law `earlier-track` of proofs/Tracks.antt).
 -- Assumes nothing.
 use Rattle.std.specs.Prelude.{ℕ, ℤ, pos, ◌+ℤ◌, ◌-ℤ◌, ◌*ℤ◌, ◌≤ℤ◌}
 use Rattle.whole.specs.Square.{squared, magnitude}

@@ -17,13 +17,13 @@ room c t = leb-true (c.args.at + length c.args.bytes.now) (length c.args.lent.no
 pub overflow_add-end : goal.overflow_add-end
 overflow_add-end c = let r = room (goal.at.overflow_add-end c).After-fits c.if-fits.true in search (rules, r)
 
-pub slice_bounds-copy_from_slice-end : goal.slice_bounds-copy_from_slice-end
-slice_bounds-copy_from_slice-end c = room (goal.at.slice_bounds-copy_from_slice-end c).After-fits c.if-fits.true
+pub slice_bounds-copy-end : goal.slice_bounds-copy-end
+slice_bounds-copy-end c = room (goal.at.slice_bounds-copy-end c).After-fits c.if-fits.true
 
 pub returns-then-fits : goal.returns-then-fits
 returns-then-fits c =
     let r = room (goal.at.returns-then-fits c).After-fits c.if-fits.true in
-    put-part c.args.lent.now c.args.bytes.now _ c.args.at r c.copy_from_slice.ensures.after
+    put-part c.args.lent.now c.args.bytes.now _ c.args.at r c.copy.ensures
     ∙ sym (within c.args.lent.now c.args.at c.args.bytes.now r)
 
 pub returns-else-fits : goal.returns-else-fits

@@ -4,7 +4,7 @@ use mathlib.Core.Path.{◌≡◌, sym, ap, ap₂, ◌∙◌}
 use mathlib.Core.List.{List, [], ◌∷◌, ◌++◌}
 use Prim.Native.Nat.{ℕ, ◌+◌, ◌≤◌}
 use native.Mathlib.Omega.{arith}
-use lib.ListN.{length, drop}
+use lib.ListN.{length, drop, length-append}
 use Rattle.limits.specs.Refusal.{◌then◌}
 use Rattle.limits.proofs.Laws.{then-zero, after-accepted, after-refused, room-passed}
 use Rattle.fields.specs.Text.{decimal}
@@ -29,9 +29,6 @@ behind-is hc frc1 frc2 frc3 e = ap (λ (t : List ℕ). 48 ∷ 48 ∷ 32 ∷ (t +
 put-behind : (c : After-decimal) → 48 ∷ 48 ∷ 32 ∷ (c.decimal.new.out ++ (32 ∷ c.args.frc1 ∷ c.args.frc2 ∷ c.args.frc3 ∷ 32 ∷ [])) ≡ supplied c.args.hc c.args.frc1 c.args.frc2 c.args.frc3
 put-behind c = behind-is _ _ _ _ c.decimal.ensures
 
-pub slice_bounds-write-end : goal.slice_bounds-write-end
-slice_bounds-write-end c = sym (ap length (put-behind (goal.at.slice_bounds-write-end c).After-decimal) ∙ supplied-length _ _ _ _)
-
 -- an accepted line has all columns, and there is room
 accepted-is : (hc frc1 frc2 frc3 : ℕ) (old : List ℕ) (room : ℕ) → up_answer hc frc1 frc2 frc3 old room ≡ 0 → (101 ≤ length old) × (line_length ≤ room)
 unfolding up_answer old_number
@@ -46,7 +43,7 @@ pub write-requires : goal.write-requires
 write-requires c =
     let a = accepted-is _ _ _ _ _ _ (passed (goal.at.write-requires c).Then-answer-eq0) in record {
       in_bounds = a.0;
-      behind_in_bounds = omega (arith, a.1, ap length (put-behind (goal.at.write-requires c).After-decimal) ∙ supplied-length _ _ _ _);
+      behind_in_bounds = omega (arith, a.1, length-append {A = ℕ});
     }
 
 pub returns-then-answer-eq0 : goal.returns-then-answer-eq0

@@ -4,9 +4,8 @@ use mathlib.Core.Path.{sym, ap, ◌∙◌}
 use Prim.Native.Nat.{ℕ}
 use native.Mathlib.Nat.{le_refl}
 use native.Mathlib.Omega.{arith}
-use lib.ListN.{length, take}
+use lib.ListN.{take}
 use lib.Seq.{take_all, take-length}
-use borrow.Author.Rules.{rules}
 use Rattle.day.proofs.walk.own_length.Goals as goal
 
 pub returns-then-own-bytes : goal.returns-then-own-bytes

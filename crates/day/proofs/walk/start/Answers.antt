@@ -1,7 +1,6 @@
 -- `day::walk::start` meets its contract.
 -- Assumes nothing.
 use mathlib.Core.Path.{refl}
-use borrow.Author.Rules.{rules}
 use Rattle.day.proofs.walk.start.Goals as goal
 
 pub returns : goal.returns
