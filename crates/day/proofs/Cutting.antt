@@ -9,7 +9,6 @@ use native.Mathlib.Omega.{arith}
 use lib.ListN.{length, take, drop, length-append, length-drop, take-append-drop}
 use lib.Seq.{take_at, drop_at, take-append-le, drop-append-le}
 use borrow.Author.Tests.{ltb-false, le-leb, eqb-true, not-false}
-use Rattle.limits.specs.Refusal.{◌when◌, ◌then◌}
 use Rattle.limits.proofs.Laws.{then-zero, when-zero}
 use Rattle.decode.specs.Number.{little, unsigned_at}
 use Rattle.hire.specs.Hire.{blocks_in, block_length}

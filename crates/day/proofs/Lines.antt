@@ -8,7 +8,7 @@ use Prim.Native.Nat.{ℕ, ◌+◌, ◌*◌, ◌<◌, zero-le}
 use lib.ListN.{length, length-append, length-map}
 use lib.Seq.{take_at, drop_at}
 use Rattle.limits.specs.Limits.{no_numbers}
-use Rattle.limits.specs.Refusal.{◌when◌, ◌then◌}
+use Rattle.limits.specs.Refusal.{◌when◌}
 use Rattle.limits.proofs.Laws.{then-zero, then-passed}
 use Rattle.limits.proofs.Replies.{reply-values}
 use Rattle.limits.specs.declared.Numbers.{Numbers}

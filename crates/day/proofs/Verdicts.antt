@@ -9,7 +9,7 @@ use native.Mathlib.Omega.{arith}
 use lib.Dec.{eqb}
 use lib.ListN.{length}
 use borrow.Author.Tests.{eqb-true, eqb-false, eq-eqb, ne_eqb, not-false}
-use Rattle.limits.specs.Refusal.{◌when◌, ◌then◌}
+use Rattle.limits.specs.Refusal.{◌when◌}
 use Rattle.limits.proofs.Laws.{then-zero, then-passed, when-zero}
 use Rattle.line.specs.Block.{block_number}
 use Rattle.linefile.specs.Files.{keys_of, before}

@@ -11,7 +11,6 @@ use lib.ListN.{length}
 use native.Mathlib.Omega.{arith}
 use Prim.Native.Nat.{suc}
 use mathlib.Core.Path.{◌≡◌, sym, ap, ◌∙◌}
-use borrow.Author.Rules.{rules}
 use Rattle.boundary.proofs.trackline_append.Goals.{After-append-appended}
 use Rattle.boundary.proofs.trackline_append.Goals as goal
 

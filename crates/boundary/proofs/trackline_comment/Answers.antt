@@ -1,12 +1,11 @@
 -- `boundary::trackline_comment` meets its contract: the comment is all of the line from its offset on, so the rest of the line is as long as that.
 -- Assumes nothing.
 use mathlib.Core.Path.{◌≡◌, ap, ◌∙◌}
-use Prim.Native.Nat.{◌-◌, ◌≤◌}
+use Prim.Native.Nat.{◌-◌}
 use native.Mathlib.Omega.{arith}
 use lib.ListN.{length, length-drop}
 use Rattle.reader.specs.Comment.{comment_offset}
 use Rattle.reader.proofs.Comments.{offset-within}
-use borrow.Author.Rules.{rules}
 use Rattle.boundary.proofs.trackline_comment.Goals.{After-comment-comment}
 use Rattle.boundary.proofs.trackline_comment.Goals as goal
 

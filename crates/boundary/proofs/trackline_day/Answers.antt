@@ -10,7 +10,6 @@ use Rattle.day.proofs.Answers.{answer-number, answer-bytes, refused-case}
 use Rattle.boundary.specs.Values.{refused_after}
 use Rattle.limits.proofs.Laws.{lent-kept}
 use Rattle.boundary.proofs.Rows.{place-named}
-use borrow.Author.Rules.{rules}
 use Rattle.boundary.proofs.trackline_day.Goals as goal
 
 pub returns-in_default : goal.returns-in_default

@@ -1,6 +1,5 @@
 -- `boundary::trackline_down` meets its contract, by that of `version01::down`.
 -- Assumes nothing.
-use borrow.Author.Rules.{rules}
 use Rattle.boundary.proofs.trackline_down.Goals as goal
 
 pub returns : goal.returns

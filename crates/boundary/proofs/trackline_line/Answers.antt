@@ -1,7 +1,6 @@
 -- `boundary::trackline_line` meets its contract, by that of `line::line`: each number reads back from its bits.
 -- Assumes nothing.
 use mir.Facts.{to_z-of_z}
-use borrow.Author.Rules.{rules}
 use Rattle.boundary.proofs.trackline_line.Goals as goal
 
 pub returns : goal.returns

@@ -8,7 +8,6 @@ use Rattle.merging.specs.Answers.{merge_reply}
 use Rattle.merging.specs.Merge.{merged_file}
 use Rattle.merging.proofs.Answers.{accepted-case, refused-case}
 use Rattle.limits.proofs.Laws.{lent-kept}
-use borrow.Author.Rules.{rules}
 use Rattle.boundary.proofs.trackline_merge.Goals as goal
 
 pub returns-in_default : goal.returns-in_default

@@ -1,6 +1,6 @@
 -- `boundary::trackline_path` meets its contract: the case of the answer tells whether the length is put.
 -- Assumes nothing.
-use mathlib.Core.Path.{◌≡◌, sym, ap, ◌∙◌}
+use mathlib.Core.Path.{sym, ap, ◌∙◌}
 use native.Mathlib.Omega.{arith}
 use Rattle.path.specs.declared.Point.{Point}
 use Rattle.path.specs.declared.Measured.{Measured}
@@ -8,7 +8,6 @@ use Rattle.path.specs.Path.{length_of}
 use Rattle.path.specs.Answers.{measured_reply}
 use Rattle.path.proofs.Answers.{length-case, refused-case}
 use Rattle.limits.proofs.Laws.{lent-kept}
-use borrow.Author.Rules.{rules}
 use Rattle.boundary.proofs.trackline_path.Goals.{Start}
 use Rattle.boundary.proofs.trackline_path.Goals as goal
 

@@ -9,7 +9,6 @@ use Rattle.columns.specs.Columns.{read_labels, read_numbers}
 use Rattle.reading.specs.Read.{read_number}
 use Rattle.boundary.specs.Values.{values_of, read_answer, read_after}
 use Rattle.boundary.proofs.Rows.{row-refused, row_put}
-use borrow.Author.Rules.{rules}
 use Rattle.boundary.proofs.trackline_read.Goals as goal
 
 pub returns-in_default : goal.returns-in_default

@@ -1,6 +1,5 @@
 -- `boundary::trackline_start` meets its contract, by that of `schedule::start`.
 -- Assumes nothing.
-use borrow.Author.Rules.{rules}
 use Rattle.boundary.proofs.trackline_start.Goals as goal
 
 pub returns : goal.returns

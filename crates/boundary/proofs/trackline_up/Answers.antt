@@ -1,6 +1,5 @@
 -- `boundary::trackline_up` meets its contract, by that of `version01::up`.
 -- Assumes nothing.
-use borrow.Author.Rules.{rules}
 use Rattle.boundary.proofs.trackline_up.Goals as goal
 
 pub returns : goal.returns

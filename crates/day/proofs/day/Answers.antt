@@ -2,7 +2,6 @@
 -- Assumes nothing.
 use native.Mathlib.Omega.{arith}
 use Rattle.day.proofs.DayFile.{promised}
-use borrow.Author.Rules.{rules}
 use Rattle.day.proofs.day.Goals as goal
 
 pub returns : goal.returns

@@ -5,10 +5,9 @@ use Prim.Native.Nat.{ℕ, ◌*◌, ◌≤◌}
 use Rattle.columns.specs.Text.{ended_length}
 use native.Mathlib.Omega.{arith}
 use lib.ListN.{length}
-use Rattle.limits.specs.Refusal.{◌when◌, ◌then◌}
+use Rattle.limits.specs.Refusal.{◌then◌}
 use Rattle.day.specs.Day.{day_number}
 use Rattle.day.proofs.Finishing.{Judged, number_is, refused, accepted, written}
-use borrow.Author.Rules.{rules}
 use Rattle.day.proofs.run.Goals.{After-judge-judged, After-then-number}
 use Rattle.day.proofs.run.Goals as goal
 

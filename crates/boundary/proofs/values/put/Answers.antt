@@ -1,11 +1,9 @@
 -- `boundary::values::put` meets its contract: by the test on the lengths nothing is touched, or there is room for the row.
 -- Assumes nothing.
 use mathlib.Core.Path.{refl}
-use native.Mathlib.Omega.{arith}
 use borrow.Author.Tests.{lt-ltb, le-ltb}
 use Rattle.limits.specs.Refusal.{◌when◌}
 use Rattle.boundary.specs.Values.{row_after}
-use borrow.Author.Rules.{rules}
 use Rattle.boundary.proofs.values.put.Goals as goal
 
 pub returns-then-lent-row : goal.returns-then-lent-row

@@ -1,14 +1,12 @@
 -- `day::walk::judge` meets its contract: the verdict stays what it was.
 -- Assumes nothing.
 use mathlib.Core.Path.{◌≡◌, refl, sym, ◌∙◌}
-use Prim.Native.Nat.{◌-◌, ◌<◌}
+use Prim.Native.Nat.{◌<◌}
 use native.Mathlib.Omega.{arith}
 use lib.ListN.{length}
 use borrow.Author.Tests.{ltb-true, eqb-true}
 use Rattle.limits.proofs.Laws.{both}
-use Rattle.columns.specs.Text.{ended_length}
-use Rattle.day.specs.Walk.{WithinBytes, verdict}
-use Rattle.day.proofs.Walking.{later, ahead, Stepped, stepped, verdict-end}
+use Rattle.day.proofs.Walking.{later, Stepped, stepped, verdict-end}
 use Rattle.day.proofs.walk.judge.Goals.{After-step-state, In-loop-state}
 use Rattle.day.proofs.walk.judge.Goals as goal
 

@@ -1,14 +1,10 @@
 -- `day::walk::judge` meets its contract: the verdict stays what it was.
 -- Assumes nothing.
-use mathlib.Core.Path.{◌≡◌, refl, sym, ◌∙◌}
-use Prim.Native.Nat.{◌-◌, ◌<◌}
-use native.Mathlib.Omega.{arith}
+use mathlib.Core.Path.{◌≡◌}
 use lib.ListN.{length}
-use borrow.Author.Tests.{ltb-true, eqb-true}
-use Rattle.limits.proofs.Laws.{both}
 use Rattle.columns.specs.Text.{ended_length}
 use Rattle.day.specs.Walk.{WithinBytes, verdict}
-use Rattle.day.proofs.Walking.{later, ahead, Stepped, stepped, verdict-end}
+use Rattle.day.proofs.Walking.{ahead}
 use Rattle.day.proofs.walk.judge.Given as goal
 
 abbrev pub invariant-loop-state : goal.invariant-loop-state

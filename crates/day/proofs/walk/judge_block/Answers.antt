@@ -13,7 +13,6 @@ use Rattle.columns.specs.Text.{line_length}
 use Rattle.linefile.specs.Files.{keys_of, before}
 use Rattle.day.specs.Walk.{last_keys}
 use Rattle.line.proofs.AcceptedBlocks.{room-enough, line_after_lem, end_after}
-use borrow.Author.Rules.{rules}
 use Rattle.day.proofs.walk.judge_block.Goals as goal
 
 -- the first block follows whatever its keys

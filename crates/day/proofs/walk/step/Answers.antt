@@ -12,7 +12,6 @@ use Rattle.limits.proofs.Parts.{rest_part}
 use Rattle.day.specs.Day.{own_length_lem, behind_number}
 use Rattle.day.specs.Walk.{last_keys, next_block}
 use Rattle.day.proofs.Walking.{next-passed, next-refused}
-use borrow.Author.Rules.{rules}
 use Rattle.day.proofs.walk.step.Goals.{After-own_length-n}
 use Rattle.day.proofs.walk.step.Goals as goal
 

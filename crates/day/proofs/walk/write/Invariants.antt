@@ -1,17 +1,10 @@
 -- `day::walk::write` meets its contract: the lines of the blocks that were seen are in their places.
 -- Assumes nothing.
-use mathlib.Core.Path.{◌≡◌, refl, sym, ap, ◌∙◌}
-use mathlib.Core.List.{List, [], ◌∷◌, ◌++◌}
-use Prim.Native.Nat.{ℕ, ◌+◌, ◌-◌, ◌*◌, ◌/◌, ◌≤◌, ◌<◌}
-use native.Mathlib.Omega.{arith}
+use mathlib.Core.Path.{◌≡◌}
 use lib.ListN.{length, drop}
-use borrow.Author.Rules.{rules}
-use borrow.Author.Tests.{ltb-true, eqb-true}
-use Rattle.limits.proofs.Laws.{both}
 use Rattle.columns.specs.Text.{line_length, ended_length, line_end}
-use Rattle.line.specs.Block.{block_line}
-use Rattle.day.specs.Walk.{next_block, Wrote}
-use Rattle.day.proofs.Walking.{later, ahead, Stepped, stepped, wrote_none, wrote_on}
+use Rattle.day.specs.Walk.{Wrote}
+use Rattle.day.proofs.Walking.{ahead}
 use Rattle.day.proofs.walk.write.Given as goal
 
 abbrev pub invariant-loop-state : goal.invariant-loop-state
