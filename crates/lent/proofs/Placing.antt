@@ -3,11 +3,11 @@
 use mathlib.Core.Path.{◌≡◌, sym, ap, ap₂, ◌∙◌}
 use mathlib.Core.List.{List, [], ◌∷◌, ◌++◌, append_assoc, append-nil}
 use Prim.Native.Nat.{ℕ, ◌+◌, ◌-◌, ◌≤◌, ◌<◌, zero-le}
-use native.Mathlib.Nat.{add_assoc, add-zero, zero-add}
+use native.Mathlib.Nat.{add_assoc, add-zero, zero-add, le_of_eq}
 use native.Mathlib.Numerals.{add-one}
 use native.Mathlib.Omega.{arith}
-use lib.ListN.{length, take, drop, set, take-append-drop, length-append, length-drop}
-use lib.Seq.{length-take-le, take_at, drop-append-add, drop-drop, drop-length, set_split}
+use lib.ListN.{length, take, drop, set, take-append-drop, length-append, length-drop, drop_of_length-le}
+use lib.Seq.{length-take-le, take_at, take-length, drop-append-add, drop-drop, drop-length, set_split}
 use borrow.Author.Tests.{le-leb, lt-leb}
 use borrow.Rule.Slice.PartMut.{put_mid, mid_of, mid_len}
 use Rattle.lent.specs.Placed.{placed, placed_within}
@@ -89,10 +89,23 @@ length-placed d at s h =
 
 -- a part into which a text was copied, put back
 pub put-part : (d text part : List ℕ) (at : ℕ) → at + length text ≤ length d
-    → part ≡ text
+    → part ≡ take (length text) text ++ drop (length text) (mid_of at (at + length text - at) d)
     → put_mid at (at + length text - at) d part ≡ placed d at text
 unfolding placed
 put-part d text part at h e =
+    ap₂ (λ (x y : List ℕ). take at d ++ (x ++ y))
+    (e ∙ ap₂ ◌++◌ (take-length text) (drop_of_length-le (mid_of at (at + length text - at) d) (le_of_eq (mid_len at (at + length text) d h ∙ width))) ∙ append-nil text)
+    (drop-drop (at + length text - at) at d ∙ ap (λ (n : ℕ). drop n d) (ap (λ (n : ℕ). at + n) width))
+  where
+    width : at + length text - at ≡ length text
+    width = omega arith
+
+-- a part into which a text was copied, put back
+pub put-copied : (d text part : List ℕ) (at : ℕ) → at + length text ≤ length d
+    → part ≡ text
+    → put_mid at (at + length text - at) d part ≡ placed d at text
+unfolding placed
+put-copied d text part at h e =
     ap₂ (λ (x y : List ℕ). take at d ++ (x ++ y))
     e
     (drop-drop (at + length text - at) at d ∙ ap (λ (n : ℕ). drop n d) (ap (λ (n : ℕ). at + n) width))

@@ -6,7 +6,7 @@ use Prim.Native.Nat.{◌+◌, ◌≤◌}
 use lib.ListN.{length}
 use borrow.Author.Tests.{leb-true, leb-false}
 use borrow.Author.Rules.{rules}
-use Rattle.lent.proofs.Placing.{within, not_within, put-part}
+use Rattle.lent.proofs.Placing.{within, not_within, put-copied}
 use Rattle.lent.proofs.put.Goals.{After-fits}
 use Rattle.lent.proofs.put.Goals as goal
 
@@ -23,7 +23,7 @@ slice_bounds-copy-end c = room (goal.at.slice_bounds-copy-end c).After-fits c.if
 pub returns-then-fits : goal.returns-then-fits
 returns-then-fits c =
     let r = room (goal.at.returns-then-fits c).After-fits c.if-fits.true in
-    put-part c.args.lent.now c.args.bytes.now _ c.args.at r c.copy.ensures
+    put-copied c.args.lent.now c.args.bytes.now _ c.args.at r c.copy.ensures
     ∙ sym (within c.args.lent.now c.args.at c.args.bytes.now r)
 
 pub returns-else-fits : goal.returns-else-fits
