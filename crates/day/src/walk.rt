@@ -69,8 +69,8 @@ fn judge_block(block: &[u8], count: usize, last: Labels, lent: &mut [u8]) -> u32
 // The next block: the walk goes on behind it, its line in the lent one, or stops at it.
 fn step(blocks: &[u8], from: State, lent: &mut [u8]) -> State
     requires within_bytes { WithinBytes blocks.now from }
-    requires at_in_bounds { from.at < length blocks.now }
-    requires line_length_in_bounds { line_length ≤ length lent.old }
+    requires bytes_left { from.at < length blocks.now }
+    requires room { line_length ≤ length lent.old }
     ensures value { result ≡ next_state blocks.now from }
     ensures lent_after { result.refusal ≡ 0 → lent.new ≡ block_line (next_block blocks.now from) ++ drop line_length lent.old }
     ensures lent_unchanged { drop line_length lent.new ≡ drop line_length lent.old }
@@ -114,8 +114,8 @@ pub fn judge(blocks: &[u8], from: State) -> State
 
 // Puts a line into its place where it is accepted.
 fn keep(number: u32, line: &[u8], file: &mut [u8], k: usize)
-    requires line_len { length line.now ≡ ended_length }
-    requires k_in_bounds { ended_length * (k + 1) ≤ length file.old }
+    requires whole_line { length line.now ≡ ended_length }
+    requires room { ended_length * (k + 1) ≤ length file.old }
     ensures { file.new ≡ after number (placed file.old (ended_length * k) line.now) file.old }
 {
     if number == 0 {
@@ -126,9 +126,9 @@ fn keep(number: u32, line: &[u8], file: &mut [u8], k: usize)
 // The walk with each line put into its place, as far as there is room.
 pub fn write(blocks: &[u8], from: State, file: &mut [u8]) -> State
     requires within_bytes { WithinBytes blocks.now from }
-    requires count_in_bounds { ended_length * from.count ≤ length file.old }
+    requires room { ended_length * from.count ≤ length file.old }
     ensures wrote { Wrote blocks.now from result file.old file.new }
-    ensures ended_length_value { goes_on blocks.now result && ltb result.count (length file.old / ended_length) ≡ false }
+    ensures stopped { goes_on blocks.now result && ltb result.count (length file.old / ended_length) ≡ false }
 {
     let room = file.len() / ENDED_LENGTH;
     // Block writes the columns alone, so that the line's end behind them stays.
@@ -147,9 +147,9 @@ pub fn write(blocks: &[u8], from: State, file: &mut [u8]) -> State
 // The lines that are kept, then those of the blocks behind them.
 pub fn finish(blocks: &[u8], begun: State, kept: &[u8], file: &mut [u8])
     requires within_bytes { WithinBytes blocks.now begun }
-    requires begun_value { (verdict blocks.now begun).refusal ≡ 0 }
-    requires count_in_bounds { ended_length * begun.count ≤ length kept.now }
-    requires begun_in_bounds { ended_length * (begun.count + length (left blocks.now begun)) ≤ length file.old }
+    requires accepted { (verdict blocks.now begun).refusal ≡ 0 }
+    requires kept_lines { ended_length * begun.count ≤ length kept.now }
+    requires room { ended_length * (begun.count + length (left blocks.now begun)) ≤ length file.old }
     ensures { file.new ≡ placed (placed file.old 0 (take (ended_length * begun.count) kept.now))
         (ended_length * begun.count) (file_of (left blocks.now begun)) }
 {

@@ -41,9 +41,9 @@ pub finish-requires : goal.finish-requires
 finish-requires c =
     let r = accepted (known (goal.at.finish-requires c).After-judge-judged) c.args.file.now (sym (number (goal.at.finish-requires c).After-then-number) ∙ c.if-number-ne0.false) in record {
       within_bytes = c.write-begun.ensures.wrote.walked.within;
-      begun_value = r.0;
-      count_in_bounds = subst (λ (n : ℕ). ended_length * c.write-begun.result.count ≤ n) (sym c.write-begun.auto.file) c.write-begun.ensures.wrote.room;
-      begun_in_bounds = r.1;
+      accepted = r.0;
+      kept_lines = subst (λ (n : ℕ). ended_length * c.write-begun.result.count ≤ n) (sym c.write-begun.auto.file) c.write-begun.ensures.wrote.room;
+      room = r.1;
     }
 
 pub overflow_mul-result : goal.overflow_mul-result

@@ -21,8 +21,8 @@ slice_bounds-put-end c = search (rules, length-take-le)
 pub returns : goal.returns
 returns c =
     let t = file_of (left c.args.blocks.now c.args.begun) in
-    all-written c.args.blocks.now c.args.begun c.write.result _ _ c.write.ensures.wrote c.write.ensures.ended_length_value c.requires.begun_value (omega (arith, c.requires.begun_in_bounds, c.put.auto.lent))
+    all-written c.args.blocks.now c.args.begun c.write.result _ _ c.write.ensures.wrote c.write.ensures.stopped c.requires.accepted (omega (arith, c.requires.room, c.put.auto.lent))
     ∙ ap (λ (f : List ℕ). placed f (ended_length * c.args.begun.count) t)
     (c.put.ensures
     ∙ within c.args.file.now 0 (take (ended_length * c.args.begun.count) c.args.kept.now)
-    (rw (length-take-le (ended_length * c.args.begun.count) c.args.kept.now c.requires.count_in_bounds) (omega (arith, c.requires.begun_in_bounds))))
+    (rw (length-take-le (ended_length * c.args.begun.count) c.args.kept.now c.requires.kept_lines) (omega (arith, c.requires.room))))

@@ -33,8 +33,8 @@ next c =
 pub step-state-requires : goal.step-state-requires
 step-state-requires c = record {
   within_bytes = c.loop-state.invariant.0;
-  at_in_bounds = (turn (goal.at.step-state-requires c).In-loop-state).1;
-  line_length_in_bounds = omega (arith, c.loop-state.invariant.2);
+  bytes_left = (turn (goal.at.step-state-requires c).In-loop-state).1;
+  room = omega (arith, c.loop-state.invariant.2);
 }
 
 pub loop-state-smaller : goal.loop-state-smaller

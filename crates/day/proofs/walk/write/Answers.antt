@@ -16,7 +16,7 @@ use Rattle.day.proofs.walk.write.Goals as goal
 
 pub loop-state-init : goal.loop-state-init
 loop-state-init c =
-    (wrote_none c.args.blocks.now c.args.from c.args.file.now c.requires.within_bytes c.requires.count_in_bounds, refl, refl, refl)
+    (wrote_none c.args.blocks.now c.args.from c.args.file.now c.requires.within_bytes c.requires.room, refl, refl, refl)
 
 pub overflow_sub-blocks : goal.overflow_sub-blocks
 overflow_sub-blocks c = c.loop-state.invariant.0.walked.within.inside
@@ -49,8 +49,8 @@ next c =
 pub step-next-requires : goal.step-next-requires
 step-next-requires c = record {
   within_bytes = c.loop-state.invariant.0.walked.within;
-  at_in_bounds = (turn (goal.at.step-next-requires c).In-loop-state).1;
-  line_length_in_bounds = omega (arith, c.loop-state.invariant.2);
+  bytes_left = (turn (goal.at.step-next-requires c).In-loop-state).1;
+  room = omega (arith, c.loop-state.invariant.2);
 }
 
 pub slice_bounds-keep-end : goal.slice_bounds-keep-end
@@ -59,8 +59,8 @@ slice_bounds-keep-end c =
 
 pub keep-requires : goal.keep-requires
 keep-requires c = record {
-  line_len = c.step-next.auto.lent ∙ c.loop-state.invariant.2;
-  k_in_bounds = place (turn (goal.at.keep-requires c).In-loop-state).2 c.loop-state.invariant.1;
+  whole_line = c.step-next.auto.lent ∙ c.loop-state.invariant.2;
+  room = place (turn (goal.at.keep-requires c).In-loop-state).2 c.loop-state.invariant.1;
 }
 
 pub loop-state-smaller : goal.loop-state-smaller
@@ -69,7 +69,7 @@ loop-state-smaller c = (next (goal.at.loop-state-smaller c).After-step-next).les
 pub loop-state-preserved : goal.loop-state-preserved
 loop-state-preserved c =
     let e = next (goal.at.loop-state-preserved c).After-step-next in (
-      wrote_on c.args.blocks.now c.args.from c.loop-state.state c.step-next.result c.args.file.now c.loop-state.file _ c.requires.count_in_bounds c.loop-state.invariant.0 e.walked
+      wrote_on c.args.blocks.now c.args.from c.loop-state.state c.step-next.result c.args.file.now c.loop-state.file _ c.requires.room c.loop-state.invariant.0 e.walked
           (e.written _ c.loop-state.file _ (λ z. c.step-next.ensures.lent_after z ∙ ap (λ (end : List ℕ). block_line (next_block c.args.blocks.now c.loop-state.state) ++ end) c.loop-state.invariant.3) c.keep.ensures)
           (room-left (turn (goal.at.loop-state-preserved c).In-loop-state).2 e.one),
       c.keep.auto.file ∙ c.loop-state.invariant.1,
@@ -83,5 +83,5 @@ shape_of-file c = c.loop-state.invariant.1
 pub returns : goal.returns
 returns c = record {
   wrote = c.loop-state.invariant.0;
-  ended_length_value = c.loop-state-test.false;
+  stopped = c.loop-state-test.false;
 }
