@@ -36,10 +36,10 @@ export LINE_ARCHIVE := $(CURDIR)/$(ARCHIVE)
 CARGO := cargo --offline
 # The folder of the prover's small files, in memory where they can be there: a disk takes longer to make and remove them than a small crate takes to prove.
 PROVER_TMP ?= $(shell tests/memory.sh)
-RT = $(if $(PROVER_TMP),TMPDIR="$$(cd "$(PROVER_TMP)" && pwd)" )rt
+IN_MEMORY = $(if $(PROVER_TMP),TMPDIR="$$(cd "$(PROVER_TMP)" && pwd)" )
+RT = $(IN_MEMORY)rt
 # The same with a line for each crate that is proved, and the rest in a log.
-TOOL = $(if $(PROVER_TMP),TMPDIR="$$(cd "$(PROVER_TMP)" && pwd)" )
-PROVE = $(TOOL)tools/prove
+PROVE = $(IN_MEMORY)tools/prove
 INSTALLED := $(DESTDIR)$(abspath $(PREFIX))
 # What the archive is made of: every crate but the programs. What rt keeps in out/ is no source.
 SOURCES := crates.txt $(shell find crates \( -name must-fail -o -name out \) -prune -o -path crates/trackline -prune -o -path crates/bench -prune -o -type f -print)
@@ -99,7 +99,7 @@ test: beside proofs
 
 # rt ci also refuses a file that is not laid out as rt fmt does.
 proofs: rt-there
-	$(TOOL)tools/gate
+	$(IN_MEMORY)tools/gate
 
 # What the tests are of is proved at once, and not for the archive and then for the programs.
 side-by-side: rt-there

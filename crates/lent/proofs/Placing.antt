@@ -87,20 +87,7 @@ length-placed d at s h =
     whole : (a s n : ℕ) → a + s ≤ n → a + (s + (n - (a + s))) ≡ n
     whole a s n h = omega arith
 
--- a part into which a text was copied, put back
-pub put-part : (d text part : List ℕ) (at : ℕ) → at + length text ≤ length d
-    → part ≡ take (length text) text ++ drop (length text) (mid_of at (at + length text - at) d)
-    → put_mid at (at + length text - at) d part ≡ placed d at text
-unfolding placed
-put-part d text part at h e =
-    ap₂ (λ (x y : List ℕ). take at d ++ (x ++ y))
-    (e ∙ ap₂ ◌++◌ (take-length text) (drop_of_length-le (mid_of at (at + length text - at) d) (le_of_eq (mid_len at (at + length text) d h ∙ width))) ∙ append-nil text)
-    (drop-drop (at + length text - at) at d ∙ ap (λ (n : ℕ). drop n d) (ap (λ (n : ℕ). at + n) width))
-  where
-    width : at + length text - at ≡ length text
-    width = omega arith
-
--- a part into which a text was copied, put back
+-- a text that takes a whole part, put back
 pub put-copied : (d text part : List ℕ) (at : ℕ) → at + length text ≤ length d
     → part ≡ text
     → put_mid at (at + length text - at) d part ≡ placed d at text
@@ -109,6 +96,17 @@ put-copied d text part at h e =
     ap₂ (λ (x y : List ℕ). take at d ++ (x ++ y))
     e
     (drop-drop (at + length text - at) at d ∙ ap (λ (n : ℕ). drop n d) (ap (λ (n : ℕ). at + n) width))
+  where
+    width : at + length text - at ≡ length text
+    width = omega arith
+
+-- a part into which a text was copied, put back
+pub put-part : (d text part : List ℕ) (at : ℕ) → at + length text ≤ length d
+    → part ≡ take (length text) text ++ drop (length text) (mid_of at (at + length text - at) d)
+    → put_mid at (at + length text - at) d part ≡ placed d at text
+put-part d text part at h e =
+    put-copied d text part at h
+    (e ∙ ap₂ ◌++◌ (take-length text) (drop_of_length-le (mid_of at (at + length text - at) d) (le_of_eq (mid_len at (at + length text) d h ∙ width))) ∙ append-nil text)
   where
     width : at + length text - at ≡ length text
     width = omega arith
