@@ -17,8 +17,8 @@ SAID = re.compile(r'\bretired\b')
 
 # the places where numbers are given: their files, and how a number stands there
 PLACES = {
-    'rules': ('crates/*/specs/**/*.antt', r'\b(\d+) when\b|\.Refused (\d+)\b|\bnumber = (\d+)\b'),
-    'code': ('crates/*/src/**/*.rt', r'\b(?:when|[Rr]efused)\((\d+)(?:_?u\d+)?\b|\b(?:number|refusal): (\d+)(?:_?u\d+)?\b|\breturn (\d+)(?:_?u\d+)?;'),
+    'rules': ('crates/*/specs/**/*.antt', r'\b(\d+) when\b|\.Refused (\d+)\b|\bnumber = (\d+)\b|(?m:^paper_number Refusal\.\w+ = (\d+)$)'),
+    'code': ('crates/*/src/**/*.rt', r'(?m)^    [A-Z]\w+ = (\d+)(?:_?u\d+)?,$|\b(?:number|refusal): (\d+)(?:_?u\d+)?\b|\breturn (\d+)(?:_?u\d+)?;'),
     'header': ('include/trackline.h', r'\bX\((\d+),|\bTRACKLINE_\w+ = (\d+)\b'),
     'card': ('docs/REFUSALS.md', r'(?m)^\| (\d+) \|'),
     'pages': ('man/*.[1-8]', r'(?m)^\.B (\d+)$'),
@@ -49,7 +49,7 @@ TIMES = 'docs/SPEED.md'
 EXCEPTIONS = {
     'docs/ARCHITECTURE.md': ('| 10 | `labels::refusal`', 'rooms 10 to 12'),
     'docs/CLAUSES.md': ('`mutant 10 for the largest values',),
-    'docs/DECISIONS.md': ('**10.** The contract of an answer enum', '`steps` is one definition, 10,', 'are 10 and 1105 divided by 5'),
+    'docs/DECISIONS.md': ('**10.** The contract of an answer is its reply', '`steps` is one definition, 10,', 'are 10 and 1105 divided by 5'),
     'docs/evidence/definitions.md': ('Characters 10 |',),
     'docs/LAST-DIGIT.md': ('parts of a picosecond that are kept, is 10', '| 10 | 0150 |'),
     'docs/REFUSALS.md': ('without blocks 10 to 39',),
@@ -167,9 +167,10 @@ class Retired(unittest.TestCase):
     def test_changed_copies(self):
         for name, old, new in (
                 ('crates/path/specs/Path.antt', '24 when', '10 when'),
-                ('crates/path/src/lib.rt', 'when(24', 'when(10'),
-                ('crates/fit/src/results.rt', 'Found::Refused(refusal)', 'Found::Refused(10)'),
-                ('crates/path/src/lib.rt', 'when(24', 'when(10_u32'),
+                ('crates/limits/src/refusal.rt', 'Coordinate = 24,', 'Coordinate = 10,'),
+                ('crates/limits/src/refusal.rt', '    Length = 11,\n', '    Corrected = 10,\n    Length = 11,\n'),
+                ('crates/limits/specs/Numbers.antt', 'Refusal.Coordinate = 24', 'Refusal.Coordinate = 10'),
+                ('crates/limits/src/refusal.rt', 'Coordinate = 24,', 'Coordinate = 10_u32,'),
                 ('include/trackline.h', 'X(11, ', 'X(10, TRACKLINE_CORRECTED, "again") X(11, '),
                 ('include/trackline.h', '#define TRACKLINE_MOST_DSG 9999\n', '#define TRACKLINE_MOST_DSG 9999\n#define TRACKLINE_SHORT 10\n'),
                 ('include/trackline.h', 'enum trackline_refusal {\n', 'enum trackline_refusal {\n    TRACKLINE_OTHER = 10,\n'),

@@ -3,22 +3,33 @@
 // should be, and marks a difference with WRONG; the last row counts them. That it is safe and ends is proved, no more.
 #![tactic(auto)]
 
-mod counts;
 mod document_cases;
-mod lines;
-mod print;
 mod published;
 mod replies;
+mod report;
 
-use counts::Tally;
-use document_cases::{
-    fit_cases, long_line_cases, scatter_cases, short_line_cases, smooth_cases, start_cases,
-};
+use document_cases::{fit_cases, line_cases, scatter_cases, smooth_cases, start_cases};
 use published::published_cases;
+use report::Report;
+use std::alloc::Global;
+use std::io;
+use std::io::{Read, Write};
 
+fn run<W: Write + Drop>(alloc: Global, input: &[u8], to: W) -> io::Result<()> {
+    let mut report = Report::new(alloc, to);
+    smooth_cases(&mut report)?;
+    fit_cases(&mut report)?;
+    scatter_cases(&mut report)?;
+    start_cases(&mut report)?;
+    line_cases(&mut report)?;
+    published_cases(&mut report, input)?;
+    report.end()
+}
+
+// A read that fails counts as the end of the input, and a write that fails goes unnoticed.
 fn main(rt: HostRuntime) {
-    let to = rt.stdout();
-    let fits = scatter_cases(to, fit_cases(to, smooth_cases(to, Tally::new())));
-    let lines = long_line_cases(to, short_line_cases(to, start_cases(to, fits)));
-    published_cases(rt.stdin(), to, lines).print(to);
+    let alloc = rt.alloc();
+    let mut input = Vec::new(alloc);
+    let _ = rt.stdin().read_to_end(&mut input);
+    let _ = run(alloc, &input, rt.stdout());
 }

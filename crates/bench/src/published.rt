@@ -1,40 +1,23 @@
 // The lines that the format documents print, read from standard input: tests/published/expected.py writes them there.
 // A record of 240 bytes has the case in 24 characters, the labels as bytes 4 to 25 of a hire block, the ten numbers in
 // their fixed order, Line's answer in one byte, and what 113 lent bytes then hold.
-ghost use Rattle.std.specs.Prelude.{◌≡◌, length};
-
-use crate::counts::Tally;
-use crate::lines::{FILL, report_line};
-use crate::replies::{Operation, close, opened};
+use crate::report::{FILL, Report};
 use decode::signed64;
 use line::{Labels, Numbers};
-use std::io::{Read, Stdin, Stdout};
+use std::io;
+use std::io::Write;
 
 const RECORD: usize = 240;
 
-// A bound, so that the reading ends. No input has as many.
-const MOST_RECORDS: u32 = 1000;
-
-// Reads until the buffer is full, the input ends or a read fails, and gives how many bytes stand at the buffer's front.
-fn read_full(from: &mut Stdin, buffer: &mut [u8]) -> usize {
-    let mut done = 0;
-    while done < buffer.len() {
-        match from.read(&mut buffer[done..]) {
-            Ok(0) | Err(_) => return done,
-            Ok(n) => done += n,
-        }
-    }
-    done
-}
+// More records than any input has.
+const MOST_RECORDS: usize = 1000;
 
 // The labels stand in a record as in a hire block that begins at its byte 20.
-fn labels(record: &[u8]) -> Labels
-    requires { length «record».now ≡ 240 }
-{
+fn labels(record: &[u8; RECORD]) -> Labels {
     hire::labels(&record[20..])
 }
 
-fn numbers(record: &[u8; 240]) -> Numbers {
+fn numbers(record: &[u8; RECORD]) -> Numbers {
     Numbers {
         refsv: signed64(record, 46),
         srsv: signed64(record, 54),
@@ -49,41 +32,24 @@ fn numbers(record: &[u8; 240]) -> Numbers {
     }
 }
 
-// The parts of a record beside what Line gave.
-fn report_record(to: Stdout, record: &[u8], number: u32, lent: &[u8]) -> bool
-    requires { length «record».now ≡ 240 }
-{
-    report_line(
-        to,
-        &record[0..24],
-        number,
-        lent,
-        record[126],
+fn try_record<W: Write + Drop>(report: &mut Report<W>, record: &[u8; RECORD]) -> io::Result<()> {
+    let mut lent = [FILL; 113];
+    let answer = line::line(labels(record), numbers(record), &mut lent);
+    report.line(
+        &record[..24],
+        answer,
+        &lent,
+        record[126] as u32,
         &record[127..],
     )
 }
 
-fn try_line(to: Stdout, record: &[u8; 240]) -> bool {
-    let mut lent = [FILL; 113];
-    let number = line::line(labels(record), numbers(record), &mut lent);
-    report_record(to, record, number, &lent)
-}
-
-pub fn published_cases(mut from: Stdin, to: Stdout, tally: Tally) -> Tally {
-    let mut all = tally;
-    let mut records: u32 = 0;
-    while records < MOST_RECORDS {
-        let mut record = [0u8; RECORD];
-        let n = read_full(&mut from, &mut record);
-        if n == 0 {
-            return all;
-        }
-        if n < RECORD {
-            close(to, opened(Operation::Line, b"a record is cut off"), false);
-            return all.with(false);
-        }
-        all = all.with(try_line(to, &record));
-        records += 1;
+pub fn published_cases<W: Write + Drop>(report: &mut Report<W>, input: &[u8]) -> io::Result<()> {
+    for part in input.chunks(RECORD).take(MOST_RECORDS) {
+        let Some(record) = part.first_chunk::<RECORD>() else {
+            return report.cut_off();
+        };
+        try_record(report, record)?;
     }
-    all
+    Ok(())
 }

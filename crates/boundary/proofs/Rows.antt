@@ -1,6 +1,6 @@
 -- What is answered where a row of values is lent, and what stands in it afterwards (specs/Values.antt).
 -- Assumes nothing.
-use mathlib.Core.Path.{◌≡◌, sym, ap, ap₂, ◌∙◌}
+use mathlib.Core.Path.{◌≡◌, sym, ap, ap₂, subst, ◌∙◌}
 use mathlib.Core.List.{List}
 use Prim.Native.Nat.{ℕ, ◌<◌}
 use native.Mathlib.Nat.{ne_of_gt}
@@ -10,7 +10,27 @@ use lib.IntN.{ℤ}
 use lib.ListN.{length}
 use Rattle.limits.specs.Refusal.{◌when◌, ◌then◌}
 use Rattle.limits.proofs.Laws.{then-refused, then-passed, after-refused, lent-kept}
+use Rattle.std.specs.Prelude.{Result, Ok, Err}
+use Rattle.limits.specs.Reply.{reply}
+use Rattle.limits.specs.Numbers.{paper_number, number_of, reply_of}
+use Rattle.limits.specs.declared.refusal.Refusal.{Refusal}
+use Rattle.limits.proofs.Replies.{reply-values}
+use Rattle.limits.proofs.Cases.{paper_above_zero}
 use Rattle.boundary.specs.Values.{row_after, refused_after}
+
+-- ---- what is told by an answer that is accepted, where its reply is known
+
+module _ {A : Type 0} (zeros values : A) (number : ℕ) where
+  pub accepted : {answer : Result A Refusal} {x : A} → answer ≡ Ok x → reply_of zeros answer ≡ reply zeros number values → (0 ≡ number) × (x ≡ values)
+  accepted e told =
+      let v = reply-values zeros values number (sym (ap (reply_of zeros) e) ∙ told) in
+      (sym v.0, v.1)
+
+-- a refusal is above 0
+pub above_zero : {A : Type 0} {answer : Result A Refusal} {r : Refusal} → answer ≡ Err r → 0 < number_of answer
+above_zero {r = r} e = subst (λ (a : Result _ Refusal). 0 < number_of a) (sym e) (paper_above_zero r)
+
+-- ---- rows
 
 -- a refusal leaves the row as it was lent
 pub row_kept : (answer : ℕ) (values lent : List ℤ) → 0 < answer → row_after answer values lent ≡ lent

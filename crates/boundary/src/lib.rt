@@ -2,6 +2,7 @@
 // delays by date, a day at once, Path, and lines down to version 01 and up. Each is one call, and its contract is that call's; what the reader,
 // common view or a lookup hands back goes to a lent row, a length or an index to a lent place.
 // include/trackline.h declares them; the archive is made of this crate.
+// Kept: numbers one by one, and a refusal as its number, as C has them.
 #![tactic(auto)]
 
 ghost use Rattle.std.specs.Prelude.{◌≡◌, suc, length};
@@ -23,12 +24,11 @@ ghost use Rattle.version01.specs.Convert.{down_answer, down_after, up_answer, up
 ghost use Rattle.boundary.specs.Values.{refused_after, read_answer, read_after, view_answer, view_after, delays_answer, delays_after};
 ghost use Rattle.path.specs.Path.{path_number, length_of};
 
-use day::Written;
-use delays::{Appended, Delays};
-use files::{Merged, View};
+use delays::Delays;
+use labels::Supplied;
+use limits::reply_number;
 use line::{Labels, Numbers};
-use path::{Measured, Point};
-use reader::Reading;
+use path::Point;
 
 mod values;
 
@@ -36,7 +36,7 @@ mod values;
 pub extern "C" fn trackline_start(mjd: u32, second: u32) -> u32
     ensures { result ≡ start_number mjd second }
 {
-    schedule::start(mjd, second)
+    reply_number(schedule::start(mjd, second))
 }
 
 #[unsafe(no_mangle)]
@@ -46,7 +46,7 @@ pub extern "C" fn trackline_block(block: &[u8], lent: &mut [u8]) -> u32
     ensures accurate { result ≡ 0 → AccurateTrack steps (blocks_in block.now) (block_given block.now)
         (read_numbers lent.new) }
 {
-    line::block(block, lent)
+    reply_number(line::block(block, lent))
 }
 
 #[unsafe(no_mangle)]
@@ -112,7 +112,7 @@ pub extern "C" fn trackline_line(
         dsg,
         trkl,
     };
-    line::line(labels, numbers, lent)
+    reply_number(line::line(labels, numbers, lent))
 }
 
 // The values of a line go to the first 23 of the lent places.
@@ -121,12 +121,12 @@ pub extern "C" fn trackline_read(line: &[u8], lent: &mut [i64]) -> u32
     ensures answer { result ≡ read_answer line.now (length lent.old) }
     ensures written { lent.new ≡ read_after line.now lent.old }
 {
-    let reading = reader::read(line);
-    let Reading::Line { labels, numbers } = reading else {
-        return reader::reading_number(reading);
+    let answer = reader::read(line);
+    let Ok(reading) = answer else {
+        return reply_number(answer);
     };
-    let row = values::values(labels, numbers);
-    values::put(&row, lent)
+    let row = values::values(reading);
+    reply_number(values::put(&row, lent))
 }
 
 // Where the comment begins: what is left of the line before it.
@@ -150,9 +150,9 @@ pub extern "C" fn trackline_merge(
     ensures file { file.new ≡ merge_after first.now second.now file.old }
     ensures written { written.new ≡ after result (length (merged_file first.now second.now)) written.old }
 {
-    let merged = files::merge(first, second, file);
-    let Merged::Bytes(bytes) = merged else {
-        return files::merged_number(merged);
+    let answer = files::merge(first, second, file);
+    let Ok(bytes) = answer else {
+        return reply_number(answer);
     };
     *written = bytes;
     0
@@ -173,13 +173,16 @@ pub extern "C" fn trackline_day(
     ensures lines { result ≡ 0 → LinesOfDay blocks.now file.new }
     ensures accurate { result ≡ 0 → AccurateDay blocks.now file.new }
 {
-    let answer = day::day(blocks, file);
-    let Written::Bytes(file_length) = answer else {
-        *block = day::written_block(answer);
-        return day::written_number(answer);
-    };
-    *written = file_length;
-    0
+    match day::day(blocks, file) {
+        Ok(file_length) => {
+            *written = file_length;
+            0
+        }
+        Err(rejected) => {
+            *block = rejected.block;
+            u32::from(rejected.refusal)
+        }
+    }
 }
 
 // The report on two files goes to the first four of the lent places.
@@ -188,18 +191,17 @@ pub extern "C" fn trackline_view(first: &[u8], second: &[u8], lent: &mut [i64]) 
     ensures answer { result ≡ view_answer first.now second.now (length lent.old) }
     ensures written { lent.new ≡ view_after first.now second.now lent.old }
 {
-    let view = files::common_view(first, second);
-    let View::Report {
-        pairs,
-        sum,
-        smallest,
-        largest,
-    } = view
-    else {
-        return files::view_number(view);
+    let answer = files::common_view(first, second);
+    let Ok(figures) = answer else {
+        return reply_number(answer);
     };
-    let row = [pairs, sum, smallest, largest];
-    values::put(&row, lent)
+    let row = [
+        figures.pairs,
+        figures.sum,
+        figures.smallest,
+        figures.largest,
+    ];
+    reply_number(values::put(&row, lent))
 }
 
 // The delays in force at a date go to the first four of the lent places: INT, CAB, REF and GD.
@@ -208,18 +210,12 @@ pub extern "C" fn trackline_delays(store: &[u8], mjd: u32, lent: &mut [i64]) -> 
     ensures answer { result ≡ delays_answer store.now mjd (length lent.old) }
     ensures written { lent.new ≡ delays_after store.now mjd lent.old }
 {
-    let found = delays::lookup(store, mjd);
-    let Delays::Set {
-        int,
-        cab,
-        refdly,
-        gd,
-    } = found
-    else {
-        return delays::delays_number(found);
+    let answer = delays::lookup(store, mjd);
+    let Ok(delays) = answer else {
+        return reply_number(answer);
     };
-    let row = [int, cab, refdly, gd];
-    values::put(&row, lent)
+    let row = [delays.int, delays.cab, delays.refdly, delays.gd];
+    reply_number(values::put(&row, lent))
 }
 
 // The store with one entry more goes to the lent buffer, and its length to the lent place.
@@ -238,9 +234,15 @@ pub extern "C" fn trackline_append(
     ensures longer { longer.new ≡ append_after store.now mjd intdly cabdly refdly gd longer.old }
     ensures written { written.new ≡ after result (store_length_lem (version store.now) (suc (count store.now))) written.old }
 {
-    let appended = delays::append(store, mjd, intdly, cabdly, refdly, gd, longer);
-    let Appended::Bytes(length) = appended else {
-        return delays::appended_number(appended);
+    let delays = Delays {
+        int: intdly,
+        cab: cabdly,
+        refdly,
+        gd,
+    };
+    let answer = delays::append(store, mjd, delays, longer);
+    let Ok(length) = answer else {
+        return reply_number(answer);
     };
     *written = length;
     0
@@ -271,9 +273,9 @@ pub extern "C" fn trackline_path(
         y: ya,
         z: za,
     };
-    let measured = path::path(satellite, antenna);
-    let Measured::Length(millimetres) = measured else {
-        return path::measured_number(measured);
+    let answer = path::path(satellite, antenna);
+    let Ok(millimetres) = answer else {
+        return reply_number(answer);
     };
     *length = millimetres;
     0
@@ -285,7 +287,7 @@ pub extern "C" fn trackline_down(line: &[u8], old: &mut [u8]) -> u32
     ensures answer { result ≡ down_answer line.now (length old.old) }
     ensures written { old.new ≡ down_after line.now old.old }
 {
-    version01::down(line, old)
+    reply_number(version01::down(line, old))
 }
 
 // A line of version 01 in our form, with the HC and the FRC that are supplied, goes to the first 113 bytes of the lent line.
@@ -301,5 +303,11 @@ pub extern "C" fn trackline_up(
     ensures answer { result ≡ up_answer hc frc1 frc2 frc3 old.now (length line.old) }
     ensures written { line.new ≡ up_after hc frc1 frc2 frc3 old.now line.old }
 {
-    version01::up(old, hc, frc1, frc2, frc3, line)
+    let supplied = Supplied {
+        hc,
+        frc1,
+        frc2,
+        frc3,
+    };
+    reply_number(version01::up(old, supplied, line))
 }

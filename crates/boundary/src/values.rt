@@ -1,29 +1,32 @@
 // Rows of numbers that a C caller lends.
-ghost use Rattle.std.specs.Prelude.{◌≡◌, ◌≤◌, ◌++◌, ltb, length, drop};
+ghost use Rattle.std.specs.Prelude.{◌≡◌, ltb, length};
 ghost use Rattle.limits.specs.Refusal.{◌when◌};
+ghost use Rattle.limits.specs.Numbers.{number_of};
 ghost use Rattle.boundary.specs.Values.{row_after, values_of};
 
-use limits::Numbers;
-use line::Labels;
+use limits::Refusal;
+use reader::Reading;
 
 // The values of a line in the order in which C finds them.
-pub fn values(labels: Labels, numbers: Numbers) -> [i64; 23]
-    ensures { result ≡ values_of labels numbers }
+pub fn values(reading: Reading) -> [i64; 23]
+    ensures { result ≡ values_of reading.labels reading.numbers }
 {
+    let labels = reading.labels;
+    let numbers = reading.numbers;
     [
-        labels.constellation as i64,
-        labels.satellite as i64,
-        labels.cl as i64,
-        labels.fr as i64,
-        labels.hc as i64,
-        labels.frc1 as i64,
-        labels.frc2 as i64,
-        labels.frc3 as i64,
-        labels.mjd as i64,
-        labels.start as i64,
-        labels.elv as i64,
-        labels.azth as i64,
-        labels.ioe as i64,
+        i64::from(labels.constellation),
+        i64::from(labels.satellite),
+        i64::from(labels.cl),
+        i64::from(labels.fr),
+        i64::from(labels.hc),
+        i64::from(labels.frc1),
+        i64::from(labels.frc2),
+        i64::from(labels.frc3),
+        i64::from(labels.mjd),
+        i64::from(labels.start),
+        i64::from(labels.elv),
+        i64::from(labels.azth),
+        i64::from(labels.ioe),
         numbers.refsv,
         numbers.srsv,
         numbers.refsys,
@@ -37,24 +40,14 @@ pub fn values(labels: Labels, numbers: Numbers) -> [i64; 23]
     ]
 }
 
-// Copies a row over the first places of a longer one.
-fn copy(row: &[i64], lent: &mut [i64])
-    requires { length row.now ≤ length lent.old }
-    ensures { lent.new ≡ row.now ++ drop (length row.now) lent.old }
-{
-    for i in 0..row.len() {
-        lent[i] = row[i];
-    }
-}
-
-// Puts a row into the first of the lent places, and answers 0, or 9 where they are fewer.
-pub fn put(row: &[i64], lent: &mut [i64]) -> u32
-    ensures answer { result ≡ 9 when ltb (length lent.old) (length row.now) }
-    ensures written { lent.new ≡ row_after result row.now lent.old }
+// Puts a row into the first of the lent places, or refuses with 9 where they are fewer.
+pub fn put(row: &[i64], lent: &mut [i64]) -> Result<(), Refusal>
+    ensures answer { number_of result ≡ 9 when ltb (length lent.old) (length row.now) }
+    ensures written { lent.new ≡ row_after (number_of result) row.now lent.old }
 {
     if lent.len() < row.len() {
-        return 9;
+        return Err(Refusal::Lent);
     }
-    copy(row, lent);
-    0
+    lent::put(row, lent, 0);
+    Ok(())
 }

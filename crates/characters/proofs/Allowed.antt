@@ -112,6 +112,13 @@ allowed-cut (k ∷ kinds) [] e (suc n) h = absurd (false≢true e)
 allowed-cut (k ∷ kinds) (b ∷ line) e (suc n) h =
     let p = both (allows k b) _ e in ap₂ ◌&&◌ p.0 (allowed-cut kinds line p.1 n (le_of_suc-le-suc h))
 
+-- what stands behind the columns that the kinds name is not asked
+pub allowed-front : (kinds line : List ℕ) → allowed kinds (take (length kinds) line) ≡ allowed kinds line
+unfolding allowed
+allowed-front [] line = refl
+allowed-front (k ∷ kinds) [] = refl
+allowed-front (k ∷ kinds) (b ∷ line) = ap (λ (t : Bool). allows k b && t) (allowed-front kinds line)
+
 -- kinds and text behind each other
 pub allowed-append : (ks ms xs ys : List ℕ) → length ks ≡ length xs → allowed ks xs ≡ true → allowed ms ys ≡ true → allowed (ks ++ ms) (xs ++ ys) ≡ true
 unfolding allowed
@@ -157,14 +164,7 @@ row-overlapping ks ms ns line p q =
     twice true false z = refl
     twice false y z = refl
 
--- ---- the loops
-
--- one column more is tested
-pub allowed-turn : (kinds line : List ℕ) (i : ℕ) (fit : Bool) → i < length kinds → i < length line
-    → fit && allowed (drop i kinds) (drop i line) ≡ fit && allows (get_or kinds i 0) (get_or line i 0) && allowed (drop (i + 1) kinds) (drop (i + 1) line)
-unfolding allowed
-allowed-turn kinds line i fit h k =
-    rw (add-one, drop-cons kinds i 0 h, drop-cons line i 0 k) (sym (and_assoc fit _ _))
+-- ---- the loop over a comment
 
 -- one byte of the comment more
 pub printable-turn : (text : List ℕ) (i : ℕ) (fit : Bool) → i < length text
@@ -173,10 +173,6 @@ unfolding printable
 printable-turn text i fit h = rw (add-one, drop-cons text i 0 h) (sym (and_assoc fit _ _))
 
 -- none is left
-pub allowed-done : (kinds line : List ℕ) (i : ℕ) (fit : Bool) → length kinds ≤ i → fit && allowed (drop i kinds) (drop i line) ≡ fit
-unfolding allowed
-allowed-done kinds line i fit h = ap (λ (k : List ℕ). fit && allowed k (drop i line)) (drop_of_length-le kinds h) ∙ and-true fit
-
 pub printable-done : (text : List ℕ) (i : ℕ) (fit : Bool) → length text ≤ i → fit && printable (drop i text) ≡ fit
 unfolding printable
 printable-done text i fit h = ap (λ (t : List ℕ). fit && printable t) (drop_of_length-le text h) ∙ and-true fit

@@ -1,17 +1,18 @@
 -- The row of refusals of the characters (specs/Characters.antt) for any form of line: what it tells where it is 0, and what makes it 0.
 -- Assumes nothing.
-use mathlib.Core.Path.{◌≡◌, sym, ap, ◌∙◌}
+use mathlib.Core.Path.{◌≡◌, ap, ap₂, ◌∙◌}
 use mathlib.Core.Bool.{Bool, true, not, ◌||◌}
 use mathlib.Core.List.{List}
 use Prim.Native.Nat.{ℕ, ◌+◌, ◌≤◌}
-use native.Mathlib.Nat.{pos_of_ne-zero}
 use lib.Dec.{ltb}
 use lib.ListN.{length, drop}
 use borrow.Author.Tests.{ltb-false, le-ltb, not-false}
 use Rattle.limits.specs.Refusal.{◌when◌, ◌then◌}
-use Rattle.limits.proofs.Laws.{then-zero, then-refused, then-passed, then-assoc, when-zero, or-false}
+use Rattle.limits.proofs.Laws.{then-zero, when-zero, when-either, or-false}
 use Rattle.characters.specs.Kinds.{kinds, allowed, printable, checked}
 use Rattle.characters.specs.Characters.{characters_number}
+use Rattle.characters.specs.Forms.{columns_of, longest_of, kinds_of, form_number}
+use Rattle.characters.specs.declared.Form.{Form}
 
 pub record SpelledAs (width longest : ℕ) (kinds line : List ℕ) : Type 0 where
   pub least : width + 2 ≤ length line
@@ -44,25 +45,18 @@ unfolding characters_number ◌when◌ ◌then◌
 spelled-zero {columns} {longest} line s =
     simp (le-ltb (length line) (columns + 2) s.least, le-ltb longest (length line) s.most, s.check, s.columns, s.comment)
 
--- ---- the row in two parts: length and CK, then the characters
+-- ---- the row by the answers of the tests
 
-abbrev pub frame : (columns longest : ℕ) → List ℕ → ℕ
-frame columns longest line =
-    12 when (ltb (length line) (columns + 2) || ltb longest (length line)) then 14 when not (checked columns line)
-
--- what the frame is refused for is what the line is refused for
-pub frame_refused : {number : ℕ} (columns longest : ℕ) (table line : List ℕ) → number ≡ frame columns longest line → (number ≡ 0 → ⊥) → number ≡ characters_number columns longest table line
+-- the tests made with what the form says, and the last two joined
+pub row_is : {long wrong other : Bool} {columns longest : ℕ} (form : Form) (line : List ℕ) → columns ≡ columns_of form → longest ≡ longest_of form
+    → long ≡ ltb (length line) (columns + 2) || ltb longest (length line) → wrong ≡ not (checked columns line)
+    → other ≡ not (allowed (kinds_of form) line) || not (printable (drop (columns + 2) line))
+    → 12 when long then 14 when wrong then 13 when other ≡ form_number form line
 unfolding characters_number
-frame_refused {number} columns longest table line e h =
-    let rest = 13 when not (allowed table line) then 13 when not (printable (drop (columns + 2) line)) in
-    sym (then-refused number rest (pos_of_ne-zero h)) ∙ ap (λ (n : ℕ). n then rest) e ∙ then-assoc _ _ rest
-
--- where it is not, what the characters are refused for is
-pub frame-passed : {number text : ℕ} {fit : Bool} (columns longest : ℕ) (table line : List ℕ) → number ≡ frame columns longest line → number ≡ 0
-    → fit ≡ allowed table line → text ≡ 13 when not fit then 13 when not (printable (drop (columns + 2) line)) → text ≡ characters_number columns longest table line
-unfolding characters_number
-frame-passed columns longest table line e z f t =
-    let comment = 13 when not (printable (drop (columns + 2) line)) in
-    t ∙ ap (λ (b : Bool). 13 when not b then comment) f
-    ∙ sym (then-passed (frame columns longest line) _ (sym e ∙ z))
-    ∙ then-assoc _ _ _
+row_is form line p q e f g =
+    let l = e ∙ ap₂ (λ (m n : ℕ). ltb (length line) (m + 2) || ltb n (length line)) p q in
+    let w = f ∙ ap (λ (m : ℕ). not (checked m line)) p in
+    let o =
+    ap (λ (t : Bool). 13 when t) (g ∙ ap (λ (m : ℕ). not (allowed (kinds_of form) line) || not (printable (drop (m + 2) line))) p)
+    ∙ when-either 13 (not (allowed (kinds_of form) line)) (not (printable (drop (columns_of form + 2) line))) in
+    λ i. 12 when l i then 14 when w i then o i

@@ -3,35 +3,34 @@
 // characters are accepted is read by crate reading.
 #![tactic(auto)]
 
-ghost use Rattle.std.specs.Prelude.{◌≡◌, ◌+◌, ◌≤◌, not, ◌||◌, cond, ltb, ◌∷◌, length, take, drop};
-ghost use Rattle.limits.specs.Refusal.{◌when◌, ◌then◌};
-ghost use Rattle.characters.specs.Kinds.{within, letter_fits_lem, allows, kinds, old_kinds, allowed, printable, checked};
+ghost use Rattle.std.specs.Prelude.{◌≡◌, ◌+◌, ◌≤◌, ◌∷◌, length, take, drop};
+ghost use Rattle.limits.specs.Numbers.{number_of};
+ghost use Rattle.characters.specs.Kinds.{within, letter_fits_lem, allows, kinds, allowed, printable, checked};
 ghost use Rattle.characters.specs.Characters.{our_characters_number, old_characters_number};
+ghost use Rattle.characters.specs.Forms.{columns_of, longest_of, first_kind_of, kinds_of, form_number};
 
-use limits::{then, when};
+use limits::Refusal;
 
-// How long a line may be with its comment.
-const LONGEST: usize = 140;
-
-const OLD_LONGEST: usize = 128;
-
-// The columns before CK, and those of an old line.
-const COLUMNS: usize = 111;
-
-const OLD_COLUMNS: usize = 101;
+// A line of ours, or an old one.
+#[derive(Clone, Copy)]
+enum Form {
+    Ours,
+    Old,
+}
 
 fn within(low: u8, high: u8, b: u8) -> bool
     ensures { result ≡ within low high b }
 {
-    (low <= b) & (b <= high)
+    (low..=high).contains(&b)
 }
 
 fn letter_fits(b: u8) -> bool
     ensures { result ≡ letter_fits_lem b }
 {
-    (b == b'G') | (b == b'R') | (b == b'E') | (b == b'C') | (b == b'J')
+    matches!(b, b'G' | b'R' | b'E' | b'C' | b'J')
 }
 
+// Kept: a letter for a kind, as a row of them reads like the line that it is laid over.
 // Whether a column of this kind may hold the byte. The kinds are L a constellation letter, 9 a digit, F a hexadecimal digit, + a sign, Z a
 // character of FRC, and a space for itself.
 fn allows(kind: u8, b: u8) -> bool
@@ -48,12 +47,12 @@ fn allows(kind: u8, b: u8) -> bool
 
 // Whether the columns of these kinds hold what they may hold. No column ends the loop, so that many are tested at once.
 fn columns_fit(kinds: &[u8], line: &[u8]) -> bool
-    requires { length kinds.now ≤ length line.now }
+    requires { length kinds.now ≡ length line.now }
     ensures { result ≡ allowed kinds.now line.now }
 {
     let mut fit = true;
-    for i in 0..kinds.len() {
-        fit = fit & allows(kinds[i], line[i]);
+    for (&kind, &b) in kinds.iter().zip(line) {
+        fit = fit & allows(kind, b);
     }
     fit
 }
@@ -63,7 +62,7 @@ fn row_fits(kinds: &[u8], before: usize, line: &[u8]) -> bool
     requires { before + length kinds.now ≤ length line.now }
     ensures { result ≡ allowed kinds.now (drop before line.now) }
 {
-    columns_fit(kinds, &line[before..])
+    columns_fit(kinds, &line[before..before + kinds.len()])
 }
 
 // Whether all bytes of a comment may stand there.
@@ -71,8 +70,8 @@ fn comment_fits(text: &[u8]) -> bool
     ensures { result ≡ printable text.now }
 {
     let mut fit = true;
-    for i in 0..text.len() {
-        fit = fit & within(0x20, 0x7E, text[i]);
+    for &b in text {
+        fit = fit & within(0x20, 0x7E, b);
     }
     fit
 }
@@ -84,27 +83,6 @@ fn checked(columns: usize, line: &[u8]) -> bool
 {
     let sum = fields::checksum(&line[..columns]);
     (line[columns] == fields::hex_digit(sum / 16)) & (line[columns + 1] == fields::hex_digit(sum))
-}
-
-// 12 and 14, of a line with so many columns before CK. Where there is neither, the columns and CK are there.
-fn frame_refusal(columns: usize, longest: usize, line: &[u8]) -> u32
-    requires { columns ≤ 111 }
-    ensures { (result ≡ 12 when (ltb (length line.now) (columns + 2) || ltb longest (length line.now)) then 14 when not (checked columns line.now))
-        × (result ≡ 0 → columns + 2 ≤ length line.now) }
-{
-    if (line.len() < columns + 2) | (longest < line.len()) {
-        return 12;
-    }
-    when(14, !checked(columns, line))
-}
-
-// 13, but for what the values of the fields tell, where it is known whether the columns hold what they may hold.
-fn text_refusal(fit: bool, columns: usize, line: &[u8]) -> u32
-    requires { columns + 2 ≤ length line.now }
-    ensures { result ≡ 13 when not fit then 13 when not (printable (drop (columns + 2) line.now)) }
-{
-    let comment = comment_fits(&line[columns + 2..]);
-    then(when(13, !fit), when(13, !comment))
 }
 
 // Whether columns 1 to 96, the first of which is of this kind, hold what they may hold. A row is sixteen columns, as the compiler tests so
@@ -123,44 +101,78 @@ fn first_fit(kind: u8, line: &[u8]) -> bool
         & row_fits(b" 9999 +999 9999 ", 80, line)
 }
 
-// The kind of column 1 of a line of ours, or of an old one.
-fn first_kind(old: bool) -> u8
-    ensures { result ≡ cond old 32 76 }
-{
-    if old { b' ' } else { b'L' }
-}
-
-// Whether the columns before CK of a line of ours, or of an old one, hold what they may hold. The last row has sixteen columns too, so that
-// column 96 is tested twice, and of an old line columns 86 to 96.
-fn kinds_fit(old: bool, line: &[u8]) -> bool
-    requires { cond old 101 111 ≤ length line.now }
-    ensures { result ≡ allowed (cond old old_kinds kinds) line.now }
-{
-    let first = first_fit(first_kind(old), line);
-    if old {
-        return first & row_fits(b" +999 9999 +999 ", 85, line);
+impl Form {
+    // How many columns stand before CK.
+    fn columns(self) -> usize
+        ensures { result ≡ columns_of self }
+    {
+        match self {
+            Form::Ours => 111,
+            Form::Old => 101,
+        }
     }
-    first & row_fits(b" +999 99 99 ZZZ ", 95, line)
+
+    // How long a line may be with its comment.
+    fn longest(self) -> usize
+        ensures { result ≡ longest_of self }
+    {
+        match self {
+            Form::Ours => 140,
+            Form::Old => 128,
+        }
+    }
+
+    // The kind of column 1.
+    fn first_kind(self) -> u8
+        ensures { result ≡ first_kind_of self }
+    {
+        match self {
+            Form::Ours => b'L',
+            Form::Old => b' ',
+        }
+    }
+
+    // Whether the columns before CK hold what they may hold. The last row has sixteen columns too, so that column 96 is tested twice, and of an
+    // old line columns 86 to 96.
+    fn kinds_fit(self, line: &[u8]) -> bool
+        requires { columns_of self ≤ length line.now }
+        ensures { result ≡ allowed (kinds_of self) line.now }
+    {
+        let first = first_fit(self.first_kind(), line);
+        match self {
+            Form::Ours => first & row_fits(b" +999 99 99 ZZZ ", 95, line),
+            Form::Old => first & row_fits(b" +999 9999 +999 ", 85, line),
+        }
+    }
+
+    // 12, 14 and 13 of a line.
+    fn refusal(self, line: &[u8]) -> Result<(), Refusal>
+        ensures { number_of result ≡ form_number self line.now }
+    {
+        let columns = self.columns();
+        if (line.len() < columns + 2) | (self.longest() < line.len()) {
+            return Err(Refusal::LineLength);
+        }
+        if !checked(columns, line) {
+            return Err(Refusal::Checksum);
+        }
+        if !self.kinds_fit(line) | !comment_fits(&line[columns + 2..]) {
+            return Err(Refusal::Character);
+        }
+        Ok(())
+    }
 }
 
 // 12, 14 and 13 of a line of ours.
-pub fn refusal(line: &[u8]) -> u32
-    ensures { result ≡ our_characters_number line.now }
+pub fn refusal(line: &[u8]) -> Result<(), Refusal>
+    ensures { number_of result ≡ our_characters_number line.now }
 {
-    let frame = frame_refusal(COLUMNS, LONGEST, line);
-    if frame != 0 {
-        return frame;
-    }
-    text_refusal(kinds_fit(false, line), COLUMNS, line)
+    Form::Ours.refusal(line)
 }
 
 // The same of an old line, whose first column is blank.
-pub fn old_refusal(old: &[u8]) -> u32
-    ensures { result ≡ old_characters_number old.now }
+pub fn old_refusal(old: &[u8]) -> Result<(), Refusal>
+    ensures { number_of result ≡ old_characters_number old.now }
 {
-    let frame = frame_refusal(OLD_COLUMNS, OLD_LONGEST, old);
-    if frame != 0 {
-        return frame;
-    }
-    text_refusal(kinds_fit(true, old), OLD_COLUMNS, old)
+    Form::Old.refusal(old)
 }

@@ -21,7 +21,7 @@ pub const ENDED_LENGTH: usize = LINE_LENGTH + 2;
 pub fn write(labels: Labels, numbers: Numbers, lent: &mut [u8])
     ensures { lent.new ≡ placed_within lent.old 0 (line_text labels numbers) }
 {
-    if LINE_LENGTH <= lent.len() {
-        put::put_line(&mut lent[..LINE_LENGTH], labels, numbers);
+    if let Some(line) = lent.first_chunk_mut() {
+        put::put_line(line, labels, numbers);
     }
 }

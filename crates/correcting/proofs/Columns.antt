@@ -7,8 +7,9 @@ use Prim.Native.Nat.{ℕ, ◌+◌, ◌≤◌, ◌<◌}
 use native.Mathlib.Omega.{arith}
 use lib.IntN.{ℤ, pos}
 use lib.ListN.{length, drop, get_or, drop_of_length-le}
+use Rattle.correcting.specs.declared.inputs.Corrections.{Corrections}
 use Rattle.correcting.specs.Correct.{geometry_limit}
-use Rattle.correcting.specs.Block.{group_beyond_lem}
+use Rattle.correcting.specs.Block.{group_beyond}
 use Rattle.limits.specs.Limits.{beyond, delay_limit}
 use Rattle.limits.specs.Lists.{any_outside_lem, any_beyond_lem}
 use Rattle.limits.proofs.Lists.{any-from}
@@ -18,6 +19,11 @@ abbrev pub From : (g r i t k : List ℤ) → ℕ → Bool
 From g r i t k j =
     any_beyond_lem geometry_limit (drop j g) || any_beyond_lem delay_limit (drop j r) || any_beyond_lem delay_limit (drop j i) || any_beyond_lem delay_limit (drop j t)
     || any_beyond_lem delay_limit (drop j k)
+
+-- the same of the columns that the code passes
+abbrev pub rest_from : Corrections → ℕ → Bool
+rest_from corrections j =
+    From corrections.geometry.now corrections.relativity.now corrections.ionosphere.now corrections.troposphere.now corrections.clock.now j
 
 mix : (a x b y : Bool) → (a || x) || (b || y) ≡ (a || b) || (x || y)
 mix true x b y = refl
@@ -32,7 +38,15 @@ all a b c d e u v w x y =
 
 module _ (g r i t k : List ℤ) (same : (length r ≡ length g) × (length i ≡ length g) × (length t ≡ length g) × (length k ≡ length g)) (j : ℕ) where
   pub from_row : j < length g
-      → From g r i t k j ≡ group_beyond_lem (get_or g j (pos 0)) (get_or r j (pos 0)) (get_or i j (pos 0)) (get_or t j (pos 0)) (get_or k j (pos 0)) || From g r i t k (j + 1)
+      → From g r i t k j
+      ≡ group_beyond (record {
+        geometry = get_or g j (pos 0);
+        relativity = get_or r j (pos 0);
+        ionosphere = get_or i j (pos 0);
+        troposphere = get_or t j (pos 0);
+        clock = get_or k j (pos 0);
+      })
+      || From g r i t k (j + 1)
   from_row h =
       let r' : j < length r = omega (arith, same) in
       let i' : j < length i = omega (arith, same) in

@@ -1,62 +1,54 @@
 -- What the answer to one block tells (specs/Block.antt), where its smoothed value and the delays are inside their limits.
 -- Assumes nothing.
-use mathlib.Core.Path.{◌≡◌, refl, ap, ◌∙◌}
+use mathlib.Core.Path.{◌≡◌, refl, sym, ap, ◌∙◌}
 use mathlib.Core.Bool.{Bool, true, false, ◌||◌, or-false}
-use mathlib.Core.List.{[], ◌∷◌}
-use Prim.Native.Nat.{ℕ}
-use native.Mathlib.Omega.{arith}
-use lib.IntN.{ℤ, pos, ◌*ℤ◌}
+use native.Mathlib.Nat.{ne_of_gt}
+use mathlib.Core.List.{List}
+use Prim.Native.Nat.{ℕ, ◌+◌, ◌*◌}
+use lib.IntN.{ℤ}
+use Rattle.std.specs.Prelude.{Ok, Err}
 use Rattle.limits.specs.Refusal.{◌when◌}
 use Rattle.limits.specs.Limits.{beyond, delays_beyond_lem}
+use Rattle.limits.specs.Reply.{reply}
+use Rattle.limits.specs.Numbers.{paper_number, reply_of}
+use Rattle.limits.specs.declared.Delays.{Delays}
+use Rattle.limits.specs.declared.refusal.Refusal.{Refusal}
+use Rattle.limits.proofs.Cases.{paper_above_zero, value_of_reply}
+use Rattle.limits.proofs.Laws.{when-zero, when-some}
 use Rattle.series.specs.Fit.{value_limit}
-use Rattle.exact.specs.Corrected.{Given, steps, to_a, to_b}
-use Rattle.correcting.specs.declared.BlockValues.{BlockValues}
-use Rattle.correcting.specs.Correct.{given}
-use Rattle.correcting.specs.Block.{block_values, group_beyond_lem, block_values_rule}
+use Rattle.series.specs.Smooth.{smoothed}
+use Rattle.whole.specs.Table.{at}
+use Rattle.exact.specs.Corrected.{block, to_a, to_b}
+use Rattle.correcting.specs.declared.inputs.Corrections.{Corrections}
+use Rattle.correcting.specs.Correct.{smoothed_at, value_a, value_b, value_c, value_d}
+use Rattle.correcting.specs.Given.{given_of, group_at}
+use Rattle.correcting.specs.declared.correction.Values.{Values}
+use Rattle.correcting.specs.declared.inputs.Group.{Group}
+use Rattle.correcting.specs.Block.{no_values, group_beyond, values_of, block_values_rule}
 
--- the delays and one group of corrections
-abbrev pub alone : (int cab refdly gd geometry relativity ionosphere troposphere clock : ℤ) → Given
-alone int cab refdly gd geometry relativity ionosphere troposphere clock =
-    given [] int cab refdly gd (geometry ∷ []) (relativity ∷ []) (ionosphere ∷ []) (troposphere ∷ []) (clock ∷ [])
+-- the values of block j of what a track is given
+pub block-values : (l : List ℤ) (delays : Delays) (corrections : Corrections) (j : ℕ)
+    → let g = given_of l delays corrections in
+    values_of (smoothed (λ i. at l (15 * j + i))) delays (group_at corrections j)
+    ≡ record { a = value_a g j; b = value_b g j; c = value_c g j; d = value_d g j }
+unfolding value_a value_b value_c value_d smoothed_at block to_a to_b
+block-values l delays corrections j = refl
 
-module _ (y int cab refdly gd g r i t k : ℤ) (inside : beyond value_limit y ≡ false) (delays : delays_beyond_lem int cab refdly gd ≡ false) {x : BlockValues}
-    (e : x ≡ block_values_rule y int cab refdly gd g r i t k) where
-  abbrev G : Given
-  G = alone int cab refdly gd g r i t k
-
+module _ (y : ℤ) (delays : Delays) (group : Group) (inside : beyond value_limit y ≡ false)
+    (passed : delays_beyond_lem delays.int delays.cab delays.refdly delays.gd ≡ false) where
   -- the rule by the group alone
-  by-group : block_values_rule y int cab refdly gd g r i t k
-      ≡ block_values (2 when group_beyond_lem g r i t k) (to_a G (pos steps) 0 y) (to_b G (pos steps) 0 y) (pos steps *ℤ t) (pos steps *ℤ i)
+  by-group : block_values_rule y delays group ≡ reply no_values (2 when group_beyond group) (values_of y delays group)
   unfolding block_values_rule
   by-group =
-      ap (λ (b : Bool). block_values (2 when (group_beyond_lem g r i t k || b)) (to_a G (pos steps) 0 y) (to_b G (pos steps) 0 y) (pos steps *ℤ t) (pos steps *ℤ i)) (rw (inside, delays))
-      ∙ ap (λ (b : Bool). block_values (2 when b) (to_a G (pos steps) 0 y) (to_b G (pos steps) 0 y) (pos steps *ℤ t) (pos steps *ℤ i)) (or-false (group_beyond_lem g r i t k))
+      ap (λ (b : Bool). reply no_values (2 when (group_beyond group || b)) (values_of y delays group)) (rw (inside, passed))
+      ∙ ap (λ (b : Bool). reply no_values (2 when b) (values_of y delays group)) (or-false (group_beyond group))
 
-  refused-by : (b : Bool) (A B C D : ℤ) → x ≡ block_values (2 when b) A B C D → {number : ℕ} → x ≡ BlockValues.Refused number → (number ≡ 2) × (b ≡ true)
-  unfolding block_values ◌when◌
-  refused-by true A B C D h {number} f = let z : number ≡ 2 = cc in (z, refl)
-  refused-by false A B C D h {number} f = absurd (differ h f)
-    where
-      differ : x ≡ BlockValues.Values A B C D → x ≡ BlockValues.Refused number → ⊥
-      differ h f = let z : ◌≡◌ {A = ℕ} 0 1 = cc in omega arith
+  pub group-refused : (r : Refusal) → reply_of no_values (Err r) ≡ block_values_rule y delays group
+      → (paper_number r ≡ 2) × (group_beyond group ≡ true)
+  group-refused r e =
+      when-some 2 (group_beyond group) (sym (value_of_reply no_values (Err r) _ _ (e ∙ by-group))) (λ z. ne_of_gt (paper_above_zero r) z)
 
-  values-by : (b : Bool) (A B C D : ℤ) → x ≡ block_values (2 when b) A B C D → {p q u v : ℤ} → x ≡ BlockValues.Values p q u v
-      → (b ≡ false) × (p ≡ A) × (q ≡ B) × (u ≡ C) × (v ≡ D)
-  unfolding block_values ◌when◌
-  values-by true A B C D h {p} {q} {u} {v} f = absurd (differ h f)
-    where
-      differ : x ≡ BlockValues.Refused 2 → x ≡ BlockValues.Values p q u v → ⊥
-      differ h f = let z : ◌≡◌ {A = ℕ} 0 1 = cc in omega arith
-  values-by false A B C D h {p} {q} {u} {v} f =
-      let p-is : p ≡ A = cc in
-      let q-is : q ≡ B = cc in
-      let u-is : u ≡ C = cc in
-      let v-is : v ≡ D = cc in
-      (refl, p-is, q-is, u-is, v-is)
-
-  pub group-refused : {number : ℕ} → x ≡ BlockValues.Refused number → (number ≡ 2) × (group_beyond_lem g r i t k ≡ true)
-  group-refused f = refused-by (group_beyond_lem g r i t k) _ _ _ _ (e ∙ by-group) f
-
-  pub group-values : {p q u v : ℤ} → x ≡ BlockValues.Values p q u v
-      → (group_beyond_lem g r i t k ≡ false) × (p ≡ to_a G (pos steps) 0 y) × (q ≡ to_b G (pos steps) 0 y) × (u ≡ pos steps *ℤ t) × (v ≡ pos steps *ℤ i)
-  group-values f = values-by (group_beyond_lem g r i t k) _ _ _ _ (e ∙ by-group) f
+  pub group-values : (v : Values) → reply_of no_values (Ok v) ≡ block_values_rule y delays group
+      → (group_beyond group ≡ false) × (v ≡ values_of y delays group)
+  group-values v e =
+      let t = value_of_reply no_values (Ok v) _ _ (e ∙ by-group) in (when-zero 1 (group_beyond group) t.0, t.1)

@@ -1,20 +1,21 @@
 -- The limit test on a track's measurements, block by block (specs/Scan.antt of limits): where the first blocks are inside, the rest tells; else they do.
 -- Assumes nothing.
 use mathlib.Core.Path.{◌≡◌, refl, sym, ap, ◌∙◌}
-use mathlib.Core.Bool.{true, false}
-use mathlib.Core.List.{List, [], ◌∷◌}
-use Prim.Native.Nat.{ℕ, zero, suc, zero-le, suc-le-suc, ◌+◌, ◌*◌, ◌/◌, ◌≤◌, ◌<◌}
-use native.Mathlib.Nat.{zero-add, le_trans, min-le_right}
+use mathlib.Core.Bool.{Bool, true, false, cond}
+use mathlib.Core.List.{List, [], ◌++◌}
+use Prim.Native.Nat.{ℕ, ◌+◌, ◌*◌, ◌/◌, ◌≤◌, ◌<◌}
+use native.Mathlib.Nat.{zero-add, le_trans, min-le_left, min-le_right}
 use native.Mathlib.Omega.{arith}
 use lib.IntN.{ℤ}
-use lib.ListN.{length, take, drop, length-drop, drop_of_length-le}
-use lib.Seq.{length-take-le, drop-drop}
+use lib.ListN.{length, take, drop, length-append, length-take, length-drop, drop_of_length-le}
+use lib.Seq.{length-take-le, drop-drop, take-append_seam, drop-append_seam}
+use Rattle.std.specs.Prelude.{Result, Ok, Err}
+use Rattle.std.specs.Result.{MatchResult}
 use Rattle.limits.specs.Lists.{any_outside_lem}
-use Rattle.limits.specs.Scan.{first_outside, read_to}
+use Rattle.limits.specs.Scan.{first_outside, read_to, scan_rule}
 use Rattle.limits.specs.Refusal.{◌when◌}
-use Rattle.correcting.specs.declared.Corrected.{Corrected}
 use Rattle.limits.specs.Limits.{measurement_least, measurement_most}
-use Rattle.correcting.specs.Answer.{corrected, whole_blocks, measurements_rule}
+use Rattle.correcting.specs.Answer.{whole_blocks, measurements_rule}
 use Rattle.limits.proofs.Scans.{first-outside, read_first, read_all, none-outside, inside-front, beyond-front}
 
 -- the first j blocks of fifteen are inside: the rest tells
@@ -56,14 +57,14 @@ module _ (l : List ℤ) (j : ℕ) (room : 15 * j + 15 ≤ length l) (so_far : Pa
     first : first_outside measurement_least measurement_most l ≡ 15 * j + first_outside measurement_least measurement_most part
     first = so_far.1 ∙ ap (λ (m : ℕ). 15 * j + m) (beyond-front measurement_least measurement_most 15 rest e).1
 
-    pub found : Corrected.Refused 2 (15 * j + read_to measurement_least measurement_most part) ≡ measurements_rule l
-    unfolding measurements_rule corrected ◌when◌
+    pub found : (2, 15 * j + read_to measurement_least measurement_most part) ≡ measurements_rule l
+    unfolding measurements_rule ◌when◌
     found =
         let r = read_first measurement_least measurement_most l any in
         let p = read_first measurement_least measurement_most part e in
         let count : 15 * j + read_to measurement_least measurement_most part ≡ read_to measurement_least measurement_most l = rw (r, p, first) (omega arith) in
         let is : 2 ≡ 2 when any_outside_lem measurement_least measurement_most l = rw any in
-        λ i. corrected (is i) (count i)
+        λ i. (is i, count i)
 
     pub found-blocks : whole_blocks l ≡ j
     unfolding whole_blocks
@@ -74,22 +75,41 @@ module _ (l : List ℤ) (j : ℕ) (room : 15 * j + 15 ≤ length l) (so_far : Pa
         within : (j f : ℕ) → f < 15 → (15 * j + f) / 15 ≡ j
         within j f h = omega arith
 
+-- what an iterator has left, cut into its first fifteen and the rest
+pub cut : (l front more : List ℤ) (j : ℕ) → drop (15 * j) l ≡ front ++ more → length front ≡ 15 → 15 * j ≤ length l
+    → (front ≡ take 15 (drop (15 * j) l)) × (more ≡ drop (15 * (j + 1)) l) × (15 * j + 15 ≤ length l)
+cut l front more j e size few =
+    let first : take 15 (drop (15 * j) l) ≡ front =
+    ap (take 15) e ∙ ap (λ (k : ℕ). take k (front ++ more)) (sym size) ∙ take-append_seam front more in
+    let rest : drop 15 (drop (15 * j) l) ≡ more =
+    ap (drop 15) e ∙ ap (λ (k : ℕ). drop k (front ++ more)) (sym size) ∙ drop-append_seam front more in
+    let next : 15 * j + 15 ≡ 15 * (j + 1) = omega arith in
+    let left : length (drop (15 * j) l) ≡ 15 + length more = ap length e ∙ length-append front more ∙ ap (λ (k : ℕ). k + length more) size in
+    (sym first, sym rest ∙ drop-drop 15 (15 * j) l ∙ ap (λ (m : ℕ). drop m l) next, omega (arith, length-drop (15 * j) l))
+
+-- what a scan tells
+pub scan_tells : (low high : ℤ) (l : List ℤ) {r : Result ℕ ℕ} → r ≡ scan_rule low high l
+    → MatchResult r (λ read. (any_outside_lem low high l ≡ false) × (read ≡ read_to low high l))
+    (λ read. (any_outside_lem low high l ≡ true) × (read ≡ read_to low high l))
+unfolding scan_rule
+scan_tells low high l {r} e = by (any_outside_lem low high l) refl e
+  where
+    by : (b : Bool) → any_outside_lem low high l ≡ b → r ≡ cond b (Err (read_to low high l)) (Ok (read_to low high l))
+        → MatchResult r (λ read. (any_outside_lem low high l ≡ false) × (read ≡ read_to low high l))
+        (λ read. (any_outside_lem low high l ≡ true) × (read ≡ read_to low high l))
+    by true a e = rw e (a, refl)
+    by false a e = rw e (a, refl)
+
+pub scan_passes : (low high : ℤ) (l : List ℤ) {r : Result ℕ ℕ} → r ≡ scan_rule low high l → ((read : ℕ) → r ≡ Err read → ⊥)
+    → any_outside_lem low high l ≡ false
+scan_passes low high l {r = Ok read} e never = (scan_tells low high l e).0
+scan_passes low high l {r = Err read} e never = absurd (never read refl)
+
 -- no more is read of a block than it has
 pub part-most : (l : List ℤ) (j : ℕ) → read_to measurement_least measurement_most (take 15 (drop (15 * j) l)) ≤ 15
 unfolding read_to
-part-most l j = le_trans (min-le_right _ (length (take 15 (drop (15 * j) l)))) (length-take-most 15 (drop (15 * j) l))
-  where
-    length-take-most : (n : ℕ) (l : List ℤ) → length (take n l) ≤ n
-    length-take-most zero l = zero-le
-    length-take-most (suc n) [] = zero-le
-    length-take-most (suc n) (z ∷ l) = suc-le-suc (length-take-most n l)
-
--- where a block is inside, all of it is read
-pub part-read : (l : List ℤ) (j : ℕ) → 15 * j + 15 ≤ length l → any_outside_lem measurement_least measurement_most (take 15 (drop (15 * j) l)) ≡ false
-    → read_to measurement_least measurement_most (take 15 (drop (15 * j) l)) ≡ 15
-part-read l j room e =
-    let h : 15 ≤ length (drop (15 * j) l) = rw (length-drop (15 * j) l) (omega arith) in
-    read_all measurement_least measurement_most (take 15 (drop (15 * j) l)) e ∙ length-take-le 15 (drop (15 * j) l) h
+part-most l j =
+    le_trans (min-le_right _ (length (take 15 (drop (15 * j) l)))) (rw length-take (min-le_left 15 (length (drop (15 * j) l))))
 
 -- where nothing is outside, every block is whole
 pub whole-blocks : (l : List ℤ) (n : ℕ) → length l ≡ 15 * n → any_outside_lem measurement_least measurement_most l ≡ false → whole_blocks l ≡ n
@@ -108,12 +128,12 @@ module _ (l : List ℤ) (n : ℕ) (all : length l ≡ 15 * n) (so_far : Passed l
   unfolding any_outside_lem
   none = so_far.0 ∙ ap (any_outside_lem measurement_least measurement_most) nothing
 
-  pub done : Corrected.Values (15 * n) ≡ measurements_rule l
-  unfolding measurements_rule corrected ◌when◌
+  pub done : (0, 15 * n) ≡ measurements_rule l
+  unfolding measurements_rule ◌when◌
   done =
       let count : 15 * n ≡ read_to measurement_least measurement_most l = sym (read_all measurement_least measurement_most l none ∙ all) in
       let is : 0 ≡ 2 when any_outside_lem measurement_least measurement_most l = rw none in
-      λ i. corrected (is i) (count i)
+      λ i. (is i, count i)
 
   pub done-blocks : whole_blocks l ≡ n
   done-blocks = whole-blocks l n all none

@@ -1,24 +1,27 @@
 -- The refusals 1 and 2 (specs/Correct.antt): what it tells that a track's lists and numbers are not refused, and what the rule gives where they are
 -- and where they are not.
 -- Assumes nothing.
-use mathlib.Core.Path.{◌≡◌, refl, sym, ◌∙◌}
+use mathlib.Core.Path.{◌≡◌, sym, ap, ◌∙◌}
 use mathlib.Core.Bool.{true, false, not, ◌||◌, or-true, or_assoc, or-false as or-none}
 use mathlib.Core.List.{List}
-use Prim.Native.Nat.{ℕ, zero, suc, ◌*◌, ◌≤◌, ◌<◌}
-use native.Mathlib.Omega.{arith}
+use Prim.Native.Nat.{ℕ, ◌*◌, ◌≤◌}
+use native.Mathlib.Nat.{ne_of_gt}
+use Rattle.std.specs.Prelude.{Ok, Err}
 use lib.IntN.{ℤ, nat_abs}
 use lib.ListN.{length}
 use Rattle.limits.specs.Blocks.{blocks_fit_lem}
 use Rattle.limits.specs.Limits.{beyond, measurement_limit, delay_limit}
 use Rattle.limits.specs.Lists.{miscounted, any_beyond_lem}
 use Rattle.limits.specs.Refusal.{◌when◌, ◌then◌}
+use Rattle.limits.specs.Numbers.{paper_number}
 use Rattle.limits.proofs.Blocks.{blocks-within}
+use Rattle.limits.proofs.Cases.{paper_above_zero}
 use Rattle.limits.proofs.Laws.{then-zero, when-zero, when-some, or-false, magnitude-within}
 use Rattle.limits.proofs.Lists.{counted}
 use Rattle.exact.specs.Corrected.{Given}
 use Rattle.correcting.specs.Correct.{blocks, wrong_sizes, out_of_limits, geometry_limit}
-use Rattle.correcting.specs.declared.Corrected.{Corrected}
-use Rattle.correcting.specs.Answer.{correct_number, corrected, others_beyond, whole_blocks, measurements_rule, corrected_blocks, correct_rule}
+use Rattle.correcting.specs.declared.Stopped.{Stopped}
+use Rattle.correcting.specs.Answer.{correct_number, correct_reply, others_beyond, whole_blocks, measurements_rule, corrected_blocks, correct_rule}
 use Rattle.correcting.proofs.Parts.{whole-blocks}
 
 -- ---- what it tells that a track's lists and numbers are not refused
@@ -119,15 +122,15 @@ limited g e =
 -- ---- the rule where one of them is refused
 
 -- what is answered, and how many blocks have their values in the rows
-abbrev pub Answered : Given → Corrected → ℕ → Type 0
+abbrev pub Answered : Given → ℕ × ℕ → ℕ → Type 0
 Answered g r k = (r ≡ correct_rule g) × (corrected_blocks g ≡ k)
 
-pub sizes-refused : (g : Given) → wrong_sizes g ≡ true → Answered g (Corrected.Refused 1 0) 0
-unfolding correct_rule corrected correct_number corrected_blocks ◌when◌ ◌then◌
+pub sizes-refused : (g : Given) → wrong_sizes g ≡ true → Answered g (1, 0) 0
+unfolding correct_rule correct_number corrected_blocks ◌when◌ ◌then◌
 sizes-refused g e = (rw e, rw e)
 
-pub others-refused : (g : Given) → wrong_sizes g ≡ false → others_beyond g ≡ true → Answered g (Corrected.Refused 2 0) 0
-unfolding correct_rule corrected correct_number corrected_blocks ◌when◌ ◌then◌
+pub others-refused : (g : Given) → wrong_sizes g ≡ false → others_beyond g ≡ true → Answered g (2, 0) 0
+unfolding correct_rule correct_number corrected_blocks ◌when◌ ◌then◌
 others-refused g e h = (rw (limits-parts g, e, h, or-true (any_beyond_lem measurement_limit g.measurements)), rw (e, h))
 
 -- and where all but the measurements has passed
@@ -137,44 +140,27 @@ by-measurements g e h = (rw (limits-parts g, e, h, or-none (any_beyond_lem measu
 
 -- ---- what the case of an answer tells
 
-module _ {r : Corrected} where
-  refused-by : (k m : ℕ) → r ≡ corrected k m → {number read : ℕ} → r ≡ Corrected.Refused number read → (number ≡ k) × (0 < number)
-  unfolding corrected
-  refused-by zero m a {number} {read} f = absurd (differ (sym f ∙ a))
-    where
-      differ : Corrected.Refused number read ≡ Corrected.Values m → ⊥
-      differ d = let z : ◌≡◌ {A = ℕ} 0 1 = cc in omega arith
-  refused-by (suc k) m a {number} {read} f = let z : number ≡ suc k = cc in (z, omega (arith, z))
-
-  values-by : (k m : ℕ) → r ≡ corrected k m → {read : ℕ} → r ≡ Corrected.Values read → k ≡ 0
-  unfolding corrected
-  values-by zero m a f = refl
-  values-by (suc k) m a {read} f = absurd (differ (sym f ∙ a))
-    where
-      differ : Corrected.Values read ≡ Corrected.Refused (suc k) m → ⊥
-      differ d = let z : ◌≡◌ {A = ℕ} 0 1 = cc in omega arith
-
 -- the answer to what a track is given
-module _ (g : Given) {r : Corrected} (e : r ≡ correct_rule g) where
-  pub corrected-refused : {number read : ℕ} → r ≡ Corrected.Refused number read → (number ≡ correct_number g) × (0 < number)
+module _ (g : Given) where
+  pub corrected-refused : (stopped : Stopped) → correct_reply (Err stopped) ≡ correct_rule g → paper_number stopped.refusal ≡ correct_number g
   unfolding correct_rule
-  corrected-refused f = refused-by (correct_number g) _ e f
+  corrected-refused stopped e = ap (λ (p : ℕ × ℕ). p.0) e
 
-  pub corrected-values : {read : ℕ} → r ≡ Corrected.Values read → correct_number g ≡ 0
+  pub corrected-values : {read : ℕ} → correct_reply (Ok read) ≡ correct_rule g → correct_number g ≡ 0
   unfolding correct_rule
-  corrected-values f = values-by (correct_number g) _ e f
+  corrected-values e = sym (ap (λ (p : ℕ × ℕ). p.0) e)
 
 -- the answer to the measurements of a list
-module _ (l : List ℤ) {r : Corrected} (e : r ≡ measurements_rule l) where
-  pub measurements-refused : {number read : ℕ} → r ≡ Corrected.Refused number read → (number ≡ 2) × (any_beyond_lem measurement_limit l ≡ true)
+module _ (l : List ℤ) where
+  pub measurements-refused : (stopped : Stopped) → correct_reply (Err stopped) ≡ measurements_rule l
+      → (paper_number stopped.refusal ≡ 2) × (any_beyond_lem measurement_limit l ≡ true)
   unfolding measurements_rule
-  measurements-refused f =
-      let n = refused-by (2 when any_beyond_lem measurement_limit l) _ e f in
-      when-some 2 (any_beyond_lem measurement_limit l) n.0 (λ z. omega (arith, n.1, z))
+  measurements-refused stopped e =
+      when-some 2 (any_beyond_lem measurement_limit l) (ap (λ (p : ℕ × ℕ). p.0) e) (λ z. ne_of_gt (paper_above_zero stopped.refusal) z)
 
-  pub measurements-values : {read : ℕ} → r ≡ Corrected.Values read → any_beyond_lem measurement_limit l ≡ false
+  pub measurements-values : {read : ℕ} → correct_reply (Ok read) ≡ measurements_rule l → any_beyond_lem measurement_limit l ≡ false
   unfolding measurements_rule
-  measurements-values f = when-zero 1 (any_beyond_lem measurement_limit l) (values-by (2 when any_beyond_lem measurement_limit l) _ e f)
+  measurements-values e = when-zero 1 (any_beyond_lem measurement_limit l) (sym (ap (λ (p : ℕ × ℕ). p.0) e))
 
 -- ---- what the number of an answer tells
 

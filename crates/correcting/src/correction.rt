@@ -1,18 +1,18 @@
 // The smoothed and the corrected values of a track, in tenths of a picosecond.
-ghost use Rattle.std.specs.Prelude.{◌≡◌, false, [], ◌∷◌, ◌*◌, ◌<◌, pos, ◌*ℤ◌, length, set};
+ghost use Rattle.std.specs.Prelude.{◌≡◌, false, ◌<◌, ◌*◌, set};
 ghost use Rattle.series.specs.Fit.{value_limit};
 ghost use Rattle.whole.specs.Words.{Within};
 ghost use Rattle.limits.specs.Limits.{delay_limit};
-ghost use Rattle.limits.specs.Lists.{any_beyond_lem};
-ghost use Rattle.whole.specs.Table.{at};
-ghost use Rattle.exact.specs.Corrected.{steps, to_a, to_b};
-ghost use Rattle.correcting.specs.Correct.{geometry_limit, given, value_a, value_b, value_c, value_d, wrong_sizes};
-ghost use Rattle.correcting.specs.Answer.{others_beyond, filled, whole_blocks, measurements_rule};
+ghost use Rattle.correcting.specs.Correct.{geometry_limit, value_a, value_b, value_c, value_d, wrong_sizes};
+ghost use Rattle.correcting.specs.Given.{given_of};
+ghost use Rattle.correcting.specs.Block.{values_of};
+ghost use Rattle.correcting.specs.Answer.{correct_reply, others_beyond, filled, whole_blocks, measurements_rule};
 
-use super::Corrected;
+use super::Stopped;
+use super::inputs::{Corrections, Group};
 use exact::STEPS;
-use limits::{MEASUREMENT_LEAST, MEASUREMENT_LIMIT, scan};
-use series::{Smoothed, smooth, smoothed_number};
+use limits::{Delays, MEASUREMENT_LEAST, MEASUREMENT_LIMIT, Refusal, scan};
+use series::smooth;
 
 // The corrected values of one block.
 #[derive(Clone, Copy)]
@@ -23,180 +23,86 @@ pub struct Values {
     pub d: i64,
 }
 
-// A, B, C and D of document 01 at one block: smoothed in tenths, the corrections in picoseconds.
-pub fn corrected(
-    smoothed: i64,
-    int: i64,
-    cab: i64,
-    refdly: i64,
-    gd: i64,
-    geometry: i64,
-    relativity: i64,
-    ionosphere: i64,
-    troposphere: i64,
-    clock: i64,
-) -> Values
-    requires smoothed_and_delays { Within value_limit smoothed × Within delay_limit int × Within delay_limit cab × Within delay_limit refdly × Within delay_limit gd }
-    requires corrections { Within geometry_limit geometry × Within delay_limit relativity
-        × Within delay_limit ionosphere × Within delay_limit troposphere × Within delay_limit clock }
-    ensures { (result.a ≡ to_a (given [] int cab refdly gd
-        (geometry ∷ []) (relativity ∷ []) (ionosphere ∷ []) (troposphere ∷ []) (clock ∷ [])) (pos steps) 0 smoothed)
-        × (result.b ≡ to_b (given [] int cab refdly gd
-        (geometry ∷ []) (relativity ∷ []) (ionosphere ∷ []) (troposphere ∷ []) (clock ∷ [])) (pos steps) 0 smoothed)
-        × (result.c ≡ pos steps *ℤ troposphere) × (result.d ≡ pos steps *ℤ ionosphere) }
-{
-    let a = smoothed
-        - STEPS
-            * (int + cab + (0 - refdly) + gd + geometry - relativity + ionosphere + troposphere);
-    Values {
-        a,
-        b: a + STEPS * clock,
-        c: STEPS * troposphere,
-        d: STEPS * ionosphere,
+// The four rows of corrected values, a place for each block.
+// Kept: four arrays beside each other, as Fit takes each row as a slice.
+#[derive(Clone, Copy)]
+pub struct Rows {
+    pub a: [i64; 52],
+    pub b: [i64; 52],
+    pub c: [i64; 52],
+    pub d: [i64; 52],
+}
+
+impl Rows {
+    // Puts a block's values into place j of each row, where there is such a place.
+    pub fn put(&mut self, j: usize, values: Values)
+        ensures a_after { self.new.a ≡ set self.old.a j values.a }
+        ensures b_after { self.new.b ≡ set self.old.b j values.b }
+        ensures c_after { self.new.c ≡ set self.old.c j values.c }
+        ensures d_after { self.new.d ≡ set self.old.d j values.d }
+    {
+        if j < 52 {
+            self.a[j] = values.a;
+            self.b[j] = values.b;
+            self.c[j] = values.c;
+            self.d[j] = values.d;
+        }
     }
 }
 
-// Those of block j, from its smoothed value.
-fn corrected_at(
-    smoothed: i64,
-    j: usize,
-    int: i64,
-    cab: i64,
-    refdly: i64,
-    gd: i64,
-    geometry: &[i64],
-    relativity: &[i64],
-    ionosphere: &[i64],
-    troposphere: &[i64],
-    clock: &[i64],
-) -> Values
-    requires smoothed_and_delays { Within value_limit smoothed × Within delay_limit int × Within delay_limit cab × Within delay_limit refdly × Within delay_limit gd }
-    requires geometry_inside { (j < length geometry.now) × (any_beyond_lem geometry_limit geometry.now ≡ false) }
-    requires relativity_inside { (j < length relativity.now) × (any_beyond_lem delay_limit relativity.now ≡ false) }
-    requires ionosphere_inside { (j < length ionosphere.now) × (any_beyond_lem delay_limit ionosphere.now ≡ false) }
-    requires troposphere_inside { (j < length troposphere.now) × (any_beyond_lem delay_limit troposphere.now ≡ false) }
-    requires clock_inside { (j < length clock.now) × (any_beyond_lem delay_limit clock.now ≡ false) }
-    ensures { (result.a ≡ to_a (given [] int cab refdly gd
-        geometry.now relativity.now ionosphere.now troposphere.now clock.now) (pos steps) j smoothed)
-        × (result.b ≡ to_b (given [] int cab refdly gd
-        geometry.now relativity.now ionosphere.now troposphere.now clock.now) (pos steps) j smoothed)
-        × (result.c ≡ pos steps *ℤ at troposphere.now j) × (result.d ≡ pos steps *ℤ at ionosphere.now j) }
+// A, B, C and D of document 01 at one block: smoothed in tenths, the corrections in picoseconds.
+pub fn corrected(smoothed: i64, delays: Delays, group: Group) -> Values
+    requires smoothed_and_delays { Within value_limit smoothed × Within delay_limit delays.int × Within delay_limit delays.cab
+        × Within delay_limit delays.refdly × Within delay_limit delays.gd }
+    requires corrections { Within geometry_limit group.geometry × Within delay_limit group.relativity
+        × Within delay_limit group.ionosphere × Within delay_limit group.troposphere × Within delay_limit group.clock }
+    ensures { result ≡ values_of smoothed delays group }
 {
-    corrected(
-        smoothed,
-        int,
-        cab,
-        refdly,
-        gd,
-        geometry[j],
-        relativity[j],
-        ionosphere[j],
-        troposphere[j],
-        clock[j],
-    )
-}
-
-// Puts a block's values into place j of each row.
-fn put(
-    values: Values,
-    j: usize,
-    a: &mut [i64; 52],
-    b: &mut [i64; 52],
-    c: &mut [i64; 52],
-    d: &mut [i64; 52],
-)
-    requires { j < 52 }
-    ensures a_after { a.new ≡ set a.old j values.a }
-    ensures b_after { b.new ≡ set b.old j values.b }
-    ensures c_after { c.new ≡ set c.old j values.c }
-    ensures d_after { d.new ≡ set d.old j values.d }
-{
-    let value_a = values.a;
-    let value_b = values.b;
-    let value_c = values.c;
-    let value_d = values.d;
-    a[j] = value_a;
-    b[j] = value_b;
-    c[j] = value_c;
-    d[j] = value_d;
+    let off = delays.int + delays.cab - delays.refdly + delays.gd + group.geometry
+        - group.relativity
+        + group.ionosphere
+        + group.troposphere;
+    let a = smoothed - STEPS * off;
+    Values {
+        a,
+        b: a + STEPS * group.clock,
+        c: STEPS * group.troposphere,
+        d: STEPS * group.ionosphere,
+    }
 }
 
 // The corrected values of the blocks, each put into its place of the four rows that are lent, block by block up to and without the first that
 // has a measurement beyond its limit: 2 where there is one. The columns and the delays are inside their limits. It counts the measurements
 // that its limit test reads.
+// Kept: beside smooth_blocks of `fit`, which puts smoothed values alone: clauses a_after to d_after of `correct` fix the rows on a refusal too.
 pub fn correct_blocks(
     measurements: &[i64],
-    int: i64,
-    cab: i64,
-    refdly: i64,
-    gd: i64,
-    geometry: &[i64],
-    relativity: &[i64],
-    ionosphere: &[i64],
-    troposphere: &[i64],
-    clock: &[i64],
-    a: &mut [i64; 52],
-    b: &mut [i64; 52],
-    c: &mut [i64; 52],
-    d: &mut [i64; 52],
-) -> Corrected
-    requires sizes_right { wrong_sizes (given measurements.now int cab refdly gd
-        geometry.now relativity.now ionosphere.now troposphere.now clock.now) ≡ false }
-    requires others_inside { others_beyond (given measurements.now int cab refdly gd
-        geometry.now relativity.now ionosphere.now troposphere.now clock.now) ≡ false }
-    ensures answer { result ≡ measurements_rule measurements.now }
-    ensures a_after { a.new ≡ filled (whole_blocks measurements.now) (value_a (given measurements.now int cab refdly gd
-        geometry.now relativity.now ionosphere.now troposphere.now
-        clock.now)) a.old }
-    ensures b_after { b.new ≡ filled (whole_blocks measurements.now) (value_b (given measurements.now int cab refdly gd
-        geometry.now relativity.now ionosphere.now troposphere.now
-        clock.now)) b.old }
-    ensures c_after { c.new ≡ filled (whole_blocks measurements.now) (value_c (given measurements.now int cab refdly gd
-        geometry.now relativity.now ionosphere.now troposphere.now
-        clock.now)) c.old }
-    ensures d_after { d.new ≡ filled (whole_blocks measurements.now) (value_d (given measurements.now int cab refdly gd
-        geometry.now relativity.now ionosphere.now troposphere.now
-        clock.now)) d.old }
+    delays: Delays,
+    corrections: Corrections,
+    rows: &mut Rows,
+) -> Result<usize, Stopped>
+    requires sizes_right { wrong_sizes (given_of measurements.now delays corrections) ≡ false }
+    requires others_inside { others_beyond (given_of measurements.now delays corrections) ≡ false }
+    ensures answer { correct_reply result ≡ measurements_rule measurements.now }
+    ensures a_after { rows.new.a ≡ filled (whole_blocks measurements.now)
+        (value_a (given_of measurements.now delays corrections.entry)) rows.old.a }
+    ensures b_after { rows.new.b ≡ filled (whole_blocks measurements.now)
+        (value_b (given_of measurements.now delays corrections.entry)) rows.old.b }
+    ensures c_after { rows.new.c ≡ filled (whole_blocks measurements.now)
+        (value_c (given_of measurements.now delays corrections.entry)) rows.old.c }
+    ensures d_after { rows.new.d ≡ filled (whole_blocks measurements.now)
+        (value_d (given_of measurements.now delays corrections.entry)) rows.old.d }
 {
-    let n = geometry.len();
-    let mut read = 0;
-    let mut j = 0;
-    while j < n {
-        let from = 15 * j;
-        let to = from + 15;
-        let seen = scan(
-            &measurements[from..to],
-            MEASUREMENT_LEAST,
-            MEASUREMENT_LIMIT,
-        );
-        read += seen.read;
-        if seen.outside {
-            return Corrected::Refused { refusal: 2, read };
+    for (j, block) in measurements.chunks_exact(15).enumerate() {
+        if let Err(read) = scan(block, MEASUREMENT_LEAST, MEASUREMENT_LIMIT) {
+            return Err(Stopped {
+                refusal: Refusal::Limit,
+                read: 15 * j + read,
+            });
         }
-        let answer = smooth(&measurements[from..to]);
-        let Smoothed::Value(value) = answer else {
-            // Never taken: the scan has found all fifteen inside.
-            let number = smoothed_number(answer);
-            return Corrected::Refused {
-                refusal: number,
-                read,
-            };
-        };
-        let values = corrected_at(
-            value,
-            j,
-            int,
-            cab,
-            refdly,
-            gd,
-            geometry,
-            relativity,
-            ionosphere,
-            troposphere,
-            clock,
-        );
-        put(values, j, a, b, c, d);
-        j += 1;
+        // The scan has found all fifteen inside, so Smooth refuses none.
+        let smoothed = smooth(block).unwrap();
+        rows.put(j, corrected(smoothed, delays, corrections.group(j)));
     }
-    Corrected::Values { read }
+    Ok(measurements.len())
 }

@@ -1,74 +1,20 @@
 // One block of a track: its corrected values, or the 2 of a number that is outside its limits.
 ghost use Rattle.std.specs.Prelude.{◌≡◌};
-ghost use Rattle.correcting.specs.Block.{group_beyond_lem, block_values_rule};
+ghost use Rattle.limits.specs.Numbers.{reply_of};
+ghost use Rattle.correcting.specs.Block.{no_values, block_values_rule};
 
-use super::correction::corrected;
-use super::{BlockValues, GEOMETRY_LEAST, GEOMETRY_LIMIT};
-use limits::{DELAY_LEAST, DELAY_LIMIT, delays_beyond, outside};
+use super::correction::{Values, corrected};
+use super::inputs::Group;
+use limits::{Delays, Refusal, delays_beyond, outside};
 use series::{VALUE_LEAST, VALUE_LIMIT};
 
-// Whether the geometry or another correction is beyond its limit.
-fn group_beyond(
-    geometry: i64,
-    relativity: i64,
-    ionosphere: i64,
-    troposphere: i64,
-    clock: i64,
-) -> bool
-    ensures { result ≡ group_beyond_lem geometry relativity ionosphere troposphere clock }
-{
-    if outside(GEOMETRY_LEAST, GEOMETRY_LIMIT, geometry) {
-        return true;
-    }
-    if outside(DELAY_LEAST, DELAY_LIMIT, relativity) {
-        return true;
-    }
-    if outside(DELAY_LEAST, DELAY_LIMIT, ionosphere) {
-        return true;
-    }
-    if outside(DELAY_LEAST, DELAY_LIMIT, troposphere) {
-        return true;
-    }
-    outside(DELAY_LEAST, DELAY_LIMIT, clock)
-}
-
 // A, B, C and D of a block, in tenths, from its smoothed value in tenths and its corrections in picoseconds.
-pub fn correct_block(
-    smoothed: i64,
-    int: i64,
-    cab: i64,
-    refdly: i64,
-    gd: i64,
-    geometry: i64,
-    relativity: i64,
-    ionosphere: i64,
-    troposphere: i64,
-    clock: i64,
-) -> BlockValues
-    ensures { result ≡ block_values_rule smoothed int cab refdly gd geometry relativity ionosphere troposphere clock }
+pub fn correct_block(smoothed: i64, delays: Delays, group: Group) -> Result<Values, Refusal>
+    ensures { reply_of no_values result ≡ block_values_rule smoothed delays group }
 {
-    if group_beyond(geometry, relativity, ionosphere, troposphere, clock) {
-        return BlockValues::Refused(2);
+    if group.beyond() | outside(VALUE_LEAST, VALUE_LIMIT, smoothed) | delays_beyond(delays) {
+        return Err(Refusal::Limit);
     }
-    if outside(VALUE_LEAST, VALUE_LIMIT, smoothed) | delays_beyond(int, cab, refdly, gd) {
-        return BlockValues::Refused(2);
-    }
-    let values = corrected(
-        smoothed,
-        int,
-        cab,
-        refdly,
-        gd,
-        geometry,
-        relativity,
-        ionosphere,
-        troposphere,
-        clock,
-    );
-    BlockValues::Values {
-        a: values.a,
-        b: values.b,
-        c: values.c,
-        d: values.d,
-    }
+    let values = corrected(smoothed, delays, group);
+    Ok(values)
 }

@@ -9,6 +9,7 @@ use lib.Dec.{lit<}
 use lib.ListN.{length, take, drop, length-append, length-map}
 use lib.Seq.{take_at, get_or-drop}
 use borrow.Author.Tests.{le-ltb}
+use Rattle.std.specs.Prelude.{Result, Ok, Err, IfOk}
 use Rattle.limits.specs.Refusal.{◌when◌, ◌then◌}
 use Rattle.limits.proofs.Laws.{then-zero, after-accepted}
 use Rattle.limits.proofs.Parts.{map_at}
@@ -22,9 +23,9 @@ use Rattle.linefile.specs.Files.{lines, before, file_number, joined, line_at}
 use Rattle.linefile.proofs.Ascending.{All, Ascending, Accepted, all_map, all-at}
 use Rattle.linefile.proofs.Lines.{line-file-zero, line-at, whole-lines}
 use Rattle.linefile.proofs.Joined.{line_of}
-use Rattle.day.specs.Day.{own_length_lem, blocks_from, blocks_of, block_keys, judged, day_verdict, ended_line, file_of, day_file, day_number, day_rule, day_after, block_at, LinesOfDay, AccurateDay, AllBytes}
-use Rattle.day.specs.Answers.{written_number_lem, written_bytes}
-use Rattle.day.specs.declared.Written.{Written}
+use Rattle.day.specs.Day.{Bytes, own_length_lem, blocks_from, blocks_of, block_keys, judged, day_verdict, ended_line, file_of, day_file, day_number, day_rule, day_after, block_at, LinesOfDay, AccurateDay, AllBytes}
+use Rattle.day.specs.Answers.{written_of, written_number, written_bytes}
+use Rattle.day.specs.declared.Rejected.{Rejected}
 use Rattle.day.proofs.Lines.{keys-are, line-accepted, all-long, lines-of, length-of}
 use Rattle.day.proofs.Verdicts.{AcceptedBlock, Ascends, all-accepted}
 use Rattle.day.proofs.Answers.{answer-number, answer-bytes}
@@ -77,7 +78,7 @@ lines-ascend last (b ∷ bs) a s h =
 -- ---- the file
 
 -- no blocks are accepted, whatever the room, and nothing is written
-pub empty-day : (room : ℕ) → day_rule [] room ≡ Written.Bytes 0
+pub empty-day : (room : ℕ) → day_rule [] room ≡ Bytes 0
 unfolding day_rule day_number judged blocks_of blocks_from file_of joined ◌when◌ ◌then◌
 empty-day room = rw (le-ltb room 0 zero-le)
 
@@ -145,10 +146,11 @@ pub record Promised (bytes after : List ℕ) (written : ℕ) : Type 0 where
   pub accurate : AccurateDay bytes after
   pub line_file : file_number (take written after) ≡ 0
 
-pub promised : (bytes lent after : List ℕ) (r : Written) → AllBytes bytes → r ≡ day_rule bytes (length lent) → after ≡ day_after bytes lent
-    → written_number_lem r ≡ 0 → Promised bytes after (written_bytes r)
-promised bytes lent after r s e f z =
-    let n = sym (answer-number bytes (length lent)) ∙ ap written_number_lem (sym e) ∙ z in
+pub promised : (bytes lent after : List ℕ) (answer : Result ℕ Rejected) → AllBytes bytes → written_of answer ≡ day_rule bytes (length lent)
+    → after ≡ day_after bytes lent → IfOk answer (Promised bytes after)
+promised bytes lent after (Err r) s e f = tt
+promised bytes lent after (Ok written) s e f =
+    let n = sym (answer-number bytes (length lent)) ∙ ap written_number (sym e) in
     record {
       lines = subst (LinesOfDay bytes) (sym f) (line-is bytes lent n);
       accurate = subst (AccurateDay bytes) (sym f) (day-accurate bytes lent n);

@@ -11,8 +11,7 @@ use Rattle.limits.specs.Refusal.{◌when◌, ◌then◌, after}
 use Rattle.columns.specs.Text.{line_length}
 use Rattle.linefile.specs.Files.{before}
 use Rattle.line.proofs.Retired.{block_answer_with_10, block-stays}
-use Rattle.day.specs.declared.Written.{Written}
-use Rattle.day.specs.Day.{blocks_of, block_keys, behind_number, Verdict, judged, day_file, day_number, day_rule, day_after}
+use Rattle.day.specs.Day.{Written, Bytes, Refused, blocks_of, block_keys, behind_number, Verdict, judged, day_file, day_number, day_rule, day_after}
 
 abbrev behind_with_10 : (last block : List ℕ) → ℕ
 behind_with_10 last b = block_answer_with_10 b line_length then 16 when not (before last (block_keys b))
@@ -30,7 +29,7 @@ module _ (v : Verdict) (bytes : List ℕ) where
   number_by room = v.refusal then 9 when ltb room (length (day_file bytes))
 
   abbrev rule_by : (room : ℕ) → Written
-  rule_by room = cond (eqb (number_by room) 0) (Written.Bytes (length (day_file bytes))) (Written.Refused (number_by room) v.block)
+  rule_by room = cond (eqb (number_by room) 0) (Bytes (length (day_file bytes))) (Refused (number_by room) v.block)
 
   abbrev after_by : (lent : List ℕ) → List ℕ
   after_by lent = after (number_by (length lent)) (day_file bytes ++ drop (length (day_file bytes)) lent) lent

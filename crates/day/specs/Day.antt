@@ -9,7 +9,6 @@ use Rattle.columns.specs.Columns.{read_numbers}
 use Rattle.hire.specs.Hire.{blocks_in, block_length, block_labels, block_given}
 use Rattle.line.specs.Block.{block_line, block_number}
 use Rattle.linefile.specs.Files.{keys_of, before, joined, line_at}
-use Rattle.day.specs.declared.Written.{Written}
 
 -- How long the block at the beginning of some bytes is by its own sizes. Where there are fewer bytes, it is cut.
 abbrev pub own_length_lem : List ℕ → ℕ
@@ -68,12 +67,17 @@ day_file bytes = file_of (blocks_of bytes)
 unfoldable pub day_number : (bytes : List ℕ) (room : ℕ) → ℕ
 day_number bytes room = (day_verdict bytes).refusal then 9 when ltb room (length (day_file bytes))
 
+-- How many bytes are written, or the number of a refusal and the block that it names.
+pub data Written : Type 0 where
+  Bytes : (bytes : ℕ) → Written
+  Refused : (number block : ℕ) → Written
+
 -- The answer: how many bytes are written, or the refusal and the block that it names.
 unfoldable pub day_rule : (bytes : List ℕ) (room : ℕ) → Written
 day_rule bytes room =
     cond (eqb (day_number bytes room) 0)
-    (Written.Bytes (length (day_file bytes)))
-    (Written.Refused (day_number bytes room) (day_block bytes))
+    (Bytes (length (day_file bytes)))
+    (Refused (day_number bytes room) (day_block bytes))
 
 -- The lent file afterwards: the result in its first bytes where nothing is refused, and else as it was lent.
 unfoldable pub day_after : (bytes lent : List ℕ) → List ℕ

@@ -4,13 +4,13 @@
 // and those of later blocks are made once more: what is promised does not depend on how many are kept.
 #![tactic(auto)]
 
-ghost use Rattle.std.specs.Prelude.{◌≡◌, length, take};
+ghost use Rattle.std.specs.Prelude.{◌≡◌, ◌<◌, ◌^◌, length, take, OnOk, IfOk};
 ghost use Rattle.linefile.specs.Files.{file_number};
 ghost use Rattle.day.specs.Day.{day_rule, day_after, LinesOfDay, AccurateDay};
-ghost use Rattle.day.specs.Answers.{written_number_lem, written_bytes, written_block_lem};
+ghost use Rattle.day.specs.Answers.{written_of};
 
 use columns::ENDED_LENGTH;
-use limits::{then, when};
+use limits::Refusal;
 
 mod walk;
 
@@ -21,109 +21,74 @@ const SOME: usize = 1024;
 
 const MANY: usize = 10000;
 
+// Their bytes.
+const FEW_BYTES: usize = ENDED_LENGTH * FEW;
+
+const SOME_BYTES: usize = ENDED_LENGTH * SOME;
+
+const MANY_BYTES: usize = ENDED_LENGTH * MANY;
+
 // The length of a block of 4.
 const SHORTEST: usize = 698;
 
-// How many bytes are written, or the refusal and the block that it names.
+// A day that is refused, and the block that its refusal names.
 #[derive(Clone, Copy)]
-pub enum Written {
-    Bytes(usize),
-    Refused { refusal: u32, block: usize },
+pub struct Rejected {
+    pub refusal: Refusal,
+    pub block: usize,
 }
 
-// The number of the refusal, 0 where there is none.
-pub fn written_number(written: Written) -> u32
-    ensures { result ≡ written_number_lem written }
-{
-    match written {
-        Written::Bytes(_) => 0,
-        Written::Refused { refusal, block: _ } => refusal,
-    }
-}
-
-// The block that a refusal names, 0 where there is none.
-pub fn written_block(written: Written) -> usize
-    ensures { result ≡ written_block_lem written }
-{
-    match written {
-        Written::Bytes(_) => 0,
-        Written::Refused { refusal: _, block } => block,
-    }
-}
-
-// The day's lines, with what is lent to keep lines in while the blocks are judged.
-fn run(blocks: &[u8], kept: &mut [u8], file: &mut [u8]) -> Written
-    ensures answer { result ≡ day_rule blocks.now (length file.old) }
+// The day's lines, with what is lent to keep lines in while the blocks are judged: how many bytes they are.
+fn run(blocks: &[u8], kept: &mut [u8], file: &mut [u8]) -> Result<usize, Rejected>
+    ensures answer { written_of result ≡ day_rule blocks.now (length file.old) }
     ensures written { file.new ≡ day_after blocks.now file.old }
 {
-    let begun = walk::write(blocks, walk::start(blocks), kept);
-    let judged = walk::judge(blocks, begun);
-    let count = judged.count;
-    let number = then(judged.refusal, when(9, file.len() / ENDED_LENGTH < count));
-    if number != 0 {
-        return Written::Refused {
-            refusal: number,
+    let begun = walk::write(blocks, walk::START, kept)?;
+    let count = walk::judge(blocks, begun)?;
+    if file.len() / ENDED_LENGTH < count {
+        return Err(Rejected {
+            refusal: Refusal::Lent,
             block: count,
-        };
+        });
     }
     walk::finish(blocks, begun, kept, file);
-    Written::Bytes(ENDED_LENGTH * count)
+    Ok(ENDED_LENGTH * count)
 }
 
-// Each number of kept lines has a function of its own, so that few blocks clear few lines. That time alone is spared: the compiler inlines them,
+// Each number of kept lines has an instance of its own, so that few blocks clear few lines. That time alone is spared: the compiler inlines them,
 // and every call takes the stack of the most lines.
-fn run_few(blocks: &[u8], file: &mut [u8]) -> Written
-    ensures answer { result ≡ day_rule blocks.now (length file.old) }
+fn run_keeping<const N: usize>(blocks: &[u8], file: &mut [u8]) -> Result<usize, Rejected>
+    requires { N < 2 ^ 63 }
+    ensures answer { written_of result ≡ day_rule blocks.now (length file.old) }
     ensures written { file.new ≡ day_after blocks.now file.old }
 {
-    let mut kept = [0u8; ENDED_LENGTH * FEW];
+    let mut kept = [0u8; N];
     run(blocks, &mut kept, file)
 }
 
-fn run_some(blocks: &[u8], file: &mut [u8]) -> Written
-    ensures answer { result ≡ day_rule blocks.now (length file.old) }
+// By the most lines that can be written, so that none of up to MANY is made twice: no accepted block is shorter than one of 4, and more than there
+// is room for are refused.
+fn run_sized(blocks: &[u8], file: &mut [u8]) -> Result<usize, Rejected>
+    ensures answer { written_of result ≡ day_rule blocks.now (length file.old) }
     ensures written { file.new ≡ day_after blocks.now file.old }
 {
-    let mut kept = [0u8; ENDED_LENGTH * SOME];
-    run(blocks, &mut kept, file)
-}
-
-fn run_many(blocks: &[u8], file: &mut [u8]) -> Written
-    ensures answer { result ≡ day_rule blocks.now (length file.old) }
-    ensures written { file.new ≡ day_after blocks.now file.old }
-{
-    let mut kept = [0u8; ENDED_LENGTH * MANY];
-    run(blocks, &mut kept, file)
-}
-
-// The most lines that can be written: no accepted block is shorter than one of 4, and more than there is room for are refused.
-fn most(blocks: &[u8], room: usize) -> usize {
-    let held = blocks.len() / SHORTEST;
-    if room < held { room } else { held }
-}
-
-// By the most lines that can be written, so that none of up to MANY is made twice.
-fn run_sized(blocks: &[u8], file: &mut [u8]) -> Written
-    ensures answer { result ≡ day_rule blocks.now (length file.old) }
-    ensures written { file.new ≡ day_after blocks.now file.old }
-{
-    let count = most(blocks, file.len() / ENDED_LENGTH);
-    if count <= FEW {
-        return run_few(blocks, file);
+    let most = (blocks.len() / SHORTEST).min(file.len() / ENDED_LENGTH);
+    if most <= FEW {
+        return run_keeping::<FEW_BYTES>(blocks, file);
     }
-    if count <= SOME {
-        return run_some(blocks, file);
+    if most <= SOME {
+        return run_keeping::<SOME_BYTES>(blocks, file);
     }
-    run_many(blocks, file)
+    run_keeping::<MANY_BYTES>(blocks, file)
 }
 
-// Writes the lines of all blocks into the lent file, or names the first block that is refused.
-pub fn day(blocks: &[u8], file: &mut [u8]) -> Written
-    ensures answer { result ≡ day_rule blocks.now (length file.old) }
+// Writes the lines of all blocks into the lent file and answers how many bytes they are, or names the first block that is refused.
+pub fn day(blocks: &[u8], file: &mut [u8]) -> Result<usize, Rejected>
+    ensures answer { written_of result ≡ day_rule blocks.now (length file.old) }
     ensures written { file.new ≡ day_after blocks.now file.old }
-    ensures lines { written_number_lem result ≡ 0 → LinesOfDay blocks.now file.new }
-    ensures accurate { written_number_lem result ≡ 0 → AccurateDay blocks.now file.new }
-    ensures file { written_number_lem result ≡ 0 → file_number (take (written_bytes result) file.new) ≡ 0 }
+    ensures lines { OnOk result (LinesOfDay blocks.now file.new) }
+    ensures accurate { OnOk result (AccurateDay blocks.now file.new) }
+    ensures file { IfOk result (λ bytes. file_number (take bytes file.new) ≡ 0) }
 {
     run_sized(blocks, file)
 }

@@ -1,25 +1,66 @@
--- Little-endian numbers in halves, and numbers that do not lie within the bytes.
+-- Little-endian numbers from their bytes, numbers that do not lie within the bytes, and std's numbers.
 -- Assumes nothing.
 use mathlib.Core.Path.{◌≡◌, sym, ap, ◌∙◌}
-use mathlib.Core.Bool.{true, false}
+use mathlib.Core.Bool.{true, false, cond}
 use mathlib.Core.List.{List, [], ◌∷◌, ◌++◌}
-use Prim.Native.Nat.{ℕ, suc, ◌+◌, ◌*◌, ◌-◌, ◌^◌, ◌≤◌, ◌<◌}
-use native.Mathlib.Nat.{pow-suc}
-use native.Mathlib.Numerals.{add-one}
+use Prim.Native.Nat.{ℕ, zero, suc, ◌+◌, ◌*◌, ◌-◌, ◌^◌, ◌≤◌, ◌<◌}
+use native.Mathlib.Nat.{le_of_eq, pow-suc}
 use native.Mathlib.Omega.{arith}
-use lib.ListN.{length, take, drop, get_or, length-drop}
+use lib.ListN.{length, take, drop, get_or, replicate, length-drop, drop_of_length-le}
 use lib.Seq.{take-add, drop-drop, drop-cons, length-take-le}
-use lib.Dec.{leb}
+use lib.Dec.{leb, ltb, lit<}
 use lib.IntN.{pos, negsuc}
 use borrow.Author.Tests.{lt-leb, lt-ltb, le-ltb}
+use mir.Syntax.{w16, w32, w64}
+use mir.Val.{to_z}
+use Rattle.std.specs.Int.{from_le_bytes}
 use Rattle.decode.specs.Number.{little, unsigned_at, twos_complement_lem}
+
+-- ---- a number from its bytes, the lowest first
+
+module _ (bytes : List ℕ) where
+  first : (i n : ℕ) → length bytes ≡ n → i < n → little (drop i bytes) ≡ get_or bytes i 0 + 256 * little (drop (suc i) bytes)
+  unfolding little
+  first i n e h = ap little (drop-cons bytes i 0 (omega (arith, e)))
+
+  none : (n : ℕ) → length bytes ≡ n → little (drop n bytes) ≡ 0
+  unfolding little
+  none n e = ap little (drop_of_length-le bytes (le_of_eq e))
+
+  pub two : length bytes ≡ 2 → from_le_bytes w16 bytes ≡ little bytes
+  two e = omega (arith, first 0 2 e (lit< tt), first 1 2 e (lit< tt), none 2 e)
+
+  pub four : length bytes ≡ 4 → from_le_bytes w32 bytes ≡ little bytes
+  four e = omega (arith, first 0 4 e (lit< tt), first 1 4 e (lit< tt), first 2 4 e (lit< tt), first 3 4 e (lit< tt), none 4 e)
+
+  pub eight : length bytes ≡ 8 → from_le_bytes w64 bytes ≡ little bytes
+  eight e =
+      omega (
+        arith,
+        first 0 8 e (lit< tt),
+        first 1 8 e (lit< tt),
+        first 2 8 e (lit< tt),
+        first 3 8 e (lit< tt),
+        first 4 8 e (lit< tt),
+        first 5 8 e (lit< tt),
+        first 6 8 e (lit< tt),
+        first 7 8 e (lit< tt),
+        none 8 e,
+      )
+
+-- bytes of 0
+pub little-none : (n : ℕ) → little (replicate n 0) ≡ 0
+unfolding little
+little-none zero = λ i. 0
+little-none (suc n) = ap (λ (k : ℕ). 0 + 256 * k) (little-none n)
+
+-- ---- a number of two halves
 
 little-append : (xs ys : List ℕ) → little (xs ++ ys) ≡ little xs + 256 ^ length xs * little ys
 unfolding little
 little-append [] ys = omega arith
 little-append (x ∷ xs) ys = simp pow-suc (omega (arith, little-append xs ys))
 
--- a number of two halves
 pub halves : (n at : ℕ) (bytes : List ℕ) → at + (n + n) ≤ length bytes
     → little (take (n + n) (drop at bytes)) ≡ little (take n (drop at bytes)) + 256 ^ n * little (take n (drop (at + n) bytes))
 halves n at bytes h =
@@ -29,13 +70,6 @@ halves n at bytes h =
   where
     rest : (n at m k : ℕ) → k ≡ m - at → at + (n + n) ≤ m → n ≤ k
     rest n at m k e h = omega arith
-
--- a number of two bytes
-pub two_bytes : (at : ℕ) (bytes : List ℕ) → at + 2 ≤ length bytes
-    → get_or bytes at 0 + 256 * get_or bytes (at + 1) 0 ≡ little (take 2 (drop at bytes))
-unfolding little
-two_bytes at bytes h =
-    rw (drop-cons bytes at 0 (omega arith), drop-cons bytes (suc at) 0 (omega arith), add-one) (omega arith)
 
 -- ---- whether a number lies within the bytes
 
@@ -60,3 +94,8 @@ lower-half n h = simp (lt-ltb n (2 ^ 63) h)
 pub upper-half : (n : ℕ) → 2 ^ 63 ≤ n → negsuc (2 ^ 64 - 1 - n) ≡ twos_complement_lem n
 unfolding twos_complement_lem
 upper-half n h = simp (le-ltb n (2 ^ 63) h)
+
+-- std's signed number of a pattern
+pub signed_is : (n : ℕ) → to_z w64 n ≡ twos_complement_lem n
+unfolding twos_complement_lem
+signed_is n = ap (λ (k : ℕ). cond (ltb n (2 ^ 63)) (pos n) (negsuc k)) (omega arith)

@@ -3,15 +3,15 @@
 use mathlib.Core.Path.{◌≡◌, refl, sym, ap, ap₂, ◌∙◌}
 use mathlib.Core.Bool.{true, false}
 use mathlib.Core.List.{List, [], ◌∷◌, ◌++◌, append_assoc, append-nil}
-use Prim.Native.Nat.{ℕ, zero, suc, ◌+◌, ◌*◌, ◌-◌, ◌/◌, ◌≤◌, ◌<◌, min}
+use Prim.Native.Nat.{ℕ, zero, suc, ◌+◌, ◌*◌, ◌-◌, ◌≤◌, ◌<◌, min}
 use native.Mathlib.Numerals.{add-one, sub-one}
 use native.Mathlib.Omega.{arith}
-use native.Mathlib.Nat.{not-suc-le-zero, le_of_suc-le-suc, not-le_of_lt, mul-le-mul_left, le-div_iff_mul-le}
+use native.Mathlib.Nat.{not-suc-le-zero, le_of_suc-le-suc, mul-le-mul_left}
 use lib.ListN.{length, take, set, get_or}
 use lib.Seq.{take-suc-set, take_all}
 use lib.Dec.{leb}
 use lib.IntN.{ℤ, pos}
-use borrow.Author.Tests.{le-leb, lt-leb, leb-true, leb-false}
+use borrow.Author.Tests.{lt-leb, leb-true, leb-false}
 use Rattle.decode.specs.Number.{twos_complement_lem, signed_at_lem, signeds_at}
 use Rattle.decode.specs.Row.{row_lies_lem}
 use Rattle.decode.proofs.Little.{unsigned-outside}
@@ -26,25 +26,21 @@ past bytes p q stride (suc count) hp hq =
     ∙ unsigned-outside 8 q bytes (lt-leb (q + 8) (length bytes) (omega arith))))
     (past bytes (p + stride) (q + stride) stride count (omega arith) (omega arith))
 
--- a place past the end is as good as the end
-pub clamped : (bytes : List ℕ) (p stride count : ℕ) → signeds_at bytes p stride count ≡ signeds_at bytes (min p (length bytes)) stride count
-clamped bytes p stride count = elim (leb p (length bytes)) as (λ t. leb p (length bytes) ≡ t → signeds_at bytes p stride count ≡ signeds_at bytes (min p (length bytes)) stride count) [
-  | true ↦ λ e. ap (λ (q : ℕ). signeds_at bytes q stride count) (within (leb-true p (length bytes) e))
-  | false ↦ λ e. past bytes p (min p (length bytes)) stride count (over (leb-false p (length bytes) e)) (end (leb-false p (length bytes) e))
+-- a place past the end is as good as another
+pub clamped : (bytes : List ℕ) (p end stride count : ℕ) → length bytes ≤ end → signeds_at bytes p stride count ≡ signeds_at bytes (min p end) stride count
+clamped bytes p end stride count room = elim (leb p end) as (λ t. leb p end ≡ t → signeds_at bytes p stride count ≡ signeds_at bytes (min p end) stride count) [
+  | true ↦ λ e. ap (λ (q : ℕ). signeds_at bytes q stride count) (within (leb-true p end e))
+  | false ↦ λ e. past bytes p (min p end) stride count (over (leb-false p end e)) (last (leb-false p end e))
 ] refl
   where
-    within : p ≤ length bytes → p ≡ min p (length bytes)
+    within : p ≤ end → p ≡ min p end
     within h = omega arith
 
-    over : length bytes < p → length bytes ≤ p
+    over : end < p → length bytes ≤ p
     over h = omega arith
 
-    end : length bytes < p → length bytes ≤ min p (length bytes)
-    end h = omega arith
-
--- none is stored yet
-pub all_left : (bytes : List ℕ) (at stride n : ℕ) → signeds_at bytes at stride n ≡ signeds_at bytes (min at (length bytes)) stride (n - 0)
-all_left bytes at stride n = clamped bytes at stride n ∙ ap (signeds_at bytes (min at (length bytes)) stride) (omega arith)
+    last : end < p → length bytes ≤ min p end
+    last h = omega arith
 
 -- one number more is stored
 pub signeds-step : (bytes : List ℕ) (whole out : List ℤ) (next stride n i : ℕ) → i < length out → length out ≡ n
@@ -63,13 +59,13 @@ signeds-step bytes whole out next stride n i h l e =
     one_left : i < length out → length out ≡ n → n - i ≡ suc (n - (i + 1))
     one_left h l = omega arith
 
--- and the next place may be taken for the end, where it lies past it
-pub signeds-turn : (bytes : List ℕ) (whole out : List ℤ) (next stride n i : ℕ) → i < length out → length out ≡ n
+-- and the next place may be taken for another past the end, where it lies there
+pub signeds-turn : (bytes : List ℕ) (whole out : List ℤ) (next end stride n i : ℕ) → length bytes ≤ end → i < length out → length out ≡ n
     → whole ≡ take i out ++ signeds_at bytes next stride (n - i)
-    → whole ≡ take (i + 1) (set out i (signed_at_lem bytes next)) ++ signeds_at bytes (min (next + stride) (length bytes)) stride (n - (i + 1))
-signeds-turn bytes whole out next stride n i h l e =
+    → whole ≡ take (i + 1) (set out i (signed_at_lem bytes next)) ++ signeds_at bytes (min (next + stride) end) stride (n - (i + 1))
+signeds-turn bytes whole out next end stride n i room h l e =
     signeds-step bytes whole out next stride n i h l e
-    ∙ ap (λ (x : List ℤ). take (i + 1) (set out i (signed_at_lem bytes next)) ++ x) (clamped bytes (next + stride) stride (n - (i + 1)))
+    ∙ ap (λ (x : List ℤ). take (i + 1) (set out i (signed_at_lem bytes next)) ++ x) (clamped bytes (next + stride) end stride (n - (i + 1)) room)
 
 -- all are stored
 pub signeds-done : (bytes : List ℕ) (whole out : List ℤ) (next stride n i : ℕ) → n ≤ i → length out ≡ n
@@ -108,33 +104,8 @@ pub row-empty : (bytes at stride count : ℕ) → count ≡ 0 → true ≡ row_l
 unfolding row_lies_lem
 row-empty bytes at stride count e = rw e
 
-module _ (bytes at stride : ℕ) where
-  -- where the first does not lie, the last does not
-  pub row-outside : (count : ℕ) → 0 < count → bytes < at + 8 → false ≡ row_lies_lem bytes at stride count
-  unfolding row_lies_lem
-  row-outside zero c h = absurd (not-suc-le-zero c)
-  row-outside (suc k) c h = sym (lt-leb (at + stride * k + 8) bytes (omega arith))
-
-  -- where it lies, the last does if the room behind it has so many strides
-  module _ (first : at + 8 ≤ bytes) where
-    pub row-still : (count : ℕ) → stride ≡ 0 → true ≡ row_lies_lem bytes at stride count
-    unfolding row_lies_lem
-    row-still zero s = refl
-    row-still (suc k) s = sym (le-leb (at + stride * k + 8) bytes (rw s (omega arith)))
-
-    pub row_room : (count : ℕ) → 0 < count → 0 < stride → leb (count - 1) ((bytes - at - 8) / stride) ≡ row_lies_lem bytes at stride count
-    unfolding row_lies_lem
-    row_room zero c s = absurd (not-suc-le-zero c)
-    row_room (suc k) c s = ap (λ (j : ℕ). leb j room) (sub-one (suc k)) ∙ elim (leb k room) as (λ t. leb k room ≡ t → t ≡ leb (at + stride * k + 8) bytes) [
-      | true ↦ λ e. sym (le-leb (at + stride * k + 8) bytes (within ((le-div_iff_mul-le s).0 (leb-true k room e))))
-      | false ↦ λ e. sym (lt-leb (at + stride * k + 8) bytes (over (λ m. not-le_of_lt (leb-false k room e) ((le-div_iff_mul-le s).1 m))))
-    ] refl
-      where
-        room : ℕ
-        room = (bytes - at - 8) / stride
-
-        within : k * stride ≤ bytes - at - 8 → at + stride * k + 8 ≤ bytes
-        within m = omega arith
-
-        over : (k * stride ≤ bytes - at - 8 → ⊥) → bytes < at + stride * k + 8
-        over m = omega arith
+-- where there are some, the last one tells
+pub row-last : (bytes at stride count : ℕ) → 0 < count → leb (at + stride * (count - 1) + 8) bytes ≡ row_lies_lem bytes at stride count
+unfolding row_lies_lem
+row-last bytes at stride zero h = absurd (not-suc-le-zero h)
+row-last bytes at stride (suc k) h = ap (λ (j : ℕ). leb (at + stride * j + 8) bytes) (sub-one (suc k))

@@ -3,7 +3,7 @@
 #![tactic(auto)]
 
 ghost use Rattle.std.specs.Prelude.{◌≡◌, ◌+◌, length, leb};
-ghost use Rattle.decode.specs.Number.{unsigned_at, twos_complement_lem, signed_at_lem, signeds_at};
+ghost use Rattle.decode.specs.Number.{little, unsigned_at, signed_at_lem, signeds_at};
 
 mod inside;
 
@@ -14,51 +14,35 @@ fn lies(bytes: &[u8], at: usize, width: usize) -> bool
     at <= bytes.len() && width <= bytes.len() - at
 }
 
-// The unsigned numbers of two, four and eight bytes.
+// The N bytes at the offset, or zeros where they do not all lie there.
+fn chunk<const N: usize>(bytes: &[u8], at: usize) -> [u8; N]
+    ensures { little result ≡ unsigned_at N bytes.now at }
+{
+    if lies(bytes, at, N) {
+        inside::chunk(bytes, at)
+    } else {
+        [0; N]
+    }
+}
+
+// The unsigned numbers of two and four bytes.
 pub fn unsigned16(bytes: &[u8], at: usize) -> u16
     ensures { result ≡ unsigned_at 2 bytes.now at }
 {
-    if lies(bytes, at, 2) {
-        inside::unsigned16(bytes, at)
-    } else {
-        0
-    }
+    u16::from_le_bytes(chunk(bytes, at))
 }
 
 pub fn unsigned32(bytes: &[u8], at: usize) -> u32
     ensures { result ≡ unsigned_at 4 bytes.now at }
 {
-    if lies(bytes, at, 4) {
-        inside::unsigned32(bytes, at)
-    } else {
-        0
-    }
+    u32::from_le_bytes(chunk(bytes, at))
 }
 
-fn unsigned64(bytes: &[u8], at: usize) -> u64
-    ensures { result ≡ unsigned_at 8 bytes.now at }
-{
-    if lies(bytes, at, 8) {
-        inside::unsigned64(bytes, at)
-    } else {
-        0
-    }
-}
-
-// A pattern of 64 bits as a signed number.
-fn twos_complement(n: u64) -> i64
-    ensures { result ≡ twos_complement_lem n }
-{
-    if n < 0x8000_0000_0000_0000 {
-        return n as i64;
-    }
-    -1 - (0xffff_ffff_ffff_ffff - n) as i64
-}
-
+// The signed number of eight bytes.
 pub fn signed64(bytes: &[u8], at: usize) -> i64
     ensures { result ≡ signed_at_lem bytes.now at }
 {
-    twos_complement(unsigned64(bytes, at))
+    i64::from_le_bytes(chunk(bytes, at))
 }
 
 // Fills out with signed numbers, the first at an offset and each a stride behind the one before.
@@ -71,13 +55,13 @@ pub fn fill(bytes: &[u8], at: usize, stride: usize, out: &mut [i64])
     fill_past(bytes, at, stride, out)
 }
 
-// The same for a row of which not all may lie within the bytes: a place past the end is taken for the end.
+// The same for a row of which not all may lie within the bytes. A place too far for an offset is past the end too.
 fn fill_past(bytes: &[u8], at: usize, stride: usize, out: &mut [i64])
     ensures { out.new ≡ signeds_at bytes.now at stride (length out.old) }
 {
-    let mut next = inside::clamped(0, at, bytes.len());
-    for i in 0..out.len() {
-        out[i] = signed64(bytes, next);
-        next = inside::clamped(next, stride, bytes.len());
+    let mut next = at;
+    for number in out.iter_mut() {
+        *number = signed64(bytes, next);
+        next = next.saturating_add(stride);
     }
 }

@@ -1,8 +1,8 @@
 -- What is answered (specs/Lookup.antt, specs/Append.antt), by the tests that were made, and what the case of an answer tells (specs/Answers.antt).
 -- Assumes nothing.
-use mathlib.Core.Path.{◌≡◌, sym, ap, subst, ◌∙◌}
+use mathlib.Core.Path.{◌≡◌, sym, ap, ◌∙◌}
 use mathlib.Core.Bool.{Bool, true, false, cond, ◌||◌}
-use mathlib.Core.List.{List, [], ◌∷◌, ◌++◌}
+use mathlib.Core.List.{List, ◌++◌}
 use Prim.Native.Nat.{ℕ, zero, suc, ◌+◌, ◌*◌, ◌≤◌, ◌<◌, zero-le}
 use native.Mathlib.Nat.{le_refl, le_step}
 use native.Mathlib.Omega.{arith}
@@ -11,17 +11,17 @@ use lib.IntN.{ℤ}
 use lib.ListN.{length, drop}
 use borrow.Author.Tests.{eqb-true, ne_eqb, ltb-false, not-false}
 use Rattle.limits.specs.Refusal.{◌when◌, ◌then◌}
-use Rattle.limits.specs.Reply.{Reply, reply}
+use Rattle.limits.specs.Reply.{reply}
 use Rattle.limits.specs.Limits.{delay_limit}
 use Rattle.limits.specs.Lists.{any_beyond_lem}
 use Rattle.limits.proofs.Laws.{then-zero, then-refused, when-zero, or-false, after-accepted, room-passed}
-use Rattle.limits.proofs.Replies.{reply-refused, refused-reply, reply-number, reply-values}
+use Rattle.limits.specs.Numbers.{paper_number}
+use Rattle.limits.specs.declared.refusal.Refusal.{Refusal}
+use Rattle.limits.proofs.Cases.{paper_above_zero}
+use Rattle.limits.proofs.Replies.{reply-refused, refused-reply}
 use Rattle.delays.specs.Store.{version, count, group_width_lem, store_length_lem, start, delays, rising, store_number, most_entries}
 use Rattle.delays.specs.Lookup.{in_force_lem, set_in_force, lookup_number, no_set, lookup_rule}
 use Rattle.delays.specs.Append.{longer_store, append_number, append_rule, append_after}
-use Rattle.delays.specs.Answers.{delays_reply, DelaysNumbered, append_reply, AppendNumbered}
-use Rattle.delays.specs.declared.Delays.{Delays}
-use Rattle.delays.specs.declared.Appended.{Appended}
 
 pub in-force-most : (start : ℕ → ℕ) (mjd n : ℕ) → in_force_lem start mjd n ≤ n
 unfolding in_force_lem
@@ -85,6 +85,11 @@ module _ (s : List ℕ) (mjd : ℕ) (int cab refdly gd : ℤ) (lent : List ℕ) 
   unfolding append_rule append_after
   append-refused e h = refused-reply 0 (store_length_lem (version s) (suc (count s))) _ lent e h
 
+  -- a store that is refused is refused first
+  pub store-refused : (r : Refusal) → paper_number r ≡ store_number s → paper_number r ≡ append_number s mjd int cab refdly gd (length lent)
+  unfolding append_number
+  store-refused r e = rw (← e) (sym (then-refused _ _ (paper_above_zero r)))
+
   pub append-done : append_number s mjd int cab refdly gd (length lent) ≡ 0
       → (record { number = 0; values = store_length_lem (version s) (suc (count s)) } ≡ append_rule s mjd int cab refdly gd (length lent))
       × (longer_store s mjd int cab refdly gd ++ drop (store_length_lem (version s) (suc (count s))) lent ≡ append_after s mjd int cab refdly gd lent)
@@ -120,35 +125,3 @@ fitting s mjd int cab refdly gd lent e =
     let r = append-room s mjd int cab refdly gd lent e in
     let a = accepted s r.0 in
     record { groups = groups-fit s a.long; long = one_more s a.long; room = r.1; few = a.few }
-
--- ---- what the case of an answer tells
-
-module _ (s : List ℕ) (mjd : ℕ) where
-  pub refused-case : {r : Delays} {number : ℕ} → r ≡ Delays.Refused number → delays_reply r ≡ lookup_rule s mjd → DelaysNumbered r
-      → (number ≡ lookup_number s mjd) × (0 < number)
-  unfolding lookup_rule
-  refused-case e a h = (
-    ap (λ (t : Reply (List ℤ)). t.number) (sym (ap delays_reply e) ∙ a) ∙ reply-number no_set (set_in_force s mjd) (lookup_number s mjd),
-    subst DelaysNumbered e h,
-  )
-
-  pub set-case : {r : Delays} {int cab refdly gd : ℤ} → r ≡ Delays.Set int cab refdly gd → delays_reply r ≡ lookup_rule s mjd
-      → (lookup_number s mjd ≡ 0) × (int ∷ cab ∷ refdly ∷ gd ∷ [] ≡ set_in_force s mjd)
-  unfolding lookup_rule
-  set-case e a = reply-values no_set (set_in_force s mjd) (lookup_number s mjd) (sym (ap delays_reply e) ∙ a)
-
-module _ (s : List ℕ) (mjd : ℕ) (int cab refdly gd : ℤ) (room : ℕ) where
-  pub append-refused-case : {r : Appended} {number : ℕ} → r ≡ Appended.Refused number → append_reply r ≡ append_rule s mjd int cab refdly gd room
-      → AppendNumbered r → (number ≡ append_number s mjd int cab refdly gd room) × (0 < number)
-  unfolding append_rule
-  append-refused-case e a h = (
-    ap (λ (t : Reply ℕ). t.number) (sym (ap append_reply e) ∙ a)
-        ∙ reply-number 0 (store_length_lem (version s) (suc (count s))) (append_number s mjd int cab refdly gd room),
-    subst AppendNumbered e h,
-  )
-
-  pub append-bytes-case : {r : Appended} {bytes : ℕ} → r ≡ Appended.Bytes bytes → append_reply r ≡ append_rule s mjd int cab refdly gd room
-      → (append_number s mjd int cab refdly gd room ≡ 0) × (bytes ≡ store_length_lem (version s) (suc (count s)))
-  unfolding append_rule
-  append-bytes-case e a =
-      reply-values 0 (store_length_lem (version s) (suc (count s))) (append_number s mjd int cab refdly gd room) (sym (ap append_reply e) ∙ a)

@@ -62,6 +62,14 @@ unfolding later
 later-some start zero mjd h = absurd (h refl)
 later-some start (suc n) mjd h = ap (λ (k : ℕ). ltb (start k) mjd) (sub-one (suc n))
 
+-- the last of n starts is read four bytes before the groups
+pub later-last : (s : List ℕ) (n mjd : ℕ) {date : ℕ} → date ≡ unsigned_at 4 s (4 * n) → (n ≡ 0 → ⊥) → ltb date mjd ≡ later (start s) n mjd
+unfolding start
+later-last s n mjd e h = ap (λ (x : ℕ). ltb x mjd) (e ∙ ap (unsigned_at 4 s) (place h)) ∙ later-some (start s) n mjd h
+  where
+    place : (n ≡ 0 → ⊥) → 4 * n ≡ 4 + 4 * (n - 1)
+    place h = omega arith
+
 module _ (start : ℕ → ℕ) (mjd : ℕ) where
   pub in-force-none : (n : ℕ) → n ≤ 0 → 0 ≡ in_force_lem start mjd n
   unfolding in_force_lem

@@ -1,25 +1,17 @@
--- What the answers mean (document 02, Job 9): the number of the refusal, 0 where there is none, and the four delays or the bytes written, 0
--- throughout where there is a refusal.
+-- What the answer of a lookup means (document 02, Job 9): the number of the refusal, 0 where there is none, and the four delays, 0 throughout where
+-- there is a refusal.
 -- Assumes nothing.
-use Rattle.std.specs.Prelude.{ℕ, ◌<◌, List, [], ◌∷◌, ℤ}
+use Rattle.std.specs.Prelude.{List, [], ◌∷◌, ℤ, Result, Ok, Err}
 use Rattle.limits.specs.Reply.{Reply}
+use Rattle.limits.specs.Numbers.{paper_number}
+use Rattle.limits.specs.declared.Delays.{Delays}
+use Rattle.limits.specs.declared.refusal.Refusal.{Refusal}
 use Rattle.delays.specs.Lookup.{no_set}
-use Rattle.delays.specs.declared.Delays.{Delays}
-use Rattle.delays.specs.declared.Appended.{Appended}
 
-abbrev pub delays_reply : Delays → Reply (List ℤ)
-delays_reply (Delays.Set int cab refdly gd) = record { number = 0; values = int ∷ cab ∷ refdly ∷ gd ∷ [] }
-delays_reply (Delays.Refused number) = record { number = number; values = no_set }
+-- The four delays of a set, in the order of the store.
+abbrev pub set_values : Delays → List ℤ
+set_values d = d.int ∷ d.cab ∷ d.refdly ∷ d.gd ∷ []
 
-abbrev pub append_reply : Appended → Reply ℕ
-append_reply (Appended.Bytes bytes) = record { number = 0; values = bytes }
-append_reply (Appended.Refused number) = record { number = number; values = 0 }
-
--- A refusal carries a number: so an answer's case is known from its reply.
-abbrev pub DelaysNumbered : Delays → Type 0
-DelaysNumbered (Delays.Set int cab refdly gd) = Unit {0}
-DelaysNumbered (Delays.Refused number) = 0 < number
-
-abbrev pub AppendNumbered : Appended → Type 0
-AppendNumbered (Appended.Bytes bytes) = Unit {0}
-AppendNumbered (Appended.Refused number) = 0 < number
+abbrev pub delays_reply : Result Delays Refusal → Reply (List ℤ)
+delays_reply (Ok d) = record { number = 0; values = set_values d }
+delays_reply (Err r) = record { number = paper_number r; values = no_set }

@@ -1,14 +1,15 @@
 // What is refused of a store, and of what is to be appended. A count has 16 bits: it is below 65536.
-ghost use Rattle.std.specs.Prelude.{◌≡◌, ◌+◌, ◌*◌, ◌≤◌, not, ◌&&◌, ◌||◌, ltb, eqb, length};
+ghost use Rattle.std.specs.Prelude.{◌≡◌, ◌+◌, ◌*◌, ◌≤◌, IfOk, not, ◌&&◌, ◌||◌, ltb, eqb, length};
 ghost use Rattle.limits.specs.Limits.{beyond, delay_limit, delays_beyond_lem};
 ghost use Rattle.limits.specs.Lists.{any_beyond_lem};
+ghost use Rattle.limits.specs.Numbers.{number_of};
 ghost use Rattle.decode.specs.Number.{signeds_at};
-ghost use Rattle.delays.specs.Store.{most_entries, version, store_length_lem, start, rising, store_number};
+ghost use Rattle.delays.specs.Store.{most_entries, store_length_lem, start, rising, store_number};
 ghost use Rattle.delays.specs.Append.{append_number};
 
-use super::store::{count, group_width, later, store_length};
+use super::store::{Store, count, group_width, store_length};
 use decode::{signed64, unsigned16, unsigned32};
-use limits::{delay_beyond, delays_beyond, outside, then, when};
+use limits::{Delays, Refusal, delay_beyond, delays_beyond};
 
 // How many entries a store has at most.
 const MOST_ENTRIES: usize = 1000;
@@ -19,6 +20,7 @@ fn rising(store: &[u8], n: usize) -> bool
     requires n_in_bounds { 4 + 4 * n ≤ length store.now }
     ensures { result ≡ rising (start store.now) n }
 {
+    // Kept: places, as two dates stand side by side in eight bytes; a list of dates would be one pass more.
     let mut ok = true;
     for k in 1..n {
         let from = 4 * k;
@@ -36,6 +38,7 @@ fn any_beyond(store: &[u8], at: usize, n: usize) -> bool
     requires n_in_bounds { at + 8 * n ≤ length store.now }
     ensures { result ≡ any_beyond_lem delay_limit (signeds_at store.now at 8 n) }
 {
+    // Kept: places, as the delays begin at an offset of their own; no plainer by parts of eight bytes.
     let mut found = false;
     for i in 0..n {
         let from = at + 8 * i;
@@ -55,43 +58,44 @@ fn head_wrong(store: &[u8], version: u16, entries: usize) -> bool
         | !(store.len() == store_length(version, entries))
 }
 
-// 20 or 0 of a store. Entries are looked at where the length is right, so that no store takes longer than its bytes do.
-pub fn store_refusal(store: &[u8]) -> u32
-    ensures { result ≡ store_number store.now }
+// The store of these bytes, or what they are refused for. Entries are looked at where the length is right, so that no store takes longer than its
+// bytes do.
+pub fn judge(bytes: &[u8]) -> Result<Store<'_>, Refusal>
+    ensures answer { number_of result ≡ store_number bytes.now }
+    ensures store { IfOk result (λ store. store.bytes.now ≡ bytes.now) }
 {
-    let version = unsigned16(store, 0);
-    let entries = count(store);
-    if head_wrong(store, version, entries) {
-        return 20;
+    let version = unsigned16(bytes, 0);
+    let entries = count(bytes);
+    if head_wrong(bytes, version, entries) {
+        return Err(Refusal::Store);
     }
-    let wrong = !rising(store, entries)
-        | any_beyond(store, 4 + 4 * entries, group_width(version) * entries);
-    when(20, wrong)
+    if !rising(bytes, entries)
+        | any_beyond(bytes, 4 + 4 * entries, group_width(version) * entries)
+    {
+        return Err(Refusal::Store);
+    }
+    Ok(Store { bytes })
 }
 
 // Whether a new delay is beyond its limit, or a GD is not 0 in version 1.
-fn new_beyond(store: &[u8], int: i64, cab: i64, refdly: i64, gd: i64) -> bool
-    ensures { result ≡ (delays_beyond_lem int cab refdly gd || (eqb (version store.now) 1 && beyond 0 gd)) }
+fn new_beyond(version: u16, delays: Delays) -> bool
+    ensures { result ≡ (delays_beyond_lem delays.int delays.cab delays.refdly delays.gd || (eqb version 1 && beyond 0 delays.gd)) }
 {
-    delays_beyond(int, cab, refdly, gd) | ((unsigned16(store, 0) == 1) & outside(0, 0, gd))
+    delays_beyond(delays) | ((version == 1) & (delays.gd != 0))
 }
 
-// The number of an append.
-pub fn append_refusal(
-    store: &[u8],
-    mjd: u32,
-    int: i64,
-    cab: i64,
-    refdly: i64,
-    gd: i64,
-    room: usize,
-) -> u32
-    ensures { result ≡ append_number store.now mjd int cab refdly gd room }
+// What an append to an accepted store is refused for.
+pub fn append_refusal(store: Store, mjd: u32, delays: Delays, room: usize) -> Result<(), Refusal>
+    ensures { number_of result ≡ append_number store.entry.bytes.now mjd delays.int delays.cab delays.refdly delays.gd room }
 {
-    let entries = count(store);
-    let bad = store_refusal(store);
-    let new = when(20, new_beyond(store, int, cab, refdly, gd));
-    let full = when(22, !later(store, entries, mjd) | (entries == MOST_ENTRIES));
-    let short = when(9, room < store_length(unsigned16(store, 0), entries + 1));
-    then(bad, then(new, then(full, short)))
+    if new_beyond(store.version(), delays) {
+        return Err(Refusal::Store);
+    }
+    if !store.later(mjd) | (store.count() == MOST_ENTRIES) {
+        return Err(Refusal::NotLater);
+    }
+    if room < store.longer_length() {
+        return Err(Refusal::Lent);
+    }
+    Ok(())
 }

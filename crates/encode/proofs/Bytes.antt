@@ -1,17 +1,15 @@
 -- Numbers as bytes (specs/Encode.antt): how a writer goes on.
 -- Assumes nothing.
 use mathlib.Core.Path.{◌≡◌, refl, sym, ap, ap₂, ◌∙◌}
-use mathlib.Core.Bool.{true, false, true≢false}
 use mathlib.Core.List.{List, [], ◌∷◌, ◌++◌, append-nil}
 use Prim.Native.Nat.{ℕ, zero, suc, ◌+◌, ◌-◌, ◌/◌, ◌%◌, ◌≤◌, ◌<◌}
-use native.Mathlib.Nat.{not-suc-le-zero}
 use native.Mathlib.Numerals.{add-one}
 use native.Mathlib.Omega.{arith}
-use lib.IntN.{ℤ, pos, negsuc, nat_abs}
-use lib.Signed.{lt_z}
+use lib.IntN.{ℤ, pos, negsuc}
 use lib.ListN.{length, take, set}
 use lib.Seq.{take-suc-set, append_snoc, take_all}
-use borrow.Author.Tests.{ltb-true}
+use mir.Syntax.{w64}
+use mir.Val.{of_z}
 use Rattle.encode.specs.Encode.{little_bytes, pattern_of}
 
 pub length-bytes : (width n : ℕ) → length (little_bytes width n) ≡ width
@@ -43,14 +41,10 @@ bytes-done out n i rest h l =
     none : n ≤ i → n - i ≡ 0
     none h = omega arith
 
--- ---- the pattern from the magnitude
+-- ---- the pattern
 
-pub pattern-below : (z : ℤ) → lt_z z (pos 0) ≡ true → (1 ≤ nat_abs z) × (18446744073709551615 - (nat_abs z - 1) ≡ pattern_of z)
+-- std's pattern of a signed number
+pub pattern_is : (z : ℤ) → of_z w64 z ≡ pattern_of z
 unfolding pattern_of
-pattern-below (pos n) t = absurd (not-suc-le-zero (ltb-true n 0 t))
-pattern-below (negsuc n) t = (omega arith, omega arith)
-
-pub pattern-above : (z : ℤ) → lt_z z (pos 0) ≡ false → nat_abs z ≡ pattern_of z
-unfolding pattern_of
-pattern-above (pos n) t = refl
-pattern-above (negsuc n) t = absurd (true≢false t)
+pattern_is (pos n) = refl
+pattern_is (negsuc n) = omega arith

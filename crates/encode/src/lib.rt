@@ -4,15 +4,13 @@
 ghost use Rattle.std.specs.Prelude.{◌≡◌, length};
 ghost use Rattle.encode.specs.Encode.{little_bytes, pattern_of};
 
-use whole::magnitude;
-
 // The lowest bytes of value, one for each byte of out.
 pub fn unsigned(value: u64, out: &mut [u8])
     ensures { out.new ≡ little_bytes (length out.old) value }
 {
     let mut rest = value;
-    for i in 0..out.len() {
-        out[i] = (rest % 256) as u8;
+    for byte in out.iter_mut() {
+        *byte = (rest % 256) as u8;
         rest = rest / 256;
     }
 }
@@ -21,9 +19,5 @@ pub fn unsigned(value: u64, out: &mut [u8])
 pub fn pattern(value: i64) -> u64
     ensures { result ≡ pattern_of value }
 {
-    let size = magnitude(value);
-    if value < 0 {
-        return 0xffff_ffff_ffff_ffff - (size - 1);
-    }
-    size
+    value.cast_unsigned()
 }

@@ -1,19 +1,18 @@
 -- Laws of the definitions that the loops step by.
 -- Assumes nothing.
-use mathlib.Core.Path.{◌≡◌, refl, ap, ap₂, ◌∙◌}
-use mathlib.Core.List.{List, [], ◌∷◌, ◌++◌, append_assoc, append-nil}
+use mathlib.Core.Path.{◌≡◌, refl, ap, ◌∙◌}
+use mathlib.Core.List.{List, [], ◌∷◌, ◌++◌, append_assoc}
 use Prim.Native.Nat.{ℕ, zero, suc, ◌+◌, ◌-◌, ◌*◌, ◌/◌, ◌%◌, ◌^◌, ◌≤◌, ◌<◌}
 use native.Mathlib.Nat.{not-suc-le-zero, pow-suc}
 use native.Mathlib.Omega.{arith}
 use native.Mathlib.Numerals.{add-one, sub-one}
 use lib.ListN.{length, take, drop, set, get_or, length-append}
-use lib.Seq.{take-suc, take-length, drop-length}
+use lib.Seq.{take-suc}
 use mathlib.Core.Bool.{true, false, true≢false}
 use lib.Dec.{ltb}
 use borrow.Author.Tests.{ltb-true, ltb-false, le-leb, lt-leb}
 use lib.IntN.{ℤ, pos, negsuc, neg_ℤ, nat_abs}
 use lib.Signed.{lt_z}
-use borrow.Rule.Slice.PartMut.{put_mid, mid_of}
 use Rattle.fields.specs.Text.{decimal, sign, signed, hex_digit_lem, hexadecimal, byte_sum}
 use Rattle.fields.specs.Read.{digits_from, read_decimal, read_signed, read_digit, read_hexadecimal}
 use Rattle.fields.proofs.Lists.{drop-set-same}
@@ -78,19 +77,6 @@ pub empty-signed : (out : List ℕ) (z : ℤ) → length out ≤ 0 → out ≡ s
 unfolding signed
 empty-signed [] z h = refl
 empty-signed (o ∷ out) z h = absurd (not-suc-le-zero h)
-
--- digits that fill the part behind the sign, put back there
-part_filled : (out digits : List ℕ) (k n : ℕ) → k ≡ length out → digits ≡ decimal (length (take k out)) n → digits ++ drop k out ≡ decimal (length out) n
-part_filled out digits k n e ed = simp (ed, e, take-length, drop-length, append-nil)
-
--- the sign stands first, and the digits in the part behind it
-pub signed-done : (out : List ℕ) (s : ℕ) (z : ℤ) (digits : List ℕ) → 0 < length out → s ≡ sign z
-    → digits ≡ decimal (length (mid_of 1 (length (set out 0 s) - 1) (set out 0 s))) (nat_abs z)
-    → put_mid 1 (length (set out 0 s) - 1) (set out 0 s) digits ≡ signed (length out) z
-unfolding signed
-signed-done [] s z digits h es ed = absurd (not-suc-le-zero h)
-signed-done (o ∷ out) s z digits h es ed =
-    ap₂ ◌∷◌ es (part_filled out digits (suc (length out) - 1) (nat_abs z) (sub-one (suc (length out))) ed)
 
 -- ---- read back
 

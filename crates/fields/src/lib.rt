@@ -6,16 +6,12 @@ ghost use Rattle.std.specs.Prelude.{◌≡◌, ◌*◌, ◌≤◌, length, get_o
 ghost use Rattle.fields.specs.Text.{decimal, sign, signed, hex_digit_lem, checksum};
 ghost use Rattle.fields.specs.Raw.{two_digits_lem};
 
-use whole::magnitude;
-
 // The last decimal digits of value, one for each byte of out.
 pub fn decimal(value: u64, out: &mut [u8])
     ensures { out.new ≡ decimal (length out.old) value }
 {
     let mut rest = value;
-    let mut i = out.len();
-    while 0 < i {
-        i -= 1;
+    for i in (0..out.len()).rev() {
         out[i] = b'0' + (rest % 10) as u8;
         rest = rest / 10;
     }
@@ -32,9 +28,9 @@ fn sign(value: i64) -> u8
 pub fn signed(value: i64, out: &mut [u8])
     ensures { out.new ≡ signed (length out.old) value }
 {
-    if 0 < out.len() {
-        out[0] = sign(value);
-        decimal(magnitude(value), &mut out[1..]);
+    if let Some((first, digits)) = out.split_first_mut() {
+        *first = sign(value);
+        decimal(value.unsigned_abs(), digits);
     }
 }
 
@@ -46,28 +42,22 @@ pub fn hex_digit(n: u8) -> u8
     if d < 10 { b'0' + d } else { b'A' + d - 10 }
 }
 
-fn wide(b: u8) -> u32
-    ensures { result ≡ b }
-{
-    b as u32
-}
-
 // The sum of the bytes, modulo 256.
 pub fn checksum(text: &[u8]) -> u8
     ensures { result ≡ checksum text.now }
 {
-    let mut sum: u32 = 0;
-    for i in 0..text.len() {
-        sum = (sum + wide(text[i])) % 256;
+    let mut sum: u8 = 0;
+    for byte in text {
+        sum = sum.wrapping_add(*byte);
     }
-    sum as u8
+    sum
 }
 
 // A byte of a text. What stands past its end counts as 0.
 pub fn byte_at(text: &[u8], at: usize) -> u64
     ensures { (result ≡ get_or text.now at 0) × (result ≤ 255) }
 {
-    if at < text.len() { text[at] as u64 } else { 0 }
+    text.get(at).map_or(0, |&byte| byte as u64)
 }
 
 // Two bytes of a text that stand for the digits of a number: 11 times '0' more than it. What stands past the end counts as 0.

@@ -2,5 +2,5 @@
 // both. Crates merging and viewing answer; here both are at hand together.
 #![tactic(auto)]
 
-pub use merging::{Merged, merge, merged_number};
-pub use viewing::{View, common_view, view_number};
+pub use merging::merge;
+pub use viewing::{Figures, common_view};

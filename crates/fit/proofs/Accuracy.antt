@@ -26,8 +26,7 @@ use Rattle.series.specs.Smooth.{smoothed}
 use Rattle.series.specs.Fit.{total, moment, midpoint, slope}
 use Rattle.series.specs.Scatter.{residual, squares, threshold, dsg}
 use Rattle.correcting.specs.Correct.{blocks, places, smoothed_at, value_a, value_b, value_c, value_d}
-use Rattle.fit.specs.Track.{numbers_with, record_of, results, tracked, track_number, track_rule}
-use Rattle.fit.specs.declared.Tracked.{Tracked}
+use Rattle.fit.specs.Track.{Tracked, numbers_with, record_of, results, tracked, track_number, track_rule}
 use Rattle.limits.specs.declared.Numbers.{Numbers}
 use Rattle.series.proofs.Fitting.{span-some, midpoint-cong, slope-cong, midpoint-stepped, slope-stepped}
 use Rattle.series.proofs.Thresholds.{dsg-greatest}

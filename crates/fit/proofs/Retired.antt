@@ -11,8 +11,7 @@ use Rattle.series.specs.Fit.{value_limit}
 use Rattle.correcting.specs.Correct.{blocks, wrong_sizes, out_of_limits}
 use Rattle.correcting.proofs.Largest.{corrected-within}
 use Rattle.fit.specs.declared.TrackRecord.{TrackRecord}
-use Rattle.fit.specs.declared.Tracked.{Tracked}
-use Rattle.fit.specs.Track.{record_of, results, record_number, track_number, tracked, track_rule}
+use Rattle.fit.specs.Track.{Tracked, record_of, results, record_number, track_number, tracked, track_rule}
 
 -- 10 as it was: some corrected value exceeds 2 × 10^13 tenths in magnitude. It was tried behind 2.
 unfoldable pub some_beyond : TrackRecord → Bool

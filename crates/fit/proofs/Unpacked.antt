@@ -10,7 +10,13 @@ use native.Mathlib.Omega.{arith}
 use lib.Dec.{eqb, lit≤}
 use lib.IntN.{ℤ, pos, nat_abs, ◌*ℤ◌}
 use lib.ListN.{length, take, drop, replicate}
-use Rattle.limits.specs.Limits.{measurement_limit}
+use Rattle.std.specs.Prelude.{Result, Ok, Err}
+use Rattle.std.specs.Result.{MatchResult, IfOk}
+use Rattle.limits.specs.Limits.{measurement_limit, no_numbers}
+use Rattle.limits.specs.Numbers.{paper_number, reply_of}
+use Rattle.limits.specs.declared.Delays.{Delays}
+use Rattle.limits.specs.declared.Numbers.{Numbers}
+use Rattle.limits.specs.declared.refusal.Refusal.{Refusal}
 use Rattle.limits.specs.Blocks.{blocks_fit_lem}
 use Rattle.limits.specs.Lists.{any_beyond_lem}
 use Rattle.limits.specs.Refusal.{◌when◌, ◌then◌}
@@ -30,12 +36,11 @@ use Rattle.correcting.specs.Answer.{filled, whole_blocks, others_beyond}
 use Rattle.correcting.proofs.Arrays.{places-at, places-bound, filled-alike, filled-places}
 use Rattle.correcting.proofs.Parts.{whole-blocks}
 use Rattle.correcting.proofs.Refusals.{limits-parts}
-use Rattle.fit.specs.declared.Found.{Found}
 use Rattle.fit.specs.Track.{record_of, results, track_number}
-use Rattle.fit.specs.Found.{found_number_lem, found_numbers, found, judged_rule, found_rule}
+use Rattle.fit.specs.Found.{judged_rule, found_rule}
 use Rattle.fit.specs.Packed.{grouped, packed, smoothed_of}
 use Rattle.fit.proofs.Accuracy.{results-accurate, enough}
-use Rattle.fit.proofs.Tracks.{found_number, found-numbers}
+use Rattle.fit.proofs.Tracks.{found-values}
 
 -- a number of one group of n, each of forty bytes
 pub unpacked-group : (k : List ℕ) (n j from : ℕ) → 40 * n ≤ length k → j < n → from + 8 ≤ 40
@@ -81,28 +86,32 @@ module _ (l : List ℤ) (n : ℕ) (all : length l ≡ 15 * n) (most : n ≤ 52) 
       (λ i. subst (λ (k : List ℤ). nat_abs (at k i) ≤ value_limit) (sym smoothed-row) (places-bound (smoothed_of l) n value_limit smoothed-most i))
 
 -- an accepted answer is accurate
-pub found-accurate : (g : Given) (x : Found) → x ≡ found_rule g → found_number_lem x ≡ 0 → AccurateTrack steps (blocks g) g (found_numbers x)
-found-accurate g x e z =
-    subst (AccurateTrack steps (blocks g) g) (sym (found-numbers g x e z)) (results-accurate g (enough g (sym (found_number g x e) ∙ z)))
+pub found-accurate : (g : Given) (x : Result Numbers Refusal) → reply_of no_numbers x ≡ found_rule g → IfOk x (AccurateTrack steps (blocks g) g)
+found-accurate g x e = by x (found-values g x e)
+  where
+    by : (x : Result Numbers Refusal) → MatchResult x (λ n. (track_number g ≡ 0) × (n ≡ (results g).numbers)) (λ r. track_number g ≡ paper_number r)
+        → IfOk x (AccurateTrack steps (blocks g) g)
+    by (Ok n) v = subst (AccurateTrack steps (blocks g) g) (sym v.1) (results-accurate g (enough g v.0))
+    by (Err r) v = tt
 
 -- the cases of a track's answer
 module _ (g : Given) where
-  pub sizes-found : wrong_sizes g ≡ true → Found.Refused 1 ≡ found_rule g
-  unfolding found_rule found track_number ◌when◌ ◌then◌
+  pub sizes-found : wrong_sizes g ≡ true → reply_of no_numbers (Err Refusal.Count) ≡ found_rule g
+  unfolding found_rule track_number ◌when◌ ◌then◌
   sizes-found e = rw e
 
   module _ (e : wrong_sizes g ≡ false) where
-    pub limits-found : out_of_limits g ≡ true → Found.Refused 2 ≡ found_rule g
-    unfolding found_rule found track_number ◌when◌ ◌then◌
-    limits-found f = rw (e, f)
+    pub limits-found : out_of_limits g ≡ true → (r : Refusal) → paper_number r ≡ 2 → reply_of no_numbers (Err r) ≡ found_rule g
+    unfolding found_rule track_number ◌when◌ ◌then◌
+    limits-found f r h = rw (e, f, h)
 
     pub judged-found : out_of_limits g ≡ false → judged_rule (results g) ≡ found_rule g
     unfolding found_rule judged_rule track_number ◌when◌ ◌then◌
     judged-found f = rw (e, f)
 
-module _ (m k : List ℕ) (int cab refdly gd : ℤ) where
+module _ (m k : List ℕ) (delays : Delays) where
   abbrev pub given-packed : Given
-  given-packed = packed m int cab refdly gd k
+  given-packed = packed m delays k
 
   abbrev pub groups : ℕ
   groups = length k / 40
@@ -147,9 +156,9 @@ module _ (m k : List ℕ) (int cab refdly gd : ℤ) where
     pub measured-length : length measured ≡ 15 * groups
     measured-length = length-signeds m 0 8 (15 * groups)
 
-    pub limits-are : out_of_limits given-packed ≡ any_beyond_lem measurement_limit measured || others_beyond (grouped groups [] int cab refdly gd k)
+    pub limits-are : out_of_limits given-packed ≡ any_beyond_lem measurement_limit measured || others_beyond (grouped groups [] delays k)
     unfolding others_beyond packed
-    limits-are = limits-parts given-packed ∙ ap (λ (l : List ℤ). any_beyond_lem measurement_limit l || others_beyond (grouped groups [] int cab refdly gd k)) measured-is
+    limits-are = limits-parts given-packed ∙ ap (λ (l : List ℤ). any_beyond_lem measurement_limit l || others_beyond (grouped groups [] delays k)) measured-is
 
     smoothed-is : (j : ℕ) → smoothed_of measured j ≡ smoothed_at given-packed j
     unfolding smoothed_at smoothed_of block packed
@@ -157,13 +166,13 @@ module _ (m k : List ℕ) (int cab refdly gd : ℤ) where
 
     -- the rows of the corrected values are those of the record
     module _ (y : List ℤ) (is : (j : ℕ) → j < groups → at y j ≡ smoothed_of measured j) where
-      pub a-row : filled groups (λ j. to_a (grouped groups [] int cab refdly gd k) (pos steps) j (at y j)) (replicate 52 (pos 0)) ≡ places groups (value_a given-packed)
+      pub a-row : filled groups (λ j. to_a (grouped groups [] delays k) (pos steps) j (at y j)) (replicate 52 (pos 0)) ≡ places groups (value_a given-packed)
       unfolding value_a to_a packed
-      a-row = filled-alike groups _ (value_a given-packed) (replicate 52 (pos 0)) (λ j h. ap (to_a (grouped groups [] int cab refdly gd k) (pos steps) j) (is j h ∙ smoothed-is j)) ∙ filled-places groups _ few-blocks.1
+      a-row = filled-alike groups _ (value_a given-packed) (replicate 52 (pos 0)) (λ j h. ap (to_a (grouped groups [] delays k) (pos steps) j) (is j h ∙ smoothed-is j)) ∙ filled-places groups _ few-blocks.1
 
-      pub b-row : filled groups (λ j. to_b (grouped groups [] int cab refdly gd k) (pos steps) j (at y j)) (replicate 52 (pos 0)) ≡ places groups (value_b given-packed)
+      pub b-row : filled groups (λ j. to_b (grouped groups [] delays k) (pos steps) j (at y j)) (replicate 52 (pos 0)) ≡ places groups (value_b given-packed)
       unfolding value_b to_a to_b packed
-      b-row = filled-alike groups _ (value_b given-packed) (replicate 52 (pos 0)) (λ j h. ap (to_b (grouped groups [] int cab refdly gd k) (pos steps) j) (is j h ∙ smoothed-is j)) ∙ filled-places groups _ few-blocks.1
+      b-row = filled-alike groups _ (value_b given-packed) (replicate 52 (pos 0)) (λ j h. ap (to_b (grouped groups [] delays k) (pos steps) j) (is j h ∙ smoothed-is j)) ∙ filled-places groups _ few-blocks.1
 
     pub c-row : filled groups (λ j. pos steps *ℤ at (signeds_at k 24 40 groups) j) (replicate 52 (pos 0)) ≡ places groups (value_c given-packed)
     unfolding value_c packed

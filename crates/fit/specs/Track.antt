@@ -1,11 +1,12 @@
 -- Track (document 01; document 02, Jobs 3, 8 and 14): the corrected values of each kind and the ten numbers of a track of n blocks.
 -- Assumes nothing.
-use Rattle.std.specs.Prelude.{ℕ, zero, suc, ◌*◌, List, ℤ, pos, replicate}
+use Rattle.std.specs.Prelude.{ℕ, zero, suc, ◌*◌, List, ℤ, pos, replicate, Result, Ok, Err}
 use Rattle.limits.specs.declared.Numbers.{Numbers}
 use Rattle.limits.specs.Refusal.{◌when◌, ◌then◌}
 use Rattle.limits.specs.Limits.{limits_number, dsg_number, no_numbers}
+use Rattle.limits.specs.Numbers.{paper_number}
+use Rattle.limits.specs.declared.refusal.Refusal.{Refusal}
 use Rattle.fit.specs.declared.TrackRecord.{TrackRecord}
-use Rattle.fit.specs.declared.Tracked.{Tracked}
 use Rattle.whole.specs.Table.{at}
 use Rattle.exact.specs.Corrected.{steps, Given}
 use Rattle.series.specs.Fit.{midpoint, slope}
@@ -66,6 +67,11 @@ zeros =
       numbers = no_numbers;
     }
 
+-- What Track answers: the number of the refusal, 0 where it accepts, and the record.
+pub record Tracked : Type 0 where
+  pub refusal : ℕ
+  pub «record» : TrackRecord
+
 -- The number with the record, which holds 0 throughout where the track is refused.
 unfoldable pub tracked : ℕ → TrackRecord → Tracked
 tracked zero t = record { refusal = 0; «record» = t }
@@ -73,3 +79,8 @@ tracked (suc number) t = record { refusal = suc number; «record» = zeros }
 
 unfoldable pub track_rule : Given → Tracked
 track_rule g = tracked (track_number g) (results g)
+
+-- The number and the record of each case.
+abbrev pub tracked_of : Result TrackRecord Refusal → Tracked
+tracked_of (Ok t) = record { refusal = 0; «record» = t }
+tracked_of (Err r) = record { refusal = paper_number r; «record» = zeros }

@@ -7,13 +7,21 @@ use native.Mathlib.Omega.{arith}
 use borrow.Author.Tests.{eq-eqb, ne_eqb}
 use lib.ListN.{length, take, drop, length-drop}
 use lib.Seq.{length-take-le}
+use Rattle.std.specs.Prelude.{Err}
+use Rattle.limits.specs.Limits.{no_numbers}
+use Rattle.limits.specs.Numbers.{reply_of}
+use Rattle.limits.specs.declared.Delays.{Delays}
+use Rattle.limits.specs.declared.refusal.Refusal.{Refusal}
 use Rattle.decode.specs.Number.{signed_at_lem, signeds_at}
 use Rattle.decode.proofs.Pieces.{signeds-piece, signeds-from}
-use Rattle.fit.specs.declared.Found.{Found}
 use Rattle.fit.specs.Found.{found_rule}
 use Rattle.fit.specs.Packed.{packed}
 use Rattle.hire.specs.Hire.{blocks_in, block_length, delayed_in, given_in, block_given}
 use Rattle.hire.specs.Found.{block_track_rule}
+
+-- its delays
+abbrev pub delays_in : List ℕ → Delays
+delays_in b = record { int = signed_at_lem b 26; cab = signed_at_lem b 34; refdly = signed_at_lem b 42; gd = signed_at_lem b 50 }
 
 -- a block of n that is as long as its sizes make it
 module _ (b : List ℕ) (n : ℕ) (whole : length b ≡ block_length n) where
@@ -39,7 +47,7 @@ module _ (b : List ℕ) (n : ℕ) (whole : length b ≡ block_length n) where
   column-is : (at : ℕ) → signeds_at (drop (58 + 120 * n) b) at 40 (length (drop (58 + 120 * n) b) / 40) ≡ signeds_at b (58 + 120 * n + at) 40 n
   column-is at = ap (signeds_at (drop (58 + 120 * n) b) at 40) groups-are ∙ signeds-from b (58 + 120 * n) room at 40 n
 
-  pub packed-is : packed (take (120 * n) (drop 58 b)) (signed_at_lem b 26) (signed_at_lem b 34) (signed_at_lem b 42) (signed_at_lem b 50) (drop (58 + 120 * n) b) ≡ given_in n b
+  pub packed-is : packed (take (120 * n) (drop 58 b)) (delays_in b) (drop (58 + 120 * n) b) ≡ given_in n b
   unfolding packed given_in
   packed-is =
       let e : 58 + 120 * n + 0 ≡ 58 + 120 * n = omega arith in
@@ -51,6 +59,6 @@ pub whole-found : (b : List ℕ) → length b ≡ block_length (blocks_in b) →
 unfolding block_track_rule
 whole-found b e = rw (eq-eqb (length b) (block_length (blocks_in b)) e)
 
-pub other-found : (b : List ℕ) → (length b ≡ block_length (blocks_in b) → ⊥) → Found.Refused 11 ≡ block_track_rule b
+pub other-found : (b : List ℕ) → (length b ≡ block_length (blocks_in b) → ⊥) → reply_of no_numbers (Err Refusal.Length) ≡ block_track_rule b
 unfolding block_track_rule
 other-found b h = rw (ne_eqb (length b) (block_length (blocks_in b)) h)

@@ -2,23 +2,24 @@
 // the bytes read as 0, so that every block is answered; Block asks first whether there are four bytes, then for the sizes, then for the length.
 #![tactic(auto)]
 
-ghost use Rattle.std.specs.Prelude.{◌≡◌};
+ghost use Rattle.std.specs.Prelude.{◌≡◌, IfOk};
+ghost use Rattle.limits.specs.Limits.{no_numbers};
+ghost use Rattle.limits.specs.Numbers.{reply_of};
 ghost use Rattle.exact.specs.Corrected.{steps};
-ghost use Rattle.fit.specs.Found.{found_number_lem, found_numbers};
 ghost use Rattle.exact.specs.Accurate.{AccurateTrack};
 ghost use Rattle.hire.specs.Hire.{blocks_in, sizes_fit_lem, block_length, byte_at, block_labels, block_given};
 ghost use Rattle.hire.specs.Found.{block_track_rule};
 
 use decode::{signed64, unsigned16, unsigned32};
-use fit::Found;
 use labels::Labels;
-use limits::blocks_fit;
+use limits::{Delays, Numbers, Refusal, blocks_fit};
 
 // The byte at an offset.
+// Kept: a line beside byte_at of `fields`, whose u64 would be cast back, and bring in a crate.
 fn byte(block: &[u8], at: usize) -> u8
     ensures { result ≡ byte_at block.now at }
 {
-    if at < block.len() { block[at] } else { 0 }
+    block.get(at).copied().unwrap_or(0)
 }
 
 pub fn labels(block: &[u8]) -> Labels
@@ -59,22 +60,20 @@ pub fn length(block: &[u8]) -> usize
 
 // Track of the block's numbers, which are not copied into lists: it reads them where they stand. 11 where the block is not as long as its sizes make
 // it.
-pub fn track(block: &[u8]) -> Found
-    ensures answer { result ≡ block_track_rule block.now }
-    ensures accurate { found_number_lem result ≡ 0 → AccurateTrack steps (blocks_in block.now) (block_given block.now)
-        (found_numbers result) }
+pub fn track(block: &[u8]) -> Result<Numbers, Refusal>
+    ensures answer { reply_of no_numbers result ≡ block_track_rule block.now }
+    ensures accurate { IfOk result (λ numbers. AccurateTrack steps (blocks_in block.now) (block_given block.now) numbers) }
 {
     if block.len() != length(block) {
-        return Found::Refused(11);
+        return Err(Refusal::Length);
     }
     let n = unsigned16(block, 2) as usize;
     let from = 58 + 120 * n;
-    fit::track_packed(
-        &block[58..from],
-        signed64(block, 26),
-        signed64(block, 34),
-        signed64(block, 42),
-        signed64(block, 50),
-        &block[from..],
-    )
+    let delays = Delays {
+        int: signed64(block, 26),
+        cab: signed64(block, 34),
+        refdly: signed64(block, 42),
+        gd: signed64(block, 50),
+    };
+    fit::track_packed(&block[58..from], delays, &block[from..])
 }

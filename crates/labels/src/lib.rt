@@ -4,9 +4,10 @@
 
 ghost use Rattle.std.specs.Prelude.{◌≡◌};
 ghost use Rattle.labels.specs.Content.{content_number};
+ghost use Rattle.limits.specs.Numbers.{number_of};
 
 pub use limits::Numbers;
-use limits::{then, when};
+use limits::Refusal;
 
 mod ranges;
 
@@ -28,13 +29,23 @@ pub struct Labels {
     pub ioe: u16,
 }
 
-// The first refusal of labels and numbers, or 0.
-pub fn refusal(labels: Labels, numbers: Numbers) -> u32
-    ensures { result ≡ content_number labels numbers }
+// The labels that a line of version 01 lacks: HC and the three characters of FRC.
+#[derive(Clone, Copy)]
+pub struct Supplied {
+    pub hc: u8,
+    pub frc1: u8,
+    pub frc2: u8,
+    pub frc3: u8,
+}
+
+// The first refusal of labels and numbers.
+pub fn refusal(labels: Labels, numbers: Numbers) -> Result<(), Refusal>
+    ensures { number_of result ≡ content_number labels numbers }
 {
-    let label = !ranges::labels_fit(labels) | !ranges::track_length_fits(numbers.trkl);
-    let start = schedule::start(labels.mjd, labels.start);
-    let number = limits::limits(numbers);
-    let scatter = limits::dsg(numbers.dsg);
-    then(when(7, label), then(start, then(number, scatter)))
+    if !ranges::labels_fit(labels) | !ranges::track_length_fits(numbers.trkl) {
+        return Err(Refusal::Label);
+    }
+    schedule::start(labels.mjd, labels.start)?;
+    limits::limits(numbers)?;
+    limits::dsg(numbers.dsg)
 }

@@ -4,24 +4,25 @@ ghost use Rattle.labels.specs.Labels.{constellation_fits_lem, code_fits_lem, lab
 
 use crate::Labels;
 use limits::outside;
-use whole::magnitude;
 
 // Whether the letter is a constellation's, and IOE and FR are in its ranges.
 fn constellation_fits(letter: u8, ioe: u16, fr: u8) -> bool
     ensures { result ≡ constellation_fits_lem letter ioe fr }
 {
-    (letter == b'G') & (ioe <= 255) & (fr == 0)
-        | (letter == b'R') & (1 <= ioe) & (ioe <= 96) & (1 <= fr) & (fr <= 24)
-        | (letter == b'E') & (ioe <= 999) & (fr == 0)
-        | (letter == b'C') & (ioe <= 23) & (fr == 0)
-        | (letter == b'J') & (ioe <= 255) & (fr == 0)
+    match letter {
+        b'G' | b'J' => (ioe <= 255) & (fr == 0),
+        b'R' => (1 <= ioe) & (ioe <= 96) & (1 <= fr) & (fr <= 24),
+        b'E' => (ioe <= 999) & (fr == 0),
+        b'C' => (ioe <= 23) & (fr == 0),
+        _ => false,
+    }
 }
 
 // Whether c may stand in FRC.
 fn code_fits(c: u8) -> bool
     ensures { result ≡ code_fits_lem c }
 {
-    (b'A' <= c) & (c <= b'Z') | (b'0' <= c) & (c <= b'9')
+    c.is_ascii_uppercase() | c.is_ascii_digit()
 }
 
 // Whether all labels are in range but the date and the start.
@@ -46,5 +47,5 @@ const LONGEST: i64 = 780;
 pub fn track_length_fits(trkl: i64) -> bool
     ensures { result ≡ track_length_fits_lem trkl }
 {
-    (magnitude(trkl) % 15 == 0) & !outside(SHORTEST, LONGEST, trkl)
+    (trkl.unsigned_abs() % 15 == 0) & !outside(SHORTEST, LONGEST, trkl)
 }

@@ -1,2 +1,2 @@
--- What must be believed: bytes in a place of lent ones, and what `put` leaves for every input.
+-- What must be believed: items in a place of lent ones, and what `put` leaves for every input.
 pub mod Placed

@@ -1,35 +1,37 @@
-// Bytes put into lent ones, from an offset on. What does not fit is not put at all: then the lent bytes stay as they are.
+// Items put into lent ones, as bytes into a line and numbers into a row, from an offset on. What does not fit is not put at all: then the lent
+// ones stay as they are.
 #![tactic(auto)]
 
 ghost use Rattle.std.specs.Prelude.{length, ◌≡◌, ◌+◌, leb};
 ghost use Rattle.lent.specs.Placed.{placed_within};
 
-// Whether so many bytes from an offset on lie within the room there is.
-fn fits(at: usize, bytes: usize, room: usize) -> bool
-    ensures { result ≡ leb (at + bytes) room }
+// Whether so many items from an offset on lie within the room there is.
+fn fits(at: usize, items: usize, room: usize) -> bool
+    ensures { result ≡ leb (at + items) room }
 {
     if room < at {
         return false;
     }
-    bytes <= room - at
+    items <= room - at
 }
 
-// Copies bytes over as many lent ones: by a loop, so that nothing of the C library is called.
-fn copy(bytes: &[u8], lent: &mut [u8])
-    requires { length lent.old ≡ length bytes.now }
-    ensures { lent.new ≡ bytes.now }
+// Copies items over as many lent ones.
+// Kept: a loop, as copy_from_slice calls memmove and the archive may need memset alone.
+fn copy<T: Copy>(items: &[T], lent: &mut [T])
+    requires { length lent.old ≡ length items.now }
+    ensures { lent.new ≡ items.now }
 {
-    for (i, byte) in bytes.iter().enumerate() {
-        lent[i] = *byte;
+    for (i, item) in items.iter().enumerate() {
+        lent[i] = *item;
     }
 }
 
-// Puts bytes into lent ones, from an offset on.
-pub fn put(bytes: &[u8], lent: &mut [u8], at: usize)
-    ensures { lent.new ≡ placed_within lent.old at bytes.now }
+// Puts items into lent ones, from an offset on.
+pub fn put<T: Copy>(items: &[T], lent: &mut [T], at: usize)
+    ensures { lent.new ≡ placed_within lent.old at items.now }
 {
-    if fits(at, bytes.len(), lent.len()) {
-        let end = at + bytes.len();
-        copy(bytes, &mut lent[at..end]);
+    if fits(at, items.len(), lent.len()) {
+        let end = at + items.len();
+        copy(items, &mut lent[at..end]);
     }
 }

@@ -4,3 +4,4 @@ pub mod Scans
 pub mod Replies
 pub mod Blocks
 pub mod Parts
+pub mod Cases

@@ -1,5 +1,6 @@
 pub mod Refusal
 pub mod Reply
+pub mod Numbers
 pub mod Limits
 pub mod Blocks
 pub mod Lists

@@ -1,14 +1,17 @@
 // The ten numbers of a track and their limits, written once for Track and for Line, the limits of what Track is given, of which stores keep the
-// delays, the limit test on a list of values, and the order of refusals.
-// An answer is a refusal number of document 01, or 0.
+// delays, the limit test on a list of values, and the refusals with the paper's numbers.
 #![tactic(auto)]
 
 ghost use Rattle.std.specs.Prelude.{◌≡◌};
-ghost use Rattle.limits.specs.Refusal.{◌when◌, ◌then◌};
 ghost use Rattle.limits.specs.Limits.{outside, beyond, delay_limit, delays_beyond_lem, limits_number, dsg_number};
 ghost use Rattle.limits.specs.Blocks.{blocks_fit_lem};
 ghost use Rattle.limits.specs.Lists.{any_outside_lem};
 ghost use Rattle.limits.specs.Scan.{scan_rule};
+ghost use Rattle.limits.specs.Numbers.{number_of};
+
+mod refusal;
+
+pub use refusal::{Refusal, reply_number};
 
 // The limits of what is given, in ps, each with its negative: of a measurement, and of a delay and every correction but the geometry.
 pub const MEASUREMENT_LIMIT: i64 = 1_000_000_000_000;
@@ -34,20 +37,6 @@ pub struct Numbers {
     pub trkl: i64,
 }
 
-// The number where the condition holds.
-pub fn when(number: u32, condition: bool) -> u32
-    ensures { result ≡ number when condition }
-{
-    if condition { number } else { 0 }
-}
-
-// The first answer where it is a refusal, else the next.
-pub fn then(first: u32, next: u32) -> u32
-    ensures { result ≡ first then next }
-{
-    if first == 0 { next } else { first }
-}
-
 // Whether z lies outside low to high.
 pub fn outside(low: i64, high: i64, z: i64) -> bool
     ensures { result ≡ outside low high z }
@@ -62,11 +51,23 @@ pub fn delay_beyond(delay: i64) -> bool
     outside(DELAY_LEAST, DELAY_LIMIT, delay)
 }
 
-// Whether one of the four delays is.
-pub fn delays_beyond(int: i64, cab: i64, refdly: i64, gd: i64) -> bool
-    ensures { result ≡ delays_beyond_lem int cab refdly gd }
+// The delays of receiver, antenna cable and reference cable, and the broadcast group delay, in ps.
+#[derive(Clone, Copy)]
+pub struct Delays {
+    pub int: i64,
+    pub cab: i64,
+    pub refdly: i64,
+    pub gd: i64,
+}
+
+// Whether one of the four is beyond its limit.
+pub fn delays_beyond(delays: Delays) -> bool
+    ensures { result ≡ delays_beyond_lem delays.int delays.cab delays.refdly delays.gd }
 {
-    delay_beyond(int) | delay_beyond(cab) | delay_beyond(refdly) | delay_beyond(gd)
+    delay_beyond(delays.int)
+        | delay_beyond(delays.cab)
+        | delay_beyond(delays.refdly)
+        | delay_beyond(delays.gd)
 }
 
 // Whether a track may have n blocks.
@@ -76,31 +77,13 @@ pub fn blocks_fit(n: usize) -> bool
     (4 <= n) & (n <= 52)
 }
 
-// What the limit test on a list answers: whether some value is outside, and how many values it has read.
-#[derive(Clone, Copy)]
-pub struct Scanned {
-    pub outside: bool,
-    pub read: usize,
-}
-
-// Whether some value is outside low to high: it reads up to and with the first one outside, or all, and counts what it reads.
-pub fn scan(values: &[i64], low: i64, high: i64) -> Scanned
+// The limit test on a list, up to and with the first value outside low to high: how many values it has read, all of them where none is outside.
+pub fn scan(values: &[i64], low: i64, high: i64) -> Result<usize, usize>
     ensures { result ≡ scan_rule low high values.now }
 {
-    let mut read = 0;
-    while read < values.len() {
-        let at = read;
-        read += 1;
-        if outside(low, high, values[at]) {
-            return Scanned {
-                outside: true,
-                read,
-            };
-        }
-    }
-    Scanned {
-        outside: false,
-        read,
+    match values.iter().position(|&value| outside(low, high, value)) {
+        Some(at) => Err(at + 1),
+        None => Ok(values.len()),
     }
 }
 
@@ -108,27 +91,37 @@ pub fn scan(values: &[i64], low: i64, high: i64) -> Scanned
 pub fn any_outside(values: &[i64], low: i64, high: i64) -> bool
     ensures { result ≡ any_outside_lem low high values.now }
 {
-    let answer = scan(values, low, high);
-    answer.outside
+    scan(values, low, high).is_err()
 }
 
 // 3, 4 or 5 where one of the eight fitted numbers is outside its limits.
-pub fn limits(numbers: Numbers) -> u32
-    ensures { result ≡ limits_number numbers }
+pub fn limits(numbers: Numbers) -> Result<(), Refusal>
+    ensures { number_of result ≡ limits_number numbers }
 {
-    let midpoints = outside(-9999999999, 9999999999, numbers.refsv)
-        | outside(-9999999999, 9999999999, numbers.refsys);
-    let slopes = outside(-99999, 99999, numbers.srsv)
+    if outside(-9999999999, 9999999999, numbers.refsv)
+        | outside(-9999999999, 9999999999, numbers.refsys)
+    {
+        return Err(Refusal::Midpoint);
+    }
+    if outside(-99999, 99999, numbers.srsv)
         | outside(-99999, 99999, numbers.srsys)
         | outside(-999, 999, numbers.smdt)
-        | outside(-999, 999, numbers.smdi);
-    let delays = outside(0, 9999, numbers.mdtr) | outside(0, 9999, numbers.mdio);
-    then(when(3, midpoints), then(when(4, slopes), when(5, delays)))
+        | outside(-999, 999, numbers.smdi)
+    {
+        return Err(Refusal::Slope);
+    }
+    if outside(0, 9999, numbers.mdtr) | outside(0, 9999, numbers.mdio) {
+        return Err(Refusal::Delay);
+    }
+    Ok(())
 }
 
 // 6 where a DSG is outside its limits.
-pub fn dsg(dsg: i64) -> u32
-    ensures { result ≡ dsg_number dsg }
+pub fn dsg(dsg: i64) -> Result<(), Refusal>
+    ensures { number_of result ≡ dsg_number dsg }
 {
-    when(6, outside(0, 9999, dsg))
+    if outside(0, 9999, dsg) {
+        return Err(Refusal::Scatter);
+    }
+    Ok(())
 }

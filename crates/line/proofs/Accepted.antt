@@ -2,12 +2,15 @@
 -- Assumes nothing.
 use mathlib.Core.Path.{◌≡◌, sym, ◌∙◌}
 use mathlib.Core.List.{List, ◌++◌}
-use Prim.Native.Nat.{ℕ, ◌≤◌}
+use Prim.Native.Nat.{ℕ, ◌≤◌, ◌<◌}
 use native.Mathlib.Omega.{arith}
 use lib.ListN.{length, drop}
-use borrow.Author.Tests.{le-ltb}
+use borrow.Author.Tests.{le-ltb, lt-ltb}
 use Rattle.limits.specs.Refusal.{◌when◌, ◌then◌}
-use Rattle.limits.proofs.Laws.{then-zero, after-accepted, after-refused, room-passed}
+use Rattle.limits.proofs.Laws.{then-zero, then-refused, after-accepted, after-refused, room-passed}
+use Rattle.limits.specs.Numbers.{paper_number}
+use Rattle.limits.specs.declared.refusal.Refusal.{Refusal}
+use Rattle.limits.proofs.Cases.{paper_above_zero}
 use Rattle.labels.specs.declared.Labels.{Labels}
 use Rattle.limits.specs.declared.Numbers.{Numbers}
 use Rattle.labels.specs.Content.{content_number}
@@ -30,6 +33,15 @@ has_room l n room e = room-passed room line_length (then-zero _ _ e).1
 pub answer-zero : (l : Labels) (n : Numbers) (room : ℕ) → content_number l n ≡ 0 → line_length ≤ room → line_answer l n room ≡ 0
 unfolding line_answer ◌when◌ ◌then◌
 answer-zero l n room e h = simp (e, le-ltb room line_length h)
+
+-- a content that is refused is refused first, and then a line with no room
+pub content-refused : (l : Labels) (n : Numbers) (room : ℕ) (r : Refusal) → paper_number r ≡ content_number l n → paper_number r ≡ line_answer l n room
+unfolding line_answer
+content-refused l n room r e = rw (← e) (sym (then-refused _ _ (paper_above_zero r)))
+
+pub room-refused : (l : Labels) (n : Numbers) (room : ℕ) → content_number l n ≡ 0 → room < line_length → 9 ≡ line_answer l n room
+unfolding line_answer ◌when◌ ◌then◌
+room-refused l n room e h = simp (e, lt-ltb room line_length h)
 
 -- ---- the lent line afterwards
 

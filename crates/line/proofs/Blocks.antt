@@ -1,22 +1,28 @@
 -- Laws of Block (specs/Block.antt): which number comes first, and that the numbers in the columns of an accepted line are accurate.
 -- Assumes nothing.
-use mathlib.Core.Path.{◌≡◌, sym, ap, ◌∙◌, subst}
+use mathlib.Core.Path.{◌≡◌, refl, sym, ap, ◌∙◌, subst}
 use mathlib.Core.Bool.{not}
 use mathlib.Core.List.{List, ◌++◌}
 use Prim.Native.Nat.{ℕ, ◌<◌}
-use native.Mathlib.Omega.{arith}
+use native.Mathlib.Nat.{ne_of_gt}
 use lib.ListN.{length, drop}
 use lib.Dec.{ltb, eqb}
 use borrow.Author.Tests.{eqb-true, not-false}
+use Rattle.std.specs.Prelude.{Result, Ok, Err}
+use Rattle.std.specs.Result.{OnOk}
 use Rattle.limits.specs.Refusal.{◌when◌, ◌then◌, after}
+use Rattle.limits.specs.Reply.{Reply}
+use Rattle.limits.specs.Limits.{no_numbers}
+use Rattle.limits.specs.Numbers.{paper_number, number_of}
+use Rattle.limits.specs.declared.Numbers.{Numbers}
+use Rattle.limits.specs.declared.refusal.Refusal.{Refusal}
 use Rattle.limits.proofs.Laws.{then-zero, when-zero, then-refused, then-passed, after-refused}
+use Rattle.limits.proofs.Replies.{reply-number, reply-values}
+use Rattle.limits.proofs.Cases.{paper_above_zero}
 use Rattle.exact.specs.Corrected.{steps}
 use Rattle.exact.specs.Accurate.{AccurateTrack}
-use Rattle.fit.specs.declared.Found.{Found}
-use Rattle.fit.specs.Track.{track_number}
-use Rattle.fit.specs.Found.{found_number_lem, found_numbers, found_rule}
-use Rattle.fit.proofs.Tracks.{found_number, found-numbers}
-use Rattle.limits.specs.declared.Numbers.{Numbers}
+use Rattle.fit.specs.Track.{track_number, results}
+use Rattle.fit.specs.Found.{found_rule}
 use Rattle.columns.specs.Text.{line_length}
 use Rattle.columns.specs.Columns.{read_numbers}
 use Rattle.line.specs.Line.{line_answer, line_after}
@@ -50,19 +56,35 @@ module _ (b : List ℕ) (room : ℕ) where
       let next = line_answer (block_labels b) (block_numbers b) room in
       sym (then-refused n next k) ∙ ap (λ (m : ℕ). m then next) t ∙ sym (passed e)
 
+  -- a refusal of Track's is one of its numbers
+  pub track-refused : sizes_number b ≡ 0 → (r : Refusal) → record { number = paper_number r; values = no_numbers } ≡ block_track_rule b
+      → paper_number r ≡ block_answer b room
+  unfolding found_rule
+  track-refused e r t =
+      track-refuses e (paper_number r) (ap (λ (x : Reply Numbers). x.number) (t ∙ sizes-found b e) ∙ reply-number no_numbers (results (block_given b)).numbers (track_number (block_given b))) (paper_above_zero r)
+
+  -- where Track accepts, Line answers
   pub line-answers : sizes_number b ≡ 0 → track_number (block_given b) ≡ 0
       → line_answer (block_labels b) (block_numbers b) room ≡ block_answer b room
   line-answers e t = sym (then-passed (track_number (block_given b)) _ t) ∙ sym (passed e)
 
+  -- and the numbers are the block's
+  pub track-accepts : sizes_number b ≡ 0 → (x : Numbers) → record { number = 0; values = x } ≡ block_track_rule b
+      → (x ≡ block_numbers b) × (line_answer (block_labels b) (block_numbers b) room ≡ block_answer b room)
+  unfolding found_rule
+  track-accepts e x t =
+      let v = reply-values no_numbers (results (block_given b)).numbers (track_number (block_given b)) (t ∙ sizes-found b e) in
+      (v.1, line-answers e v.0)
+
 -- ---- the three clauses
 
 module _ (b lent : List ℕ) where
-  abbrev pub Promised : ℕ → List ℕ → Type 0
-  Promised r after =
+  abbrev pub Promised : Result (Unit {0}) Refusal → List ℕ → Type 0
+  Promised told line =
       record {
-        answer : r ≡ block_answer b (length lent);
-        written : after ≡ block_after b lent;
-        accurate : r ≡ 0 → AccurateTrack steps (blocks_in b) (block_given b) (read_numbers after);
+        answer : number_of told ≡ block_answer b (length lent);
+        written : line ≡ block_after b lent;
+        accurate : OnOk told (AccurateTrack steps (blocks_in b) (block_given b) (read_numbers line));
       }
 
   kept : (block_answer b (length lent) ≡ 0 → ⊥) → lent ≡ block_after b lent
@@ -70,11 +92,8 @@ module _ (b lent : List ℕ) where
   kept h = sym (after-refused (block_line b ++ drop line_length lent) lent h)
 
   -- a refusal leaves the lent line as it was
-  pub refused : (r : ℕ) → 0 < r → r ≡ block_answer b (length lent) → Promised r lent
-  refused r h e = record { answer = e; written = kept (λ z. positive (e ∙ z)); accurate = λ z. absurd (positive z) }
-    where
-      positive : r ≡ 0 → ⊥
-      positive z = omega arith
+  pub refused : (r : Refusal) → paper_number r ≡ block_answer b (length lent) → Promised (Err r) lent
+  refused r e = record { answer = e; written = kept (λ z. ne_of_gt (paper_above_zero r) (e ∙ z)); accurate = tt }
 
   -- where Track accepts, the lent line is Line's
   same_after : line_answer (block_labels b) (block_numbers b) (length lent) ≡ block_answer b (length lent)
@@ -82,15 +101,18 @@ module _ (b lent : List ℕ) where
   unfolding line_after block_after
   same_after e = ap (λ (k : ℕ). after k (block_line b ++ drop line_length lent) lent) e
 
-  pub written : (x : Found) → sizes_number b ≡ 0 → x ≡ found_rule (block_given b)
-      → (found_number_lem x ≡ 0 → AccurateTrack steps (blocks_in b) (block_given b) (found_numbers x)) → found_number_lem x ≡ 0
-      → (r : ℕ) (after : List ℕ) → r ≡ line_answer (block_labels b) (found_numbers x) (length lent)
-      → after ≡ line_after (block_labels b) (found_numbers x) lent → Promised r after
-  written x s e accurate z r after answer line =
-      let g = block_given b in
-      let is = found-numbers g x e z in
-      let number = line-answers b (length lent) s (sym (found_number g x e) ∙ z) in record {
-        answer = answer ∙ ap (λ (n : Numbers). line_answer (block_labels b) n (length lent)) is ∙ number;
-        written = line ∙ ap (λ (n : Numbers). line_after (block_labels b) n lent) is ∙ same_after number;
-        accurate = λ k. subst (AccurateTrack steps (blocks_in b) g) (sym (ap read_numbers line ∙ numbers-read (block_labels b) (found_numbers x) lent (sym answer ∙ k))) (accurate z);
+  on_ok : {P : Type 0} (answer : Result (Unit {0}) Refusal) → (number_of answer ≡ 0 → P) → OnOk answer P
+  on_ok (Ok x) f = f refl
+  on_ok (Err r) f = tt
+
+  pub written : sizes_number b ≡ 0 → (x : Numbers) → record { number = 0; values = x } ≡ block_track_rule b
+      → AccurateTrack steps (blocks_in b) (block_given b) x
+      → (told : Result (Unit {0}) Refusal) (line : List ℕ) → number_of told ≡ line_answer (block_labels b) x (length lent)
+      → line ≡ line_after (block_labels b) x lent → Promised told line
+  written s x e accurate told line number is =
+      let t = track-accepts b (length lent) s x e in
+      record {
+        answer = number ∙ ap (λ (n : Numbers). line_answer (block_labels b) n (length lent)) t.0 ∙ t.1;
+        written = is ∙ ap (λ (n : Numbers). line_after (block_labels b) n lent) t.0 ∙ same_after t.1;
+        accurate = on_ok told (λ k. subst (AccurateTrack steps (blocks_in b) (block_given b)) (sym (ap read_numbers is ∙ numbers-read (block_labels b) x lent (sym number ∙ k))) accurate);
       }

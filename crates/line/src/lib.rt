@@ -1,10 +1,10 @@
 // Line and Block: labels and the ten numbers of a track, or a hire block, become one data line of 113 columns in a lent line.
 // They refuse labels, starts and numbers that the columns cannot hold, a lent line that is too short, and, in a block, what Track
-// refuses, by the numbers and in the order of documents 01 and 02. Nothing is written before everything is accepted, and nothing behind the
-// 113 columns.
+// refuses, in the order of documents 01 and 02. Nothing is written before everything is accepted, and nothing behind the 113 columns.
 #![tactic(auto)]
 
-ghost use Rattle.std.specs.Prelude.{◌≡◌, length};
+ghost use Rattle.std.specs.Prelude.{◌≡◌, length, OnOk};
+ghost use Rattle.limits.specs.Numbers.{number_of};
 ghost use Rattle.exact.specs.Accurate.{AccurateTrack};
 ghost use Rattle.exact.specs.Corrected.{steps};
 ghost use Rattle.columns.specs.Columns.{read_numbers};
@@ -13,48 +13,45 @@ ghost use Rattle.hire.specs.Hire.{blocks_in, block_given};
 ghost use Rattle.line.specs.Block.{sizes_number, block_answer, block_after};
 
 use columns::LINE_LENGTH;
-use fit::{Found, found_number};
 pub use labels::{Labels, Numbers};
-use limits::{then, when};
+use limits::Refusal;
 
-// Line of document 01. It answers 0 with the line in the first 113 bytes of the lent one, or the number of the first refusal.
-pub fn line(labels: Labels, numbers: Numbers, lent: &mut [u8]) -> u32
-    ensures answer { result ≡ line_answer labels numbers (length lent.old) }
+// Line of document 01: the line is in the first 113 bytes of the lent one where nothing is refused.
+pub fn line(labels: Labels, numbers: Numbers, lent: &mut [u8]) -> Result<(), Refusal>
+    ensures answer { number_of result ≡ line_answer labels numbers (length lent.old) }
     ensures written { lent.new ≡ line_after labels numbers lent.old }
 {
-    let room = when(9, lent.len() < LINE_LENGTH);
-    let answer = then(labels::refusal(labels, numbers), room);
-    if answer != 0 {
-        return answer;
+    labels::refusal(labels, numbers)?;
+    if lent.len() < LINE_LENGTH {
+        return Err(Refusal::Lent);
     }
     columns::write(labels, numbers, lent);
-    0
+    Ok(())
 }
 
 // What a block is refused for by its sizes and its length.
-fn sizes_refusal(block: &[u8]) -> u32
-    ensures { result ≡ sizes_number block.now }
+fn sizes_refusal(block: &[u8]) -> Result<(), Refusal>
+    ensures { number_of result ≡ sizes_number block.now }
 {
-    let short = when(11, block.len() < 4);
-    let sizes = when(1, !hire::sizes_fit(block));
-    let length = when(11, block.len() != hire::length(block));
-    then(short, then(sizes, length))
+    if block.len() < 4 {
+        return Err(Refusal::Length);
+    }
+    if !hire::sizes_fit(block) {
+        return Err(Refusal::Count);
+    }
+    if block.len() != hire::length(block) {
+        return Err(Refusal::Length);
+    }
+    Ok(())
 }
 
 // The line of a hire block: what it is refused for, else its line in the lent one.
-pub fn block(block: &[u8], lent: &mut [u8]) -> u32
-    ensures answer { result ≡ block_answer block.now (length lent.old) }
+pub fn block(block: &[u8], lent: &mut [u8]) -> Result<(), Refusal>
+    ensures answer { number_of result ≡ block_answer block.now (length lent.old) }
     ensures written { lent.new ≡ block_after block.now lent.old }
-    ensures accurate { result ≡ 0 → AccurateTrack steps (blocks_in block.now) (block_given block.now)
-        (read_numbers lent.new) }
+    ensures accurate { OnOk result (AccurateTrack steps (blocks_in block.now) (block_given block.now) (read_numbers lent.new)) }
 {
-    let sizes = sizes_refusal(block);
-    if sizes != 0 {
-        return sizes;
-    }
-    let found = hire::track(block);
-    let Found::Ten(numbers) = found else {
-        return found_number(found);
-    };
+    sizes_refusal(block)?;
+    let numbers = hire::track(block)?;
     line(hire::labels(block), numbers, lent)
 }

@@ -3,18 +3,21 @@
 use mathlib.Core.Path.{◌≡◌, refl, sym, ap, ap₂, ◌∙◌}
 use mathlib.Core.Bool.{Bool, true, false, not, ◌&&◌, ◌||◌, and-true}
 use mathlib.Core.List.{List, [], ◌∷◌}
-use Prim.Native.Nat.{ℕ, zero, suc, ◌+◌, ◌≤◌, ◌<◌}
-use native.Mathlib.Nat.{pos_of_ne-zero}
+use Prim.Native.Nat.{ℕ, zero, suc, ◌+◌, ◌%◌, ◌≤◌, ◌<◌}
 use native.Mathlib.Numerals.{add-one}
 use native.Mathlib.Omega.{arith}
 use lib.Dec.{ltb, leb, eqb}
 use lib.ListN.{length, drop, get_or, drop_of_length-le}
 use lib.Seq.{drop-cons}
-use borrow.Author.Tests.{ltb-false, eqb-false, lt-ltb}
+use borrow.Author.Tests.{lt-ltb, le-leb, lt-leb}
 use Rattle.limits.specs.Refusal.{◌when◌, ◌then◌}
-use Rattle.limits.proofs.Laws.{then-refused, then-passed, then-assoc, then-none, not-ltb}
-use Rattle.linefile.specs.Files.{columns_of, same, has_line_end, keys, before, ended_number, lines_number}
-use Rattle.reading.specs.Read.{read_number}
+use Rattle.limits.proofs.Laws.{then-refused, then-passed, not-ltb}
+use Rattle.linefile.specs.Files.{columns_of, same, has_line_end, keys, before, lines, ended_number, lines_number, file_number}
+use Rattle.limits.specs.Reply.{Reply}
+use Rattle.limits.proofs.Replies.{reply-number}
+use Rattle.limits.specs.declared.Numbers.{Numbers}
+use Rattle.labels.specs.declared.Labels.{Labels}
+use Rattle.reading.specs.Read.{read_number, read_rule}
 use Rattle.linefile.specs.Walk.{rank}
 use Rattle.linefile.proofs.Ascending.{Accepted, before-none}
 use Rattle.linefile.proofs.Ranks.{rank-before, rank-some}
@@ -52,9 +55,14 @@ ranked-none ls = ranked ls [] 0 (λ line e. before-none line ∙ sym (lt-ltb 0 (
 
 -- ---- one line
 
-pub refused-line : (line : List ℕ) {number : ℕ} → number ≡ read_number (columns_of line) → 0 < read_number (columns_of line) → number ≡ ended_number line
+pub read-is : (line : List ℕ) {number : ℕ} {values : Labels × Numbers} → record { number = number; values = values } ≡ read_rule (columns_of line)
+    → number ≡ read_number (columns_of line)
+unfolding read_rule
+read-is line e = ap (λ (t : Reply (Labels × Numbers)). t.number) e ∙ reply-number _ _ (read_number (columns_of line))
+
+pub refused-line : (line : List ℕ) {number : ℕ} → number ≡ read_number (columns_of line) → 0 < number → number ≡ ended_number line
 unfolding ended_number
-refused-line line e h = e ∙ sym (then-refused _ _ h)
+refused-line line {number} e h = sym (then-refused number _ h) ∙ ap (λ (n : ℕ). n then 13 when not (has_line_end line)) e
 
 line-end-is : (line : List ℕ) → length line ≡ ended_length → has_line_end line ≡ eqb (get_or line line_length 0) 13 && eqb (get_or line (line_length + 1) 0) 10
 unfolding has_line_end same
@@ -77,29 +85,44 @@ read-line line h z e =
 
 -- ---- a turn
 
-pub judged : (ls : List (List ℕ)) (i last place : ℕ) {line : List ℕ} {own order number next all_number : ℕ} → i < length ls → line ≡ get_or ls i []
-    → place ≡ rank line → own ≡ ended_number line → order ≡ 16 when leb place last
-    → number ≡ 0 → all_number ≡ number then ranked_number last (drop i ls) → next ≡ own then order
-    → all_number ≡ next then ranked_number place (drop (i + 1) ls)
-unfolding ranked_number
-judged ls i last place {line} {own} {order} h l p o s z t e =
-    t
-    ∙ then-passed _ _ z
-    ∙ ap (ranked_number last) (drop-cons ls i [] h ∙ ap₂ (λ (x : List ℕ) (k : ℕ). x ∷ drop k ls) (sym l) (sym (add-one i)))
-    ∙ ap₂ (λ (m n : ℕ). m then 16 when leb n last then ranked_number n (drop (i + 1) ls)) (sym o) (sym p)
-    ∙ ap (λ (n : ℕ). own then n then ranked_number place (drop (i + 1) ls)) (sym s)
-    ∙ sym (then-assoc own order (ranked_number place (drop (i + 1) ls)))
-    ∙ ap (λ (n : ℕ). n then ranked_number place (drop (i + 1) ls)) (sym e)
+module _ (ls : List (List ℕ)) (i last : ℕ) (h : i < length ls) where
+  judged : ranked_number last (drop i ls)
+      ≡ ended_number (get_or ls i []) then 16 when leb (rank (get_or ls i [])) last then ranked_number (rank (get_or ls i [])) (drop (i + 1) ls)
+  unfolding ranked_number
+  judged =
+      ap (ranked_number last) (drop-cons ls i [] h)
+      ∙ ap (λ (k : ℕ). ended_number (get_or ls i []) then 16 when leb (rank (get_or ls i [])) last then ranked_number (rank (get_or ls i [])) (drop k ls)) (sym (add-one i))
 
--- all lines are judged, or one is refused
-pub judged-all : (ls : List (List ℕ)) (i last number : ℕ) {all_number : ℕ} → ltb i (length ls) && eqb number 0 ≡ false
-    → all_number ≡ number then ranked_number last (drop i ls) → all_number ≡ number
-unfolding ranked_number
-judged-all ls i last number {all_number} e t = by-test (ltb i (length ls)) refl
-  where
-    by-test : (b : Bool) → ltb i (length ls) ≡ b → all_number ≡ number
-    by-test false f =
-        t
-        ∙ ap (λ (l : List (List ℕ)). number then ranked_number last l) (drop_of_length-le ls (ltb-false i (length ls) f))
-        ∙ then-none number
-    by-test true f = t ∙ then-refused number _ (pos_of_ne-zero (eqb-false number 0 (rw f at e)))
+  pub line-refused : {own : ℕ} → own ≡ ended_number (get_or ls i []) → 0 < own → ranked_number last (drop i ls) ≡ own
+  line-refused {own} e k = judged ∙ ap (λ (n : ℕ). n then 16 when leb (rank (get_or ls i [])) last then ranked_number (rank (get_or ls i [])) (drop (i + 1) ls)) (sym e) ∙ then-refused own _ k
+
+  module _ {place : ℕ} (own : 0 ≡ ended_number (get_or ls i [])) (p : place ≡ rank (get_or ls i [])) where
+    judged-place : ranked_number last (drop i ls) ≡ 16 when leb place last then ranked_number place (drop (i + 1) ls)
+    judged-place =
+        judged ∙ then-passed _ _ (sym own)
+        ∙ ap (λ (n : ℕ). 16 when leb n last then ranked_number n (drop (i + 1) ls)) (sym p)
+
+    pub order-refused : place ≤ last → ranked_number last (drop i ls) ≡ 16
+    unfolding ◌when◌ ◌then◌
+    order-refused k = judged-place ∙ ap (λ (b : Bool). 16 when b then ranked_number place (drop (i + 1) ls)) (le-leb place last k)
+
+    pub line-passed : last < place → ranked_number last (drop i ls) ≡ ranked_number place (drop (i + 1) ls)
+    unfolding ◌when◌ ◌then◌
+    line-passed k = judged-place ∙ ap (λ (b : Bool). 16 when b then ranked_number place (drop (i + 1) ls)) (lt-leb place last k)
+
+-- ---- a file
+
+module _ (file : List ℕ) {ls : List (List ℕ)} (l : ls ≡ lines file) where
+  pub file-refused : {number : ℕ} → ranked_number 0 ls ≡ number → 0 < number → number ≡ file_number file
+  unfolding file_number
+  file-refused {number} e h =
+      sym (then-refused number _ h)
+      ∙ ap (λ (n : ℕ). n then 12 when not (eqb (length file % ended_length) 0)) (sym e ∙ ap (ranked_number 0) l ∙ sym (ranked-none (lines file)))
+
+  -- all lines are judged
+  pub file-judged : (i last : ℕ) → length ls ≤ i → ranked_number 0 ls ≡ ranked_number last (drop i ls)
+      → file_number file ≡ 12 when not (eqb (length file % ended_length) 0)
+  unfolding file_number ranked_number
+  file-judged i last h e =
+      then-passed _ _
+      (ranked-none (lines file) ∙ ap (ranked_number 0) (sym l) ∙ e ∙ ap (ranked_number last) (drop_of_length-le ls h))

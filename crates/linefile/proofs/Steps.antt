@@ -1,169 +1,202 @@
--- A step of a walk over two line files (specs/Walk.antt): how it goes by the keys of two lines, and what is left behind it.
+-- A walk over two lists of lines (specs/Walk.antt): its steps, one after the other, and what they are by the keys of the lines.
 -- Assumes nothing.
-use mathlib.Core.Path.{◌≡◌, refl, sym, ap, ap₂, subst, ◌∙◌}
-use mathlib.Core.Bool.{Bool, true, false, cond, ◌&&◌}
-use mathlib.Core.List.{List, [], ◌∷◌, ◌++◌}
-use Prim.Native.Nat.{ℕ, suc, ◌+◌, ◌/◌, ◌≤◌, ◌<◌}
-use native.Mathlib.Nat.{le_of_eq, le_of_lt, le_antisymm}
+use mathlib.Core.Path.{◌≡◌, refl, sym, ap, ap₂, ◌∙◌}
+use mathlib.Core.Bool.{Bool, true, false, cond}
+use mathlib.Core.List.{List, [], ◌∷◌, map}
+use Prim.Native.Nat.{ℕ, suc, ◌+◌, ◌≤◌, ◌<◌}
 use native.Mathlib.Omega.{arith}
-use lib.Dec.{ltb, leb, eqb}
-use lib.ListN.{length, drop, get_or, drop_of_length-le}
-use lib.Seq.{drop-cons, drop-drop}
-use borrow.Author.Tests.{ltb-true, ltb-false, leb-false, lt-ltb, le-leb, lt-leb, eq-eqb, ne_eqb}
-use Rattle.linefile.specs.declared.Next.{Next}
-use Rattle.columns.specs.Text.{ended_length}
-use Rattle.linefile.specs.Files.{lines, same, keys, before, line_at}
+use lib.Dec.{ltb}
+use lib.ListN.{length, length-map}
+use borrow.Author.Tests.{lt-ltb, le-ltb}
+use Rattle.std.specs.Prelude.{Some}
+use Rattle.std.specs.Iterator.{MakesProgress, at_most}
+use Rattle.linefile.specs.declared.step.Step.{Step}
+use Rattle.linefile.specs.declared.walk.Walk.{Walk}
+use Rattle.linefile.specs.Files.{same, keys, before, lines_number}
 use Rattle.linefile.specs.Partners.{partners}
-use Rattle.linefile.specs.Walk.{rank, passing, step_of}
+use Rattle.linefile.specs.Walk.{rank, pairs_in, steps_from, steps}
 use Rattle.linefile.proofs.Keys.{Order, below, level, above, order}
-use Rattle.linefile.proofs.Ascending.{Ascending, ascending-drop}
-use Rattle.linefile.proofs.Lines.{LineFile, length-lines, line-accepted}
+use Rattle.linefile.proofs.Ascending.{Ascending, All, Accepted, ascending-any, lines-accepted}
 use Rattle.linefile.proofs.Partners.{below-partners, above-partners, level-partners, partners-nothing}
 use Rattle.linefile.proofs.Ranks.{rank-before}
 
--- ---- two lines
+-- ---- one step
 
--- How a step goes at two lines: whether it passes the first, whether it passes the second, and whether they have the same keys.
-pub data Passes (x y : List ℕ) : Bool → Bool → Bool → Type 0 where
-  first : before (keys x) (keys y) ≡ true → Passes x y true false false
-  both : keys x ≡ keys y → before (keys x) (keys y) ≡ false → before (keys y) (keys x) ≡ false → same (keys x) (keys y) ≡ true → Passes x y true true true
-  second : before (keys y) (keys x) ≡ true → Passes x y false true false
-
--- by two numbers that are in the order of the keys
-passes : (x y : List ℕ) (p q : ℕ) → before (keys x) (keys y) ≡ ltb p q → before (keys y) (keys x) ≡ ltb q p → Passes x y (leb p q) (leb q p) (eqb p q)
-passes x y p q r s = by_order (order (keys x) (keys y))
+pub second-step : (first : List (List ℕ)) {second others : List (List ℕ)} {other : List ℕ} → length first ≡ 0 → second ≡ other ∷ others
+    → steps first second ≡ Step.Second other ∷ steps first others
+unfolding steps
+second-step [] e f = ap (map Step.Second) f
+second-step (x ∷ xs) e f = absurd (none e)
   where
-    at : {u v w : Bool} → leb p q ≡ u → leb q p ≡ v → eqb p q ≡ w → Passes x y u v w → Passes x y (leb p q) (leb q p) (eqb p q)
-    at e f g t = rw (e, f, g) t
+    none : {n : ℕ} → suc n ≡ 0 → ⊥
+    none e = omega arith
 
-    apart : {m n : ℕ} → m < n → m ≡ n → ⊥
-    apart h e = omega arith
-
-    by_order : Order (keys x) (keys y) → Passes x y (leb p q) (leb q p) (eqb p q)
-    by_order (below b c d) =
-        let h = ltb-true p q (sym r ∙ b) in
-        at (le-leb p q (le_of_lt h)) (lt-leb q p h) (ne_eqb p q (apart h)) (first b)
-    by_order (level e b c d) =
-        let h = le_antisymm (ltb-false q p (sym s ∙ c)) (ltb-false p q (sym r ∙ b)) in
-        at (le-leb p q (le_of_eq h)) (le-leb q p (le_of_eq (sym h))) (eq-eqb p q h) (both e b c d)
-    by_order (above b c d) =
-        let h = ltb-true q p (sym s ∙ b) in
-        at (lt-leb p q h) (le-leb q p (le_of_lt h)) (ne_eqb p q (λ e. apart h (sym e))) (second b)
-
--- What is made of two ascending lists that begin with these lines is what is made behind the step, with more put to it.
-abbrev pub Goes : (x y : List ℕ) {A : Type 0} (made : List (List ℕ) → List (List ℕ) → A) (more : (earlier level : Bool) → A → A) → Type 0
-Goes x y made more =
-    (xs ys : List (List ℕ)) → Ascending (keys x) xs → Ascending (keys y) ys → (u v w : Bool) → Passes x y u v w
-    → made (x ∷ xs) (y ∷ ys) ≡ more u w (made (drop (cond u 1 0) (x ∷ xs)) (drop (cond v 1 0) (y ∷ ys)))
-
-partners-go : (x y : List ℕ) → Goes x y partners (λ earlier level pairs. cond level ((x, y) ∷ []) [] ++ pairs)
-partners-go x y xs ys ax ay true false false (first b) = below-partners x y xs ys ax ay b
-partners-go x y xs ys ax ay true true true (both e b c d) = level-partners x y xs ys ax ay e d
-partners-go x y xs ys ax ay false true false (second b) = above-partners x y xs ys ax ay b
-partners-go x y xs ys ax ay false false w p = elim p [ ]
-partners-go x y xs ys ax ay false true true p = elim p [ ]
-partners-go x y xs ys ax ay true false true p = elim p [ ]
-partners-go x y xs ys ax ay true true false p = elim p [ ]
-
--- ---- two files
-
--- one of two steps goes forward, and none goes past the end
-forward : (p q m n : ℕ) → m + n < m + cond (leb p q) 1 0 + (n + cond (leb q p) 1 0)
-forward p q m n = by-test (leb p q) (leb q p) refl refl
+pub no-step : (first second : List (List ℕ)) → length first ≡ 0 → length second ≡ 0 → steps first second ≡ []
+unfolding steps
+no-step [] [] e f = refl
+no-step [] (y ∷ ys) e f = absurd (none f)
   where
-    by-test : (u v : Bool) → leb p q ≡ u → leb q p ≡ v → m + n < m + cond (leb p q) 1 0 + (n + cond (leb q p) 1 0)
-    by-test true true e f = rw (e, f) (omega arith)
-    by-test true false e f = rw (e, f) (omega arith)
-    by-test false true e f = rw (e, f) (omega arith)
-    by-test false false e f = absurd (both-less (leb-false p q e) (leb-false q p f))
-      where
-        both-less : q < p → p < q → ⊥
-        both-less h k = omega arith
+    none : {n : ℕ} → suc n ≡ 0 → ⊥
+    none e = omega arith
+no-step (x ∷ xs) second e f = absurd (none e)
+  where
+    none : {n : ℕ} → suc n ≡ 0 → ⊥
+    none e = omega arith
 
-no-further : (b : Bool) (m n : ℕ) → m < n → m + cond b 1 0 ≤ n
-no-further true m n h = omega arith
-no-further false m n h = omega arith
+pub first-step : (second : List (List ℕ)) {first lines : List (List ℕ)} {line : List ℕ} → first ≡ line ∷ lines → length second ≡ 0
+    → steps first second ≡ Step.First line ∷ steps lines second
+unfolding steps steps_from
+first-step [] e f = ap (λ (l : List (List ℕ)). steps l []) e
+first-step (y ∷ ys) e f = absurd (none f)
+  where
+    none : {n : ℕ} → suc n ≡ 0 → ⊥
+    none e = omega arith
 
--- A step from line m of the first list and line n of the second: where it passes one of each, these are partners.
-pub record Stepped (first second : List (List ℕ)) (m n : ℕ) (next : Next) : Type 0 where
-  pub forward : m + n < next.m + next.n
-  pub in_first : next.m ≤ length first
-  pub in_second : next.n ≤ length second
-  pub pairs : partners (drop m first) (drop n second)
-      ≡ cond next.level ((get_or first m [], get_or second n []) ∷ []) [] ++ partners (drop next.m first) (drop next.n second)
+module _ {first second lines others : List (List ℕ)} {line other : List ℕ} (e : first ≡ line ∷ lines) (f : second ≡ other ∷ others)
+    {place other_place : ℕ} (p : place ≡ rank line) (q : other_place ≡ rank other) where
+  abbrev go : (lesser more : Bool) → List (Step (List ℕ))
+  go lesser more =
+      cond lesser (Step.First line ∷ steps lines (other ∷ others))
+      (cond more (Step.Second other ∷ steps (line ∷ lines) others) (Step.Both line other ∷ steps lines others))
 
-module _ (first second : List ℕ) (f : LineFile first) (g : LineFile second) (m n : ℕ)
-    (hm : m < length first / ended_length) (hn : n < length second / ended_length) where
-  abbrev x : List ℕ
-  x = line_at first m
+  steps-go : steps first second ≡ go (ltb place other_place) (ltb other_place place)
+  unfolding steps steps_from
+  steps-go = ap₂ steps e f ∙ ap₂ (λ (m n : ℕ). go (ltb m n) (ltb n m)) (sym p) (sym q)
 
-  abbrev y : List ℕ
-  y = line_at second n
+  pub lesser-step : place < other_place → steps first second ≡ Step.First line ∷ steps lines second
+  lesser-step h =
+      steps-go ∙ ap (λ (b : Bool). go b (ltb other_place place)) (lt-ltb place other_place h)
+      ∙ ap (λ (l : List (List ℕ)). Step.First line ∷ steps lines l) (sym f)
 
-  -- the step by their ranks
-  abbrev passed : Next
-  passed = passing (rank x) (rank y) m n
+  pub greater-step : other_place ≤ place → other_place < place → steps first second ≡ Step.Second other ∷ steps first others
+  greater-step h k =
+      steps-go ∙ ap₂ go (le-ltb place other_place h) (lt-ltb other_place place k)
+      ∙ ap (λ (l : List (List ℕ)). Step.Second other ∷ steps l others) (sym e)
 
-  passed_is : step_of first second m n ≡ passed
-  unfolding step_of
-  passed_is =
-      ap₂ (λ (a b : Bool). cond (a && b) passed (record { earlier = false; level = false; m = m; n = n }))
-      (lt-ltb m (length first / ended_length) hm)
-      (lt-ltb n (length second / ended_length) hn)
+  pub level-step : other_place ≤ place → place ≤ other_place → steps first second ≡ Step.Both line other ∷ steps lines others
+  level-step h k = steps-go ∙ ap₂ go (le-ltb place other_place h) (le-ltb other_place place k)
 
-  in-first : m < length (lines first)
-  in-first = rw (length-lines first) hm
+-- after a step there is one less to come
+pub progress : {A : Type 0} {s t : Walk} {x : A} {step : Step (List ℕ)} → steps s.first.now s.second.now ≡ step ∷ steps t.first.now t.second.now
+    → MakesProgress {A = A} (λ _. Unit {0}) (λ (walk : Walk). at_most (length (steps walk.first.now walk.second.now))) s (Some x) t
+progress e = record { on = λ _. (tt, tt, omega (arith, ap length e)); keeps = tt; rests = λ _. tt }
 
-  in-second : n < length (lines second)
-  in-second = rw (length-lines second) hn
+-- ---- by the keys
 
-  dx : drop m (lines first) ≡ x ∷ drop (suc m) (lines first)
-  dx = drop-cons (lines first) m [] in-first
+-- Lines of which none is refused.
+abbrev pub Unrefused : List (List ℕ) → Type 0
+Unrefused ls = Ascending [] ls × All Accepted ls
 
-  dy : drop n (lines second) ≡ y ∷ drop (suc n) (lines second)
-  dy = drop-cons (lines second) n [] in-second
+pub unrefused : (ls : List (List ℕ)) → lines_number [] ls ≡ 0 → Unrefused ls
+unrefused ls e = lines-accepted [] ls e
 
-  made-passed : {A : Type 0} (made : List (List ℕ) → List (List ℕ) → A) (more : (earlier level : Bool) → A → A) → Goes x y made more
-      → made (drop m (lines first)) (drop n (lines second))
-      ≡ more passed.earlier passed.level (made (drop passed.m (lines first)) (drop passed.n (lines second)))
-  made-passed made more go =
-      let ascx : Ascending [] (x ∷ drop (suc m) (lines first)) = subst (Ascending []) dx (ascending-drop m [] (lines first) f.ascends) in
-      let ascy : Ascending [] (y ∷ drop (suc n) (lines second)) = subst (Ascending []) dy (ascending-drop n [] (lines second) g.ascends) in
-      let px = line-accepted first f m hm in
-      let py = line-accepted second g n hn in
-      ap₂ made dx dy
-      ∙ go (drop (suc m) (lines first)) (drop (suc n) (lines second)) ascx.1 ascy.1 _ _ _ (passes x y (rank x) (rank y) (rank-before x y px py) (rank-before y x py px))
-      ∙ ap₂ (λ (a b : List (List ℕ)). more passed.earlier passed.level (made a b))
-      (ap (drop (cond (leb (rank x) (rank y)) 1 0)) (sym dx) ∙ drop-drop (cond (leb (rank x) (rank y)) 1 0) m (lines first))
-      (ap (drop (cond (leb (rank y) (rank x)) 1 0)) (sym dy) ∙ drop-drop (cond (leb (rank y) (rank x)) 1 0) n (lines second))
+-- How two lines stand to each other, and what the tests on their ranks give.
+data Stand (x y : List ℕ) : Bool → Bool → Type 0 where
+  first : before (keys x) (keys y) ≡ true → Stand x y true false
+  both : keys x ≡ keys y → before (keys x) (keys y) ≡ false → before (keys y) (keys x) ≡ false → same (keys x) (keys y) ≡ true → Stand x y false false
+  second : before (keys y) (keys x) ≡ true → Stand x y false true
 
-  module _ {next : Next} (e : next ≡ step_of first second m n) where
-    -- what is made of the lines that are left goes on behind the step
-    pub step-made : {A : Type 0} (made : List (List ℕ) → List (List ℕ) → A) (more : (earlier level : Bool) → A → A) → Goes x y made more
-        → made (drop m (lines first)) (drop n (lines second))
-        ≡ more next.earlier next.level (made (drop next.m (lines first)) (drop next.n (lines second)))
-    step-made made more go =
-        made-passed made more go
-        ∙ ap (λ (t : Next). more t.earlier t.level (made (drop t.m (lines first)) (drop t.n (lines second)))) (sym (e ∙ passed_is))
+stand : (x y : List ℕ) → Accepted x → Accepted y → Stand x y (ltb (rank x) (rank y)) (ltb (rank y) (rank x))
+stand x y e f = by_order (order (keys x) (keys y))
+  where
+    at : {u v : Bool} → before (keys x) (keys y) ≡ u → before (keys y) (keys x) ≡ v → Stand x y u v → Stand x y (ltb (rank x) (rank y)) (ltb (rank y) (rank x))
+    at p q s = rw (sym (rank-before x y e f) ∙ p, sym (rank-before y x f e) ∙ q) s
 
-    pub stepped : Stepped (lines first) (lines second) m n next
-    stepped =
-        subst (Stepped (lines first) (lines second) m n) (sym (e ∙ passed_is))
-        (record {
-          forward = forward (rank x) (rank y) m n;
-          in_first = no-further (leb (rank x) (rank y)) m (length (lines first)) in-first;
-          in_second = no-further (leb (rank y) (rank x)) n (length (lines second)) in-second;
-          pairs = made-passed partners (λ earlier level pairs. cond level ((x, y) ∷ []) [] ++ pairs) (partners-go x y);
-        })
+    by_order : Order (keys x) (keys y) → Stand x y (ltb (rank x) (rank y)) (ltb (rank y) (rank x))
+    by_order (below p q r) = at p q (first p)
+    by_order (level g p q r) = at p q (both g p q r)
+    by_order (above p q r) = at q p (second p)
 
--- ---- the end of a walk
+-- What holds of two lists and the steps over them holds by the cases of a step.
+pub record StepLaws (P : (first second : List (List ℕ)) → List (Step (List ℕ)) → Type 0) : Type 0 where
+  pub seconds : (ys : List (List ℕ)) → P [] ys (map Step.Second ys)
+  pub firsts : (x : List ℕ) (xs : List (List ℕ)) (ss : List (Step (List ℕ))) → Ascending (keys x) xs → P xs [] ss → P (x ∷ xs) [] (Step.First x ∷ ss)
+  pub first : (x y : List ℕ) (xs ys : List (List ℕ)) (ss : List (Step (List ℕ))) → Ascending (keys x) xs → Ascending (keys y) ys
+      → before (keys x) (keys y) ≡ true → P xs (y ∷ ys) ss → P (x ∷ xs) (y ∷ ys) (Step.First x ∷ ss)
+  pub second : (x y : List ℕ) (xs ys : List (List ℕ)) (ss : List (Step (List ℕ))) → Ascending (keys x) xs → Ascending (keys y) ys
+      → before (keys y) (keys x) ≡ true → P (x ∷ xs) ys ss → P (x ∷ xs) (y ∷ ys) (Step.Second y ∷ ss)
+  pub both : (x y : List ℕ) (xs ys : List (List ℕ)) (ss : List (Step (List ℕ))) → Ascending (keys x) xs → Ascending (keys y) ys → Accepted x → Accepted y
+      → keys x ≡ keys y → before (keys x) (keys y) ≡ false → before (keys y) (keys x) ≡ false → same (keys x) (keys y) ≡ true
+      → P xs ys ss → P (x ∷ xs) (y ∷ ys) (Step.Both x y ∷ ss)
 
--- where one of two lists ends there are no more partners
-pub end-pairs : (xs ys : List (List ℕ)) (m n : ℕ) → ltb m (length xs) && ltb n (length ys) ≡ false → partners (drop m xs) (drop n ys) ≡ []
+module _ {P : (first second : List (List ℕ)) → List (Step (List ℕ)) → Type 0} (l : StepLaws P) where
+  from-line : (x : List ℕ) (xs ys : List (List ℕ)) → Ascending (keys x) xs → Accepted x → Unrefused ys
+      → ((zs : List (List ℕ)) → Unrefused zs → P xs zs (steps xs zs)) → P (x ∷ xs) ys (steps_from x (steps xs) ys)
+  unfolding steps_from
+  from-line x xs [] a e b h = l.firsts x xs (steps xs []) a (h [] (tt, tt))
+  from-line x xs (y ∷ ys) a e b h =
+      by_stand (ltb (rank x) (rank y)) (ltb (rank y) (rank x)) (stand x y e b.1.0) (h (y ∷ ys) b) (from-line x xs ys a e behind h) (h ys behind)
+    where
+      behind : Unrefused ys
+      behind = (ascending-any (keys y) ys b.0.1, b.1.1)
+
+      by_stand : (u v : Bool) → Stand x y u v → P xs (y ∷ ys) (steps xs (y ∷ ys)) → P (x ∷ xs) ys (steps_from x (steps xs) ys) → P xs ys (steps xs ys)
+          → P (x ∷ xs) (y ∷ ys) (cond u (Step.First x ∷ steps xs (y ∷ ys)) (cond v (Step.Second y ∷ steps_from x (steps xs) ys) (Step.Both x y ∷ steps xs ys)))
+      by_stand true false (first p) f s t = l.first x y xs ys _ a b.0.1 p f
+      by_stand false true (second p) f s t = l.second x y xs ys _ a b.0.1 p s
+      by_stand false false (both g p q r) f s t = l.both x y xs ys _ a b.0.1 e b.1.0 g p q r t
+      by_stand true true p f s t = elim p [ ]
+
+  pub by-steps : (xs ys : List (List ℕ)) → Unrefused xs → Unrefused ys → P xs ys (steps xs ys)
+  unfolding steps
+  by-steps [] ys a b = l.seconds ys
+  by-steps (x ∷ xs) ys a b =
+      from-line x xs ys a.0.1 a.1.0 b (λ zs c. by-steps xs zs (ascending-any (keys x) xs a.0.1, a.1.1) c)
+
+-- ---- the partners
+
+no-pairs : (ys : List (List ℕ)) → pairs_in (map Step.Second ys) ≡ []
+no-pairs [] = refl
+no-pairs (y ∷ ys) = no-pairs ys
+
+-- the lines that steps pass together are the partners
+pub partners-steps : (xs ys : List (List ℕ)) → Unrefused xs → Unrefused ys → partners xs ys ≡ pairs_in (steps xs ys)
 unfolding partners
-end-pairs xs ys m n e = by-test (ltb m (length xs)) refl
-  where
-    by-test : (t : Bool) → ltb m (length xs) ≡ t → partners (drop m xs) (drop n ys) ≡ []
-    by-test false f = rw (drop_of_length-le xs (ltb-false m (length xs) f)) refl
-    by-test true f =
-        rw (drop_of_length-le ys (ltb-false n (length ys) (rw f at e))) (partners-nothing (drop m xs))
+partners-steps =
+    by-steps {P = λ xs ys ss. partners xs ys ≡ pairs_in ss}
+    (record {
+      seconds = λ ys. sym (no-pairs ys);
+      firsts = λ x xs ss a h. partners-nothing (x ∷ xs) ∙ sym (partners-nothing xs) ∙ h;
+      first = λ x y xs ys ss a b p h. below-partners x y xs ys a b p ∙ h;
+      second = λ x y xs ys ss a b p h. above-partners x y xs ys a b p ∙ h;
+      both = λ x y xs ys ss a b e f g p q r h. level-partners x y xs ys a b g r ∙ ap (λ (t : List (List ℕ × List ℕ)). (x, y) ∷ t) h;
+    })
+
+-- Two lines that are accepted.
+abbrev pub BothAccepted : List ℕ × List ℕ → Type 0
+BothAccepted p = Accepted p.0 × Accepted p.1
+
+pub pairs-accepted : (xs ys : List (List ℕ)) → Unrefused xs → Unrefused ys → All BothAccepted (pairs_in (steps xs ys))
+pairs-accepted =
+    by-steps {P = λ xs ys ss. All BothAccepted (pairs_in ss)}
+    (record {
+      seconds = λ ys. rw (no-pairs ys) tt;
+      firsts = λ x xs ss a h. h;
+      first = λ x y xs ys ss a b p h. h;
+      second = λ x y xs ys ss a b p h. h;
+      both = λ x y xs ys ss a b e f g p q r h. ((e, f), h);
+    })
+
+-- there are no more of them than lines in the first list
+pub few-pairs : (xs ys : List (List ℕ)) → Unrefused xs → Unrefused ys → length (pairs_in (steps xs ys)) ≤ length xs
+few-pairs =
+    by-steps {P = λ xs ys ss. length (pairs_in ss) ≤ length xs}
+    (record {
+      seconds = λ ys. rw (no-pairs ys) (omega arith);
+      firsts = λ x xs ss a h. omega arith;
+      first = λ x y xs ys ss a b p h. omega arith;
+      second = λ x y xs ys ss a b p h. h;
+      both = λ x y xs ys ss a b e f g p q r h. omega arith;
+    })
+
+-- a walk has no more steps than there are lines
+pub few-steps : (xs ys : List (List ℕ)) → Unrefused xs → Unrefused ys → length (steps xs ys) ≤ length xs + length ys
+few-steps =
+    by-steps {P = λ xs ys ss. length ss ≤ length xs + length ys}
+    (record {
+      seconds = λ ys. omega (arith, length-map ys Step.Second);
+      firsts = λ x xs ss a h. omega arith;
+      first = λ x y xs ys ss a b p h. omega arith;
+      second = λ x y xs ys ss a b p h. omega arith;
+      both = λ x y xs ys ss a b e f g p q r h. omega arith;
+    })

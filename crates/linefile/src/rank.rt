@@ -1,14 +1,12 @@
 // Lines ranked by one number, so that two of them are compared by one comparison.
-ghost use Rattle.std.specs.Prelude.{◌≡◌, ◌<◌, ◌/◌, length};
-ghost use Rattle.columns.specs.Text.{ended_length};
-ghost use Rattle.linefile.specs.Files.{line_at};
+ghost use Rattle.std.specs.Prelude.{◌≡◌};
 ghost use Rattle.linefile.specs.Walk.{rank};
 
-use columns::ENDED_LENGTH;
+use crate::accepted_lines::EndedLine;
 use fields::{byte_at, two_digits};
 
 // The rank of a line by MJD, start, letter and satellite.
-pub fn rank(line: &[u8]) -> u64
+pub fn rank(line: &EndedLine) -> u64
     ensures { result ≡ rank line.now }
 {
     let mjd = 1000 * two_digits(line, 7) + 10 * two_digits(line, 9) + byte_at(line, 11);
@@ -16,13 +14,4 @@ pub fn rank(line: &[u8]) -> u64
     let letter = byte_at(line, 0);
     let satellite = two_digits(line, 1);
     ((mjd * 4000000 + start) * 256 + letter) * 1000 + satellite
-}
-
-// The rank of line i of a file.
-pub fn rank_at(file: &[u8], i: usize) -> u64
-    requires { i < length file.now / ended_length }
-    ensures { result ≡ rank (line_at file.now i) }
-{
-    let at = ENDED_LENGTH * i;
-    rank(&file[at..at + ENDED_LENGTH])
 }

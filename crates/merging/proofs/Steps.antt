@@ -1,13 +1,15 @@
--- Lines put among ascending ones (specs/Merge.antt), and what a step of a walk over two lists takes from the merged lines.
+-- Lines put among ascending ones (specs/Merge.antt), and that the lines which a walk over two lists passes are the merged ones.
 -- Assumes nothing.
 use mathlib.Core.Path.{◌≡◌, refl, sym, ap, subst, ◌∙◌}
-use mathlib.Core.Bool.{true, false, cond}
-use mathlib.Core.List.{List, [], ◌∷◌}
+use mathlib.Core.Bool.{true, false}
+use mathlib.Core.List.{List, [], ◌∷◌, map}
 use Prim.Native.Nat.{ℕ}
 use Rattle.linefile.specs.Files.{keys, before}
 use Rattle.linefile.proofs.Keys.{Order, below, level, above, order, before-asym}
-use Rattle.linefile.proofs.Ascending.{Ascending, All, ascending-from}
-use Rattle.linefile.proofs.Steps.{Goes, first, both, second}
+use Rattle.linefile.proofs.Ascending.{Ascending, All, before-none, ascending-from}
+use Rattle.linefile.specs.declared.step.Step.{Step}
+use Rattle.linefile.specs.Walk.{line_of, steps}
+use Rattle.linefile.proofs.Steps.{Unrefused, by-steps}
 use Rattle.merging.specs.Merge.{inserted, merged}
 
 -- ---- a line among others
@@ -65,7 +67,7 @@ merged-under y (x ∷ xs) ys a =
     ap (inserted x) (merged-under y xs ys (ascending-from (keys y) (keys x) xs a.0 a.1))
     ∙ rw (before-asym (keys y) (keys x) a.0, a.0)
 
--- ---- a step
+-- ---- the first of two lines
 
 module _ (x y : List ℕ) (xs ys : List (List ℕ)) (ax : Ascending (keys x) xs) (ay : Ascending (keys y) ys) where
   below-merged : before (keys x) (keys y) ≡ true → merged (x ∷ xs) (y ∷ ys) ≡ x ∷ merged xs (y ∷ ys)
@@ -81,11 +83,21 @@ module _ (x y : List ℕ) (xs ys : List (List ℕ)) (ax : Ascending (keys x) xs)
   level-merged e p q =
       ap (inserted x) (merged-under y xs ys (subst (λ (k : List ℕ). Ascending k xs) e ax)) ∙ rw (p, q)
 
-pub merged-go : (x y : List ℕ) → Goes x y merged (λ earlier level ls. cond earlier x y ∷ ls)
-merged-go x y xs ys ax ay true false false (first b) = below-merged x y xs ys ax ay b
-merged-go x y xs ys ax ay true true true (both e b c d) = level-merged x y xs ys ax ay e b c
-merged-go x y xs ys ax ay false true false (second b) = above-merged x y xs ys ax ay b
-merged-go x y xs ys ax ay false false w p = elim p [ ]
-merged-go x y xs ys ax ay false true true p = elim p [ ]
-merged-go x y xs ys ax ay true false true p = elim p [ ]
-merged-go x y xs ys ax ay true true false p = elim p [ ]
+-- ---- a walk
+
+seconds-lines : (ys : List (List ℕ)) → map line_of (map Step.Second ys) ≡ ys
+seconds-lines [] = refl
+seconds-lines (y ∷ ys) = ap (λ (t : List (List ℕ)). y ∷ t) (seconds-lines ys)
+
+-- the lines that its steps pass are the merged ones
+pub merged-steps : (xs ys : List (List ℕ)) → Unrefused xs → Unrefused ys → merged xs ys ≡ map line_of (steps xs ys)
+unfolding merged
+merged-steps =
+    by-steps {P = λ xs ys ss. merged xs ys ≡ map line_of ss}
+    (record {
+      seconds = λ ys. sym (seconds-lines ys);
+      firsts = λ x xs ss a h. merged-nothing [] (x ∷ xs) (before-none x, a) ∙ ap (λ (t : List (List ℕ)). x ∷ t) (sym (merged-nothing (keys x) xs a) ∙ h);
+      first = λ x y xs ys ss a b p h. below-merged x y xs ys a b p ∙ ap (λ (t : List (List ℕ)). x ∷ t) h;
+      second = λ x y xs ys ss a b p h. above-merged x y xs ys a b p ∙ ap (λ (t : List (List ℕ)). y ∷ t) h;
+      both = λ x y xs ys ss a b e f g p q r h. level-merged x y xs ys a b g p q ∙ ap (λ (t : List (List ℕ)). x ∷ t) h;
+    })

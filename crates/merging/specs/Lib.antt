@@ -1,3 +1,2 @@
--- What must be believed: what two line files make together, what is refused, and what the cases of the answer mean.
+-- What must be believed: what two line files make together, and what is refused.
 pub mod Merge
-pub mod Answers

@@ -37,6 +37,11 @@ merge_number first second room =
     then 15 when any_differ (partners (lines first) (lines second))
     then 17 when ltb room (length (merged_file first second))
 
+-- What is known of two files' lines before anything is written: 15, and how many bytes the result has.
+unfoldable pub measure_rule : (first second : List (List ℕ)) → Reply ℕ
+measure_rule first second =
+    reply 0 (15 when any_differ (partners first second)) (length (joined (merged first second)))
+
 -- That number, and how many bytes are written.
 unfoldable pub merge_rule : (first second : List ℕ) (room : ℕ) → Reply ℕ
 merge_rule first second room = reply 0 (merge_number first second room) (length (merged_file first second))

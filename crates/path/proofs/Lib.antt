@@ -3,7 +3,6 @@ pub mod WholeFloats
 pub mod Shifts
 pub mod Patterns
 pub mod Roots
-pub mod Products
 pub mod Points
-pub mod Answers
 pub mod Theorems
+pub mod Products

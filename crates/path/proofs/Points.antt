@@ -1,18 +1,21 @@
 -- What is said of two points, from what is said of their coordinates.
 -- Assumes nothing.
 use mathlib.Core.Path.{◌≡◌, ◌∙◌}
-use mathlib.Core.Bool.{true, false, not, ◌||◌}
-use Prim.Native.Nat.{ℕ, ◌+◌, ◌*◌, ◌≤◌}
-use native.Mathlib.Nat.{mul-le-mul}
-use native.Mathlib.Omega.{arith}
+use mathlib.Core.Bool.{Bool, true, false, not, ◌||◌}
+use Prim.Native.Nat.{ℕ, ◌+◌, ◌*◌}
 use lib.Ieee.{Float}
 use borrow.Author.Tests.{not-false}
+use Rattle.limits.specs.Refusal.{◌when◌, ◌then◌}
 use Rattle.limits.proofs.Laws.{or-false, then-zero, when-zero}
 use Rattle.path.specs.declared.Point.{Point}
-use Rattle.path.specs.declared.wide.Wide.{Wide}
 use Rattle.path.specs.Coordinate.{whole, coordinate_beyond}
 use Rattle.path.specs.Path.{fractional, point_beyond, path_number, difference, sum_of_squares_lem}
-use Rattle.path.specs.Wide.{difference_limit, Stands, Part}
+
+-- the number from the two tests
+pub number_is : (s a : Point) {f b : Bool} → f ≡ (fractional s || fractional a) → b ≡ (point_beyond s || point_beyond a)
+    → 23 when f then 24 when b ≡ path_number s a
+unfolding path_number
+number_is s a e h = λ i. 23 when e i then 24 when h i
 
 -- each coordinate of a point within the limit is
 pub within : (p : Point) → point_beyond p ≡ false → (coordinate_beyond p.x ≡ false) × (coordinate_beyond p.y ≡ false) × (coordinate_beyond p.z ≡ false)
@@ -43,10 +46,6 @@ usable p f b =
     let x = or-false (not (whole p.x)) (not (whole p.y)) xy.0 in
     let w = within p b in
     ((not-false _ x.0, w.0), (not-false _ x.1, w.1), (not-false _ xy.1, w.2))
-
--- the product of two differences of at most 10^11
-pub part : {w : Wide} {c d : ℕ} → Stands w (c * d) → c ≤ difference_limit → d ≤ difference_limit → Part w
-part h i j = record { small = h.small; most = omega (arith, h.is, mul-le-mul i j) }
 
 -- the sum of the three squares is the definition's
 pub squares-are : (s a : Point) (x y z : ℕ) {n p q r : ℕ} → n ≡ p + q + r → p ≡ x * x → q ≡ y * y → r ≡ z * z

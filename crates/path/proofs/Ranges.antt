@@ -18,7 +18,7 @@ use Rattle.whole.proofs.Magnitudes.{nat_abs-add, nat_abs-neg}
 use Rattle.whole.proofs.Words.{fits-of}
 use Rattle.limits.proofs.Laws.{not-leb, eqb-turned}
 use Rattle.path.specs.Coordinate.{coordinate_beyond, millimetres, coordinate_limit}
-use Rattle.path.specs.Wide.{difference_limit}
+use Rattle.path.specs.Between.{difference_limit}
 use Rattle.path.specs.Path.{difference}
 
 -- ---- tests against ±K

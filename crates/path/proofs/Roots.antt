@@ -42,3 +42,7 @@ root-only n L f =
     let above : L < suc (root n) = square-lt L (suc (root n)) (omega (arith, f.reached, g.next)) in
     let below : root n < suc L = square-lt (root n) (suc L) (omega (arith, g.reached, f.next)) in
     omega arith
+
+-- the square of a bounded number
+pub square-bound : (d : ℕ) {b : ℕ} → d ≤ b → d * d ≤ b * b
+square-bound d h = mul-le-mul h h

@@ -20,11 +20,10 @@ use Rattle.limits.proofs.Replies.{reply-accepted, reply-values}
 use Rattle.path.specs.declared.Point.{Point}
 use Rattle.path.specs.Coordinate.{whole, coordinate_beyond, millimetres}
 use Rattle.path.specs.Root.{greatest, root}
-use Rattle.path.specs.Wide.{factor_limit}
+use Rattle.path.specs.Between.{factor_limit}
 use Rattle.path.specs.Path.{fractional, point_beyond, path_number, difference, sum_of_squares_lem, whole_length, length_of, plus_zero, path_rule}
 use Rattle.path.proofs.Ranges.{difference-bound}
-use Rattle.path.proofs.Roots.{FloorRoot, root_is, root-only, square-lt}
-use Rattle.path.proofs.Products.{square-bound}
+use Rattle.path.proofs.Roots.{FloorRoot, root_is, root-only, square-lt, square-bound}
 use Rattle.path.proofs.Points.{within, accepted}
 
 -- ---- a coordinate that is a whole number has the value of its millimetres

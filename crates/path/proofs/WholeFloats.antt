@@ -15,6 +15,7 @@ use lib.Ieee.Fits.{and_l, and_r, down_pos}
 use lib.Ieee.Exact.{HasValue}
 use lib.Ieee.Back.{round_whole}
 use borrow.Author.Tests.{eqb-true, eq-eqb, le-leb, lt-ltb, leb-false}
+use Rattle.std.specs.Float.{float_is_finite}
 use Rattle.limits.proofs.Laws.{both, eqb_same}
 use Rattle.path.specs.Coordinate.{whole, coordinate_beyond, millimetres, coordinate_limit}
 use Rattle.path.proofs.Ranges.{in_range, quotient-bound, within-limit}
@@ -92,8 +93,8 @@ large s (suc m) (negsuc k) f h =
     few n d a b c = omega arith
 
 -- past ±2^52 it is whole where it is finite
-pub far-whole : (x : Float) → T (fits binary64 x) → in_range 4503599627370496 x ≡ false → (lt (inf true) x && lt x (inf false)) ≡ whole x
-unfolding lt whole
+pub far-whole : (x : Float) → T (fits binary64 x) → in_range 4503599627370496 x ≡ false → float_is_finite x ≡ whole x
+unfolding float_is_finite whole
 far-whole nan f h = refl
 far-whole (inf true) f h = refl
 far-whole (inf false) f h = refl

@@ -1,6 +1,5 @@
--- What must be believed: a coordinate, the root, the path with its refusals, and what an answer means. Wide is what the functions within say of each other.
+-- What must be believed: a coordinate, the root, and the path with its refusals. Between is what the functions within say of each other.
 pub mod Coordinate
 pub mod Root
 pub mod Path
-pub mod Answers
-pub mod Wide
+pub mod Between

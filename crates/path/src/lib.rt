@@ -3,19 +3,17 @@
 // outside ±5 × 10^10.
 #![tactic(auto)]
 
-ghost use Rattle.std.specs.Prelude.{◌≡◌, true, false, ◌||◌, ◌*◌, ◌≤◌};
-ghost use Rattle.path.specs.Path.{fractional, point_beyond, path_number, sum_of_squares_lem, length_of, path_rule};
-ghost use Rattle.path.specs.Answers.{measured_reply, MeasuredNumbered};
-ghost use Rattle.path.specs.Wide.{wide_value, difference_limit, Stands};
+ghost use Rattle.std.specs.Prelude.{◌≡◌, ◌||◌, ◌*◌, ◌≤◌};
+ghost use Rattle.limits.specs.Numbers.{number_of, reply_of};
+ghost use Rattle.path.specs.Path.{fractional, point_beyond, path_number, sum_of_squares_lem, length_of, plus_zero, path_rule};
+ghost use Rattle.path.specs.Between.{difference_limit};
 
 use coordinate::{apart, is_outside, is_whole};
-use limits::{then, when};
-use root::{estimate, root};
-use wide::{Wide, product, sum};
+use limits::Refusal;
+use root::{estimate, product, root};
 
 mod coordinate;
 mod root;
-mod wide;
 
 // A point in millimetres.
 #[derive(Clone, Copy)]
@@ -25,14 +23,8 @@ pub struct Point {
     pub z: f64,
 }
 
-// What Path answers: the length in millimetres, or the number of the refusal.
-#[derive(Clone, Copy)]
-pub enum Measured {
-    Length(f64),
-    Refused(u32),
-}
-
-// Whether some coordinate is not a whole number. The first such one ends the search.
+// Whether some coordinate is not a whole number.
+// Kept: a branch for each, for speed: joined by `||`, the compiler works out all three.
 fn has_fraction(p: Point) -> bool
     ensures { result ≡ fractional p }
 {
@@ -45,7 +37,7 @@ fn has_fraction(p: Point) -> bool
     !is_whole(p.z)
 }
 
-// Whether some coordinate of two points is not a whole number.
+// Whether some coordinate of two points is not a whole number. The first such one ends the search.
 fn have_fraction(satellite: Point, antenna: Point) -> bool
     ensures { result ≡ (fractional satellite || fractional antenna) }
 {
@@ -62,24 +54,28 @@ fn is_beyond(p: Point) -> bool
     is_outside(p.x) | is_outside(p.y) | is_outside(p.z)
 }
 
-// The number of the first refusal, 0 where there is none.
-fn refusal(satellite: Point, antenna: Point) -> u32
-    ensures { result ≡ path_number satellite antenna }
+// 23 over all six coordinates, then 24.
+fn refusal(satellite: Point, antenna: Point) -> Result<(), Refusal>
+    ensures { number_of result ≡ path_number satellite antenna }
 {
-    let fraction = have_fraction(satellite, antenna);
-    let outside = is_beyond(satellite) | is_beyond(antenna);
-    then(when(23, fraction), when(24, outside))
+    if have_fraction(satellite, antenna) {
+        return Err(Refusal::NotWhole);
+    }
+    if is_beyond(satellite) | is_beyond(antenna) {
+        return Err(Refusal::Coordinate);
+    }
+    Ok(())
 }
 
 // The sum of the squared differences of points that are not refused: at most three times (10^11)².
-fn sum_of_squares(satellite: Point, antenna: Point) -> Wide
+fn sum_of_squares(satellite: Point, antenna: Point) -> u128
     requires { path_number satellite antenna ≡ 0 }
-    ensures { Stands result (sum_of_squares_lem satellite antenna) × (wide_value result ≤ 3 * (difference_limit * difference_limit)) }
+    ensures { (result ≡ sum_of_squares_lem satellite antenna) × (result ≤ 3 * (difference_limit * difference_limit)) }
 {
     let dx = apart(satellite.x, antenna.x);
     let dy = apart(satellite.y, antenna.y);
     let dz = apart(satellite.z, antenna.z);
-    sum(product(dx, dx), product(dy, dy), product(dz, dz))
+    product(dx, dx) + product(dy, dy) + product(dz, dz)
 }
 
 // The length between points that are not refused.
@@ -95,24 +91,10 @@ fn length(satellite: Point, antenna: Point) -> f64
     root(sum_of_squares(satellite, antenna), near) as f64
 }
 
-// The length of the straight path between satellite and antenna, or the number of the first refusal.
-pub fn path(satellite: Point, antenna: Point) -> Measured
-    ensures answer { measured_reply result ≡ path_rule satellite antenna }
-    ensures variant { MeasuredNumbered result }
+// The length of the straight path between satellite and antenna, or the first refusal.
+pub fn path(satellite: Point, antenna: Point) -> Result<f64, Refusal>
+    ensures answer { reply_of plus_zero result ≡ path_rule satellite antenna }
 {
-    let number = refusal(satellite, antenna);
-    if number != 0 {
-        return Measured::Refused(number);
-    }
-    Measured::Length(length(satellite, antenna))
-}
-
-// The number of an answer: that of the refusal, 0 where there is none.
-pub fn measured_number(measured: Measured) -> u32
-    ensures { result ≡ (measured_reply measured).number }
-{
-    match measured {
-        Measured::Length(_) => 0,
-        Measured::Refused(number) => number,
-    }
+    refusal(satellite, antenna)?;
+    Ok(length(satellite, antenna))
 }

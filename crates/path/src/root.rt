@@ -1,10 +1,8 @@
 // The root of a sum of squares: an iterated estimate in floats, then the exact floor in whole numbers. Of the estimate nothing is known:
 // it only says where to look first.
 ghost use Rattle.std.specs.Prelude.{◌≡◌, ◌*◌, ◌<◌};
-ghost use Rattle.path.specs.Wide.{radix, wide_value, factor_limit, Between};
+ghost use Rattle.path.specs.Between.{factor_limit, Between};
 ghost use Rattle.path.specs.Root.{root};
-
-use super::wide::{Wide, at_most};
 
 // The greatest root: one below 2^38.
 const GREATEST: u64 = 274877906943;
@@ -14,6 +12,13 @@ const GREATEST: u64 = 274877906943;
 pub struct Bounds {
     pub low: u64,
     pub high: u64,
+}
+
+// The product, which fits whatever the factors are.
+pub fn product(a: u64, b: u64) -> u128
+    ensures { result ≡ a * b }
+{
+    a as u128 * b as u128
 }
 
 // A first guess at the root of n, within 5%: half the exponent, by the bit pattern.
@@ -50,40 +55,32 @@ pub fn estimate(dx: f64, dy: f64, dz: f64) -> u64 {
 }
 
 // The bounds after p was tried. They ignore it where it can tell nothing.
-fn probed(w: Wide, b: Bounds, p: u64) -> Bounds
-    requires { Between w b }
-    ensures { Between w result }
+fn probed(n: u128, b: Bounds, p: u64) -> Bounds
+    requires { Between n b }
+    ensures { Between n result }
 {
-    if p <= b.low {
-        return b;
-    }
-    if b.high < p {
+    if p <= b.low || b.high < p {
         return b;
     }
     let below = p - 1;
-    if at_most(p, p, w) {
-        return Bounds {
-            low: p,
-            high: b.high,
-        };
-    }
-    Bounds {
-        low: b.low,
-        high: below,
+    if product(p, p) <= n {
+        Bounds { low: p, ..b }
+    } else {
+        Bounds { high: below, ..b }
     }
 }
 
 // The root between bounds, by halving. It is below 2^38.
-fn halved(w: Wide, b: Bounds) -> u64
-    requires { Between w b }
-    ensures { (result ≡ root (wide_value w)) × (result < factor_limit) }
+// Kept: halving between the bounds, which a good estimate leaves closed: isqrt would begin anew, from 2^64.
+fn halved(n: u128, b: Bounds) -> u64
+    requires { Between n b }
+    ensures { (result ≡ root n) × (result < factor_limit) }
 {
-    let mut low = b.low;
-    let mut high = b.high;
+    let Bounds { mut low, mut high } = b;
     while low < high {
         let below = (low + high) / 2;
         let middle = below + 1;
-        if at_most(middle, middle, w) {
+        if product(middle, middle) <= n {
             low = middle;
         } else {
             high = below;
@@ -92,18 +89,18 @@ fn halved(w: Wide, b: Bounds) -> u64
     low
 }
 
-// The root of what w stands for. The estimate is tried first, then the number above the lower bound and the upper bound itself: with a good estimate
-// nothing is left to halve.
-pub fn root(w: Wide, estimate: u64) -> u64
-    requires { (w.low < radix) × (wide_value w < factor_limit * factor_limit) }
-    ensures { (result ≡ root (wide_value w)) × (result < factor_limit) }
+// The root of n. The estimate is tried first, then the number above the lower bound and the upper bound itself: with a good estimate nothing is left to
+// halve.
+pub fn root(n: u128, estimate: u64) -> u64
+    requires { n < factor_limit * factor_limit }
+    ensures { (result ≡ root n) × (result < factor_limit) }
 {
     let all = Bounds {
         low: 0,
         high: GREATEST,
     };
-    let tried = probed(w, all, estimate);
-    let above = probed(w, tried, tried.low + 1);
-    let last = probed(w, above, above.high);
-    halved(w, last)
+    let tried = probed(n, all, estimate);
+    let above = probed(n, tried, tried.low + 1);
+    let last = probed(n, above, above.high);
+    halved(n, last)
 }

@@ -75,6 +75,11 @@ field-most limit {most} d e = below (field_bound d)
 pub at_most : (more : ℕ) {most first last : ℕ} {line : List ℕ} → most ≤ more → Digits most first last line → Digits more first last line
 at_most more h d = record { counted = d.counted; ordered = d.ordered; few = le_trans d.few h; holds = d.holds }
 
+-- and one of just as many as it has columns
+pub exactly : {most first last : ℕ} {line : List ℕ} → Digits most first last line → Digits (last + 1 - first) first last line
+exactly {most} {first} {last} d =
+    record { counted = d.counted; ordered = d.ordered; few = le_refl (last + 1 - first); holds = d.holds }
+
 pub at-most-signed : (more : ℕ) {most first last : ℕ} {line : List ℕ} → most ≤ more → Signed most first last line → Signed more first last line
 at-most-signed more h s = record { counted = s.counted; sign = s.sign; digits = at_most more h s.digits }
 

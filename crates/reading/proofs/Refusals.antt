@@ -1,7 +1,7 @@
 -- The rows of refusals (specs/Read.antt): what it takes for a row to be 0, and that the row of the values is that of Line's content.
 -- Assumes nothing.
 use mathlib.Core.Path.{◌≡◌, refl, sym, ap, ap₂, ◌∙◌}
-use mathlib.Core.Bool.{true, false, not}
+use mathlib.Core.Bool.{Bool, true, false, not}
 use mathlib.Core.List.{List}
 use Prim.Native.Nat.{ℕ, suc, ◌^◌, ◌<◌, zero-le}
 use native.Mathlib.Omega.{arith}
@@ -113,6 +113,14 @@ module _ (line : List ℕ) (e : Shared line) where
       ≡ values_number l (read_numbers line) line
   unfolding values_number
   values-row l = simp (content-is, then-assoc)
+
+  -- the same by the answers of the tests
+  pub values_are : {minus time : Bool} {content : ℕ} (l : Labels) (n : Numbers) → n ≡ read_numbers line → minus ≡ minus_zero_lem signed_fields line
+      → content ≡ content_number l n → time ≡ time_beyond_lem line → 13 when minus then content then 8 when time ≡ values_number l n line
+  values_are l n q m k t =
+      (λ i. 13 when m i then (k ∙ ap (content_number l) q) i then 8 when t i)
+      ∙ values-row l
+      ∙ ap (λ (x : Numbers). values_number l x line) (sym q)
 
 -- ---- the reply
 

@@ -5,77 +5,60 @@
 
 ghost use Rattle.std.specs.Prelude.{◌≡◌};
 ghost use Rattle.columns.specs.Columns.{read_numbers};
+ghost use Rattle.limits.specs.Numbers.{number_of};
 ghost use Rattle.reading.specs.Read.{values_number, read_rule};
-ghost use Rattle.reading.specs.Answers.{read_reply, ReadNumbered};
+ghost use Rattle.reading.specs.Answers.{read_reply};
 ghost use Rattle.reading.specs.Old.{old_number};
-ghost use Rattle.reading.specs.Fields.{Shared};
 
-use labels::{Labels, Numbers};
-use limits::{then, when};
+use labels::{Labels, Numbers, Supplied};
+use limits::Refusal;
+use values::Columns;
 
 mod values;
 
-// What the reader answers: what stands in the line, or the number of the refusal.
+// What stands in a line.
 #[derive(Clone, Copy)]
-pub enum Reading {
-    Line { labels: Labels, numbers: Numbers },
-    Refused(u32),
+pub struct Reading {
+    pub labels: Labels,
+    pub numbers: Numbers,
 }
 
 // What a line with these labels is refused for once its characters are those of its columns.
-fn values_refusal(line: &[u8], labels: Labels, numbers: Numbers) -> u32
-    requires shared { Shared line.now }
-    requires numbers_value { numbers ≡ read_numbers line.now }
-    ensures { result ≡ values_number labels numbers line.now }
+fn values_refusal(columns: Columns, labels: Labels, numbers: Numbers) -> Result<(), Refusal>
+    requires { numbers ≡ read_numbers columns.line.now }
+    ensures { number_of result ≡ values_number labels numbers columns.entry.line.now }
 {
-    let minus = when(13, values::minus_zero(line, numbers));
-    let label = labels::refusal(labels, numbers);
-    let time = when(8, values::time_beyond(line));
-    then(minus, then(label, time))
+    if columns.minus_zero(numbers) {
+        return Err(Refusal::Character);
+    }
+    labels::refusal(labels, numbers)?;
+    if columns.time_beyond() {
+        return Err(Refusal::Start);
+    }
+    Ok(())
 }
 
 // The labels and the numbers in the columns of a line.
-pub fn read(line: &[u8]) -> Reading
+pub fn read(line: &[u8]) -> Result<Reading, Refusal>
     ensures answer { read_reply result ≡ read_rule line.now }
-    ensures variant { ReadNumbered result }
 {
     // the whole line, taken anew: so the compiler hands over its address and length, and not the place where both were just stored
     let line = &line[0..];
-    let characters = characters::refusal(line);
-    if characters != 0 {
-        return Reading::Refused(characters);
-    }
-    let labels = values::labels(line);
-    let numbers = values::numbers(line);
-    let refusal = values_refusal(line, labels, numbers);
-    if refusal != 0 {
-        return Reading::Refused(refusal);
-    }
-    Reading::Line { labels, numbers }
+    characters::refusal(line)?;
+    let columns = Columns { line };
+    let labels = columns.labels();
+    let numbers = columns.numbers();
+    values_refusal(columns, labels, numbers)?;
+    Ok(Reading { labels, numbers })
 }
 
 // What an old line is refused for, with the HC and the FRC that are supplied.
-pub fn old_refusal(old: &[u8], hc: u8, frc1: u8, frc2: u8, frc3: u8) -> u32
-    ensures { result ≡ old_number hc frc1 frc2 frc3 old.now }
+pub fn old_refusal(old: &[u8], supplied: Supplied) -> Result<(), Refusal>
+    ensures { number_of result ≡ old_number supplied.hc supplied.frc1 supplied.frc2 supplied.frc3 old.now }
 {
-    let characters = characters::old_refusal(old);
-    if characters != 0 {
-        return characters;
-    }
-    let labels = values::labels_with(b'G', 0, hc, frc1, frc2, frc3, old);
-    let numbers = values::numbers(old);
-    values_refusal(old, labels, numbers)
-}
-
-// The number of a reading: that of the refusal, 0 where there is none.
-pub fn reading_number(reading: Reading) -> u32
-    ensures { result ≡ (read_reply reading).number }
-{
-    match reading {
-        Reading::Line {
-            labels: _,
-            numbers: _,
-        } => 0,
-        Reading::Refused(number) => number,
-    }
+    characters::old_refusal(old)?;
+    let columns = Columns { line: old };
+    let labels = columns.labels_with(b'G', 0, supplied);
+    let numbers = columns.numbers();
+    values_refusal(columns, labels, numbers)
 }

@@ -1,11 +1,12 @@
 // The start test of the track schedule: whether a second of a date is the start of one of its tracks.
-// It answers 0, 7 where the date is out of range, or 8 where the second is no start.
+// It refuses a date that is out of range with 7, and a second that is no start with 8.
 #![tactic(auto)]
 
 ghost use Rattle.std.specs.Prelude.{◌≡◌, ◌-◌, ◌≤◌};
 ghost use Rattle.schedule.specs.Schedule.{first_date, last_date, is_start_lem, start_number};
+ghost use Rattle.limits.specs.Numbers.{number_of};
 
-use limits::when;
+use limits::Refusal;
 
 const FIRST_DATE: u32 = 50722;
 
@@ -33,11 +34,15 @@ fn is_start(n: u32, second: u32) -> bool
         & (since_first / 16 < TRACKS)
 }
 
-pub fn start(mjd: u32, second: u32) -> u32
-    ensures { result ≡ start_number mjd second }
+// The start test.
+pub fn start(mjd: u32, second: u32) -> Result<(), Refusal>
+    ensures { number_of result ≡ start_number mjd second }
 {
     if (mjd < FIRST_DATE) | (LAST_DATE < mjd) {
-        return 7;
+        return Err(Refusal::Label);
     }
-    when(8, !is_start(mjd - FIRST_DATE, second))
+    if !is_start(mjd - FIRST_DATE, second) {
+        return Err(Refusal::Start);
+    }
+    Ok(())
 }

@@ -21,8 +21,7 @@ use Rattle.whole.specs.Order.{◌⩽◌}
 use Rattle.whole.proofs.Order.{pos-le, pos-le-is, zero-le-pos, mul-le, le_trans as ⩽-trans, le_of_eq as ⩽-of-eq}
 use Rattle.whole.proofs.Magnitudes.{nat_abs_mul, magnitude-le}
 use Rattle.whole.proofs.Rounding.{nearest-scale}
-use Rattle.whole.specs.Words.{Within}
-use Rattle.whole.proofs.Words.{Word, told, partial}
+use Rattle.whole.proofs.Words.{partial}
 use Rattle.whole.specs.Table.{at}
 use Rattle.exact.specs.Corrected.{steps}
 use Rattle.exact.specs.Weights.{place}
@@ -32,8 +31,8 @@ use Rattle.limits.specs.Refusal.{◌when◌, ◌then◌}
 use Rattle.limits.specs.Lists.{any_beyond_lem, range_number}
 use Rattle.series.specs.Fit.{total, moment, midpoint, slope, series_number, fit_rule, value_limit}
 use Rattle.limits.specs.Reply.{Reply}
-use Rattle.limits.proofs.Blocks.{blocks-within, within-blocks}
-use Rattle.limits.proofs.Lists.{within-limit, list-accepted, list-passes, any-take}
+use Rattle.limits.proofs.Blocks.{within-blocks}
+use Rattle.limits.proofs.Lists.{within-limit, list-passes, any-take}
 use Rattle.limits.proofs.Replies.{reply-accepted}
 
 -- two numbers that differ by at most m
@@ -80,45 +79,24 @@ module _ (l : List ℤ) (e : any_beyond_lem value_limit l ≡ false) (n : ℕ) (
           (le_trans (le_of_eq (nat_abs_mul (place n j) (at l j) ∙ mul_comm (nat_abs (place n j)) (nat_abs (at l j))))
           (mul-le-mul_right (nat_abs (place n j)) (within-limit value_limit l e j)))
 
--- a list that Fit and Scatter do not refuse has from 4 to 52 values, inside their limit
-pub values-inside : (l : List ℤ) → series_number l ≡ 0 → (4 ≤ length l) × (length l ≤ 52) × (any_beyond_lem value_limit l ≡ false)
-values-inside l e =
-    let a = list-accepted _ _ _ l e in
-    let b = blocks-within (length l) a.0 in
-    (b.0, b.1, a.1)
-
--- and one that they refuse is refused for its count first
+-- a list is refused for its count first
 pub values-miscounted : (l : List ℤ) → not (blocks_fit_lem (length l)) ≡ true → series_number l ≡ 1
 unfolding range_number ◌when◌ ◌then◌
 values-miscounted l e = rw e
 
-pub values-beyond : (l : List ℤ) → not (blocks_fit_lem (length l)) ≡ false → any_beyond_lem value_limit l ≡ true → series_number l ≡ 2
+pub values-counted : (l : List ℤ) → not (blocks_fit_lem (length l)) ≡ false → series_number l ≡ 2 when any_beyond_lem value_limit l
 unfolding range_number ◌when◌ ◌then◌
-values-beyond l e h = rw (e, h)
-
-pub values-pass : (l : List ℤ) → not (blocks_fit_lem (length l)) ≡ false → any_beyond_lem value_limit l ≡ false → series_number l ≡ 0
-values-pass l e h = list-passes _ _ _ l e h
+values-counted l e = rw e
 
 -- n² - 1 and n (n² - 1), for n from 2 to 52
 pub square-bound : (n : ℕ) → n ≤ 52 → n * n - 1 ≤ 2703
 square-bound n h = omega (arith, mul-le-mul h h)
-
-pub span-bound : (n : ℕ) → n ≤ 52 → n * (n * n - 1) ≤ 140556
-span-bound n h = mul-le-mul h (square-bound n h)
 
 pub span-some : (n : ℕ) → 2 ≤ n → 0 < n * (n * n - 1)
 span-some n h = one-le-mul one (omega (arith, mul-le-mul_left n h))
   where
     one : 1 ≤ n
     one = omega arith
-
--- two numbers that are said to be the two sums S and T, and to be within b and c, as words
-module _ {s t S T : ℤ} {b c : ℕ} (h : ((s ≡ S) × (t ≡ T)) × (Within b s × Within c t)) where
-  abbrev pub total-word : Word s
-  total-word = told h.0.0 h.1.0
-
-  abbrev pub moment-word : Word t
-  moment-word = told h.0.1 h.1.1
 
 -- the divisors in tenths (document 02, Job 8)
 pub midpoint-tenths : (n : ℕ) (v : ℕ → ℤ) → midpoint steps n v ≡ nearest (total n v) (1000 * n)

@@ -1,6 +1,7 @@
 pub mod Weights
-pub mod Replies
 pub mod Fitting
+pub mod Bounds
 pub mod Residuals
 pub mod Thresholds
 pub mod Running
+pub mod Replies

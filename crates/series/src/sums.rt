@@ -1,25 +1,31 @@
-// Lists of values: the refusals that they share, the weighted sum of a block, the sums of a fit, the squared residuals, and DSG.
-ghost use Rattle.std.specs.Prelude.{◌≡◌, false, min, ◌*◌, ◌-◌, ◌<◌, ◌≤◌, pos, nat_abs, ◌-ℤ◌, ◌*ℤ◌, length};
+// Lists of values: the weighted sum of a block, and the values of a track with their line, their residuals and DSG.
+ghost use Rattle.std.specs.Prelude.{◌≡◌, false, ◌*◌, ◌-◌, ◌^◌, ◌<◌, ◌≤◌, pos, nat_abs, ◌*ℤ◌, length, IfOk, MatchResult};
 ghost use Rattle.whole.specs.Sum.{sum};
 ghost use Rattle.whole.specs.Nearest.{nearest};
 ghost use Rattle.whole.specs.Words.{Within};
 ghost use Rattle.whole.specs.Table.{at};
 ghost use Rattle.exact.specs.Corrected.{steps};
 ghost use Rattle.exact.specs.Weights.{weights, place};
+ghost use Rattle.limits.specs.Refusal.{◌when◌};
+ghost use Rattle.limits.specs.Numbers.{paper_number, number_of};
 ghost use Rattle.limits.specs.Limits.{measurement_limit};
-ghost use Rattle.limits.specs.Lists.{any_beyond_lem, range_number};
-ghost use Rattle.series.specs.Fit.{total, moment, value_limit};
-ghost use Rattle.series.specs.Scatter.{squares, threshold, dsg, squares_cap};
+ghost use Rattle.limits.specs.Lists.{any_beyond_lem};
+ghost use Rattle.series.specs.Fit.{total, moment, midpoint, slope, value_limit, series_number};
+ghost use Rattle.series.specs.Scatter.{residual, squares, threshold, dsg, squares_cap};
 
-use super::number::{UNIT, nearest_by_span};
+use super::number::{PS, UNIT, nearest};
 use super::{VALUE_LEAST, VALUE_LIMIT};
-use limits::{any_outside, outside, then, when};
-use whole::magnitude;
+use limits::{Refusal, blocks_fit, outside};
 
 // The weights of the parabola's value at the middle of fifteen measurements, over 1105.
 const WEIGHTS: [i64; 15] = [
     -78, -13, 42, 87, 122, 147, 162, 167, 162, 147, 122, 87, 42, -13, -78,
 ];
+
+// What the sum of a full track's 52 values is divided by, and the n (n² - 1) of them: a quotient by a constant costs less.
+const FULL_UNIT: u32 = 52 * UNIT;
+
+const FULL_SPAN: u32 = 140556;
 
 // The unit of DSG in steps, and half of it.
 const WHOLE: u64 = UNIT as u64;
@@ -30,155 +36,166 @@ const HALF: u64 = WHOLE / 2;
 const ROOT: u64 = 10000 * WHOLE - HALF;
 
 // A sum of n squares from n times this up has a DSG above 9999 (`squares_cap`).
-pub const CAP: u64 = ROOT * ROOT;
+const CAP: u64 = ROOT * ROOT;
 
-// 1 where their count is wrong, 2 where one of the values is outside low to high, else 0.
-pub fn list_refusal(values: &[i64], wrong: bool, low: i64, high: i64) -> u32
-    ensures { result ≡ range_number wrong low high values.now }
-{
-    then(when(1, wrong), when(2, any_outside(values, low, high)))
-}
+// The square of a residual above this many tenths is more than that for every n.
+const FAR: u64 = 100_000_000;
 
 // The sum of fifteen measurements, each times its weight.
-pub fn weighted(measurements: &[i64]) -> i64
-    requires { (length measurements.now ≡ 15) × (any_beyond_lem measurement_limit measurements.now ≡ false) }
+pub fn weighted(measurements: &[i64; 15]) -> i64
+    requires { any_beyond_lem measurement_limit measurements.now ≡ false }
     ensures { result ≡ sum 15 (λ i. at weights i *ℤ at measurements.now i) }
 {
-    let weights = WEIGHTS;
     let mut sum: i64 = 0;
-    let mut i = 0;
-    while i < 15 {
-        sum += weights[i] * measurements[i];
-        i += 1;
+    for (weight, measurement) in WEIGHTS.iter().zip(measurements) {
+        sum += weight * measurement;
     }
     sum
 }
 
-// Whether a value is outside its limit; else S and T of document 01: the sum of the values, and that of each times its place.
+// 4 to 52 values in tenths, none beyond its limit, with S and T of document 01: their sum, and the sum of each times its place.
 #[derive(Clone, Copy)]
-pub struct Moments {
-    pub outside: bool,
-    pub total: i64,
-    pub moment: i64,
+pub struct Series<'a> {
+    values: &'a [i64],
+    s: i64,
+    t: i64,
+    ghost count: { (4 ≤ length values.now) × (length values.now ≤ 52) },
+    ghost inside: { any_beyond_lem value_limit values.now ≡ false },
+    ghost sums: { (s ≡ total (length values.now) (at values.now)) × (t ≡ moment (length values.now) (at values.now)) },
 }
 
-// 2j - (n - 1): how far value j of n lies from their mean date, in half blocks.
-pub fn place(n: usize, j: usize) -> i64
-    requires { (n ≤ 52) × (j < n) }
-    ensures { result ≡ place n j }
-{
-    2 * (j as i64) - (n - 1) as i64
-}
-
-// S and T of n values, 1 to 52 of them, up to the first that is beyond its limit. T comes from the sums on the way, without a product for each
-// value. It is within 1352 limits: the places of 52 values come to 52² / 2 in magnitude.
-fn sums_of(values: &[i64], n: usize) -> Moments
-    requires { (n ≡ length values.now) × (1 ≤ n) × (n ≤ 52) }
-    ensures outside_value { result.outside ≡ any_beyond_lem value_limit values.now }
-    ensures total_value { result.outside ≡ false → ((result.total ≡ total (length values.now) (at values.now))
-        × (result.moment ≡ moment (length values.now) (at values.now)))
-        × (Within (52 * value_limit) result.total × Within (1352 * value_limit) result.moment) }
-{
-    let mut total: i64 = 0;
-    let mut totals: i64 = 0;
-    let mut j = 0;
-    while j < n {
-        let value = values[j];
-        if outside(VALUE_LEAST, VALUE_LIMIT, value) {
-            return Moments {
-                outside: true,
-                total: 0,
-                moment: 0,
-            };
+impl<'a> Series<'a> {
+    // Of a list that Fit and Scatter don't refuse.
+    pub fn of(values: &'a [i64]) -> Result<Series<'a>, Refusal>
+        ensures number { number_of result ≡ series_number values.now }
+        ensures values { IfOk result (λ series. series.values.now ≡ values.now) }
+    {
+        if !blocks_fit(values.len()) {
+            return Err(Refusal::Count);
         }
-        let earlier = total;
-        total += value;
-        totals += earlier;
-        j += 1;
-    }
-    let moment = (n - 1) as i64 * total - 2 * totals;
-    Moments {
-        outside: false,
-        total,
-        moment,
-    }
-}
-
-// The same, with a loop of its own for a full track, whose length the compiler knows.
-pub fn sums(values: &[i64]) -> Moments
-    requires { (1 ≤ length values.now) × (length values.now ≤ 52) }
-    ensures outside_value { result.outside ≡ any_beyond_lem value_limit values.now }
-    ensures total_value { result.outside ≡ false → ((result.total ≡ total (length values.now) (at values.now))
-        × (result.moment ≡ moment (length values.now) (at values.now)))
-        × (Within (52 * value_limit) result.total × Within (1352 * value_limit) result.moment) }
-{
-    let n = values.len();
-    if n == 52 {
-        return sums_of(values, 52);
-    }
-    sums_of(values, n)
-}
-
-// The residual of one of n values, at a place, by the two sums of its list. The value is taken out of the fraction: with it the
-// numerator could be above 2^63.
-fn residual(n: usize, value: i64, place: i64, total: i64, moment: i64) -> i64
-    requires le_n { (2 ≤ n) × (n ≤ 52) }
-    requires within { Within value_limit value × Within 52 place
-        × Within (52 * value_limit) total × Within (1352 * value_limit) moment }
-    ensures { result ≡ nearest (pos (n * (n * n - 1)) *ℤ value -ℤ pos (n * n - 1) *ℤ total
-        -ℤ pos 3 *ℤ (place *ℤ moment)) (n * (n * n - 1)) }
-{
-    let m = n * n - 1;
-    value + nearest_by_span(0 - m as i64 * total - 3 * (place * moment), 1, n)
-}
-
-// The sum of the squared residuals of n values whose sums are s and t, or n times CAP where it is more: a square may not fit
-// 64 bits. The square of a residual above 10^8 tenths is more for every n.
-pub fn squares(values: &[i64], s: i64, t: i64) -> u64
-    requires in_bounds { (2 ≤ length values.now) × (length values.now ≤ 52) × (any_beyond_lem value_limit values.now ≡ false) }
-    requires s_value { (s ≡ total (length values.now) (at values.now))
-        × (t ≡ moment (length values.now) (at values.now)) }
-    ensures { result ≡ min (squares_cap * length values.now)
-        (nat_abs (squares (length values.now) (at values.now))) }
-{
-    let n = values.len();
-    let cap = CAP * n as u64;
-    let mut q: u64 = 0;
-    let mut j = 0;
-    while j < n {
-        let r = magnitude(residual(n, values[j], place(n, j), s, t));
-        if 100_000_000 < r {
-            return cap;
-        }
-        q += r * r;
-        j += 1;
-    }
-    if cap < q { cap } else { q }
-}
-
-// The least sum of n squares that a DSG of d has.
-fn threshold(n: usize, d: u64) -> u64
-    requires { (n ≤ 52) × (0 < d) × (d ≤ 10000) }
-    ensures { pos result ≡ threshold steps n d }
-{
-    let e = WHOLE * d - HALF;
-    n as u64 * (e * e)
-}
-
-// DSG of a sum of n squares below n times CAP, by halving between 0 and 10000.
-pub fn dsg(n: usize, q: u64) -> u64
-    requires { (0 < n) × (n ≤ 52) × (q < squares_cap * n) }
-    ensures { result ≡ dsg steps n (pos q) }
-{
-    let mut low: u64 = 0;
-    let mut high: u64 = 10000;
-    while low + 1 < high {
-        let middle = (low + high) / 2;
-        if threshold(n, middle) <= q {
-            low = middle;
-        } else {
-            high = middle;
+        // Kept: a full track has a call of its own, for speed: the compiler knows its length then (docs/DECISIONS.md, 59).
+        match values.as_array::<52>() {
+            Some(full) => Self::summed(full),
+            None => Self::summed(values),
         }
     }
-    low
+
+    // Of as many values as are allowed, up to the first that is beyond its limit. T comes from the sums on the way, without a product for each value.
+    fn summed(values: &'a [i64]) -> Result<Series<'a>, Refusal>
+        requires { (4 ≤ length values.now) × (length values.now ≤ 52) }
+        ensures number { number_of result ≡ 2 when any_beyond_lem value_limit values.now }
+        ensures values { IfOk result (λ series. series.values.now ≡ values.now) }
+    {
+        let mut s: i64 = 0;
+        let mut sums: i64 = 0;
+        for &value in values {
+            if outside(VALUE_LEAST, VALUE_LIMIT, value) {
+                return Err(Refusal::Limit);
+            }
+            sums += s;
+            s += value;
+        }
+        let t = (values.len() - 1) as i64 * s - 2 * sums;
+        Ok(Series { values, s, t })
+    }
+
+    // The midpoint in 0.1 ns.
+    // Kept: a branch for a full track here and in over_span, for speed: a quotient by a constant costs less.
+    pub fn midpoint(&self) -> i64
+        ensures { result ≡ midpoint steps (length self.now.values.now) (at self.now.values.now) }
+    {
+        let n = self.values.len();
+        if n == 52 {
+            return nearest(self.s, FULL_UNIT);
+        }
+        nearest(self.s, UNIT * n as u32)
+    }
+
+    // The slope in 0.1 ps/s.
+    pub fn slope(&self) -> i64
+        ensures { result ≡ slope steps (length self.now.values.now) (at self.now.values.now) }
+    {
+        self.over_span(4 * self.t, PS)
+    }
+
+    // The nearest whole number to numerator / (s n (n² - 1)), for values in steps of which a picosecond has s.
+    fn over_span(&self, numerator: i64, s: u32) -> i64
+        requires { Within (2 ^ 63 - 2 ^ 31) numerator × (0 < s) × (s ≤ steps) }
+        ensures { result ≡ nearest numerator (s * (length self.now.values.now * (length self.now.values.now * length self.now.values.now - 1))) }
+    {
+        let n = self.values.len();
+        if n == 52 {
+            return nearest(numerator, s * FULL_SPAN);
+        }
+        nearest(numerator, s * (n * (n * n - 1)) as u32)
+    }
+
+    // 2j - (n - 1): how far value j of n lies from their mean date, in half blocks.
+    fn place(&self, j: usize) -> i64
+        requires { j < length self.now.values.now }
+        ensures { result ≡ place (length self.now.values.now) j }
+    {
+        2 * (j as i64) - (self.values.len() - 1) as i64
+    }
+
+    // The residual of value j. The value is taken out of the fraction: with it the numerator could be above 2^63.
+    fn residual(&self, j: usize) -> i64
+        requires { j < length self.now.values.now }
+        ensures { result ≡ residual (length self.now.values.now) (at self.now.values.now) j }
+    {
+        let n = self.values.len();
+        let m = n * n - 1;
+        let slant = 3 * (self.place(j) * self.t);
+        self.values[j] + self.over_span(0 - m as i64 * self.s - slant, 1)
+    }
+
+    // The sum of the squared residuals, refused from n times CAP up: a square may not fit 64 bits.
+    pub fn squares(&self) -> Result<u64, Refusal>
+        ensures { MatchResult result
+            (λ q. (pos q ≡ squares (length self.now.values.now) (at self.now.values.now)) × (q < squares_cap * length self.now.values.now))
+            (λ refusal. (paper_number refusal ≡ 6)
+            × (squares_cap * length self.now.values.now ≤ nat_abs (squares (length self.now.values.now) (at self.now.values.now)))) }
+    {
+        let n = self.values.len();
+        let mut q: u64 = 0;
+        for j in 0..n {
+            let r = self.residual(j).unsigned_abs();
+            if FAR < r {
+                return Err(Refusal::Scatter);
+            }
+            q += r * r;
+        }
+        if CAP * n as u64 <= q {
+            return Err(Refusal::Scatter);
+        }
+        Ok(q)
+    }
+
+    // The least sum of squares that a DSG of d has.
+    fn threshold(&self, d: u64) -> u64
+        requires { (0 < d) × (d ≤ 10000) }
+        ensures { pos result ≡ threshold steps (length self.now.values.now) d }
+    {
+        let e = WHOLE * d - HALF;
+        self.values.len() as u64 * (e * e)
+    }
+
+    // DSG of a sum of squares below n times CAP, by halving between 0 and 10000.
+    // Kept: a loop, as the library searches by halving in slices, and not over numbers with a test.
+    pub fn dsg(&self, q: u64) -> u64
+        requires { q < squares_cap * length self.now.values.now }
+        ensures { result ≡ dsg steps (length self.now.values.now) (pos q) }
+    {
+        let mut low: u64 = 0;
+        let mut high: u64 = 10000;
+        while low + 1 < high {
+            let middle = (low + high) / 2;
+            if self.threshold(middle) <= q {
+                low = middle;
+            } else {
+                high = middle;
+            }
+        }
+        low
+    }
 }

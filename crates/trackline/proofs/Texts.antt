@@ -1,45 +1,17 @@
--- Laws of texts at the front of a buffer (specs/Buffer.antt), and how long what is printed can be.
+-- What is printed of a refusal and of a line, and how long it can be.
 -- Assumes nothing.
-use Rattle.std.proofs.Common.{◌≡◌, ℕ, ◌+◌, ◌/◌, ◌%◌, ◌≤◌, ◌<◌, List, [], ◌∷◌, ◌++◌, refl, sym, ap, ◌∙◌, subst, append_assoc, append-nil, length, take, drop, length-append, length-drop, drop_of_length-le, arith}
+use Rattle.std.proofs.Common.{◌≡◌, ℕ, ◌+◌, ◌/◌, ◌%◌, ◌≤◌, ◌<◌, List, [], ◌∷◌, ◌++◌, refl, sym, ap, ◌∙◌, subst, append_assoc, append-nil, length, drop, drop_of_length-le, arith}
 use native.Mathlib.Nat.{le_of_eq}
-use lib.Seq.{take_at, take-length}
 use native.Mathlib.Decide.{dec_lt, ℕ_discrete}
 use lib.Dec.{lit≤}
 use borrow.Author.Tests.{lt-ltb, le-ltb, eq-eqb, ne_eqb}
 use Rattle.limits.proofs.Laws.{after-accepted}
 use Rattle.fields.specs.Text.{decimal}
-use Rattle.columns.specs.Text.{line_length, line_end, ended_length}
+use Rattle.columns.specs.Text.{line_length}
 use Rattle.hire.specs.Hire.{block_labels}
 use Rattle.line.specs.Block.{block_numbers, block_line, block_answer, block_after, block_number}
 use Rattle.columns.proofs.Widths.{line-width}
 use Rattle.trackline.specs.Printed.{refusal_text, answer, printed}
-use Rattle.trackline.specs.Buffer.{Text, Pushed}
-
--- ---- texts
-
--- a text copied to the front
-pub copied : (text out after : List ℕ) (n : ℕ) → n ≡ length text → length text ≤ ended_length → length out ≡ ended_length
-    → after ≡ take (length text) text ++ drop (length text) out → Text after n text
-copied text out after n e h l a =
-    let is : after ≡ text ++ drop (length text) out = a ∙ ap (λ (x : List ℕ). x ++ drop (length text) out) (take-length text) in
-    record {
-      is = ap (take n) is ∙ take_at text (drop (length text) out) n (sym e);
-      ends = e;
-      long = ap length is ∙ simp (length-append, length-drop) (omega arith);
-    }
-
--- one byte more
-pub pushed : {before after text : List ℕ} {at byte next : ℕ} → Text before at text → Pushed before after at byte next
-    → Text after next (text ++ byte ∷ [])
-pushed {text = text} {byte = byte} t p =
-    record {
-      is = p.is ∙ ap (λ (x : List ℕ). x ++ byte ∷ []) t.is;
-      ends = p.next-is ∙ simp (length-append) (omega (arith, t.ends));
-      long = p.long ∙ t.long;
-    }
-
-pub retext : {out text text' : List ℕ} {end : ℕ} → Text out end text → text ≡ text' → Text out end text'
-retext {out} {end = end} t e = subst (λ (x : List ℕ). Text out end x) e t
 
 -- ---- the refusal
 
@@ -90,14 +62,6 @@ answer-length b = go (ℕ_discrete (block_number b) 0)
     go (no h) =
         omega (arith, ap length (refused-answer b (block_number b) refl h), refusal-length (block_number b))
 
--- there is room for what is printed
-pub room : (b : List ℕ) {out : List ℕ} {end : ℕ} → Text out end (answer b) → end ≤ line_length
-room b t = omega (arith, t.ends, answer-length b)
-
 pub printed-is : (b : List ℕ) → (answer b ++ 13 ∷ []) ++ 10 ∷ [] ≡ printed b
 unfolding printed
 printed-is b = append_assoc (answer b) (13 ∷ []) (10 ∷ [])
-
-pub printed-room : (b : List ℕ) {out : List ℕ} {end : ℕ} → Text out end (printed b) → end ≤ length out
-unfolding printed
-printed-room b t = omega (arith, t.ends, t.long, answer-length b, length-append (answer b) line_end)

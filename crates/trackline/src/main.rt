@@ -3,18 +3,25 @@
 // standard input, and that the output arrives, is not: a read that fails counts as the end, and a write that fails goes unnoticed.
 #![tactic(auto)]
 
-ghost use Rattle.std.specs.Prelude.{◌≡◌, ◌≤◌, ◌<◌, length};
+ghost use Rattle.std.specs.Prelude.{◌≡◌, ◌+◌, ◌≤◌, ◌++◌, length};
+ghost use Rattle.arrayvec.specs.ArrayVec.{array_vec_len};
+ghost use Rattle.limits.specs.Numbers.{paper_number};
 ghost use Rattle.columns.specs.Text.{ended_length};
-ghost use Rattle.trackline.specs.Printed.{refusal_text, answer, printed};
-ghost use Rattle.trackline.specs.Buffer.{Text, Pushed};
+ghost use Rattle.trackline.specs.Printed.{refusal_text, printed};
 
+use arrayvec::ArrayVec;
 use columns::{ENDED_LENGTH, LINE_LENGTH};
+use limits::Refusal;
 use std::io::{Read, Stdin};
+
+// What is printed: a line with its end at most.
+type Output = ArrayVec<u8, ENDED_LENGTH>;
 
 // One byte more than the longest block has, so that a longer input is noticed.
 const INPUT: usize = 8379;
 
 // Reads until the buffer is full, the input ends or a read fails, and gives how many bytes stand at the buffer's front.
+// Kept: a loop, as a read may give less than is asked for, and read_to_end wants memory without a bound.
 fn read_full(from: &mut Stdin, buffer: &mut [u8]) -> usize
     ensures { result ≤ length buffer.new }
 {
@@ -28,65 +35,43 @@ fn read_full(from: &mut Stdin, buffer: &mut [u8]) -> usize
     done
 }
 
-// Puts a text at the front and gives the place after it.
-fn copy(text: &[u8], out: &mut [u8]) -> usize
-    requires fits { length text.now ≤ ended_length }
-    requires room { length out.old ≡ ended_length }
-    ensures { Text out.new result text.now }
+// Puts a text behind what stands.
+fn put(text: &[u8], out: &mut Output)
+    requires { array_vec_len out.old + length text.now ≤ ended_length }
+    ensures { out.new.items ≡ out.old.items ++ text.now }
 {
-    out[..text.len()].copy_from_slice(text);
-    text.len()
-}
-
-// Puts one more byte and gives the place after it.
-fn push(out: &mut [u8], at: usize, byte: u8) -> usize
-    requires { at < length out.old }
-    ensures { Pushed out.old out.new at byte result }
-{
-    out[at] = byte;
-    at + 1
+    out.try_extend_from_slice(text).unwrap();
 }
 
 // `refused`, a space and the number, which has one or two digits.
-fn put_refusal(out: &mut [u8], number: u32) -> usize
-    requires { length out.old ≡ ended_length }
-    ensures { Text out.new result (refusal_text number) }
+fn put_refusal(refusal: Refusal, out: &mut Output)
+    requires { array_vec_len out.old + 10 ≤ ended_length }
+    ensures { out.new.items ≡ out.old.items ++ refusal_text (paper_number refusal) }
 {
-    let at = copy(b"refused ", out);
-    if number < 10 {
-        return push(out, at, 48 + (number % 10) as u8);
+    let number = u32::from(refusal);
+    put(b"refused ", out);
+    if 10 <= number {
+        out.push(b'0' + (number / 10 % 10) as u8);
     }
-    let next = push(out, at, 48 + (number / 10 % 10) as u8);
-    push(out, next, 48 + (number % 10) as u8)
+    out.push(b'0' + (number % 10) as u8);
 }
 
-// The line of the block, or its refusal.
-fn put_answer(block: &[u8], out: &mut [u8]) -> usize
-    requires { length out.old ≡ ended_length }
-    ensures { Text out.new result (answer block.now) }
+// All that is printed: the line of the block, or its refusal, with a line end.
+fn reply(block: &[u8]) -> Output
+    ensures { result.items ≡ printed block.now }
 {
     let mut line = [0u8; LINE_LENGTH];
-    let number = line::block(block, &mut line);
-    if number != 0 {
-        return put_refusal(out, number);
+    let mut out = Output::new();
+    match line::block(block, &mut line) {
+        Ok(()) => put(&line, &mut out),
+        Err(refusal) => put_refusal(refusal, &mut out),
     }
-    copy(&line, out)
-}
-
-// All that is printed.
-fn put_reply(block: &[u8], out: &mut [u8]) -> usize
-    requires { length out.old ≡ ended_length }
-    ensures { Text out.new result (printed block.now) }
-{
-    let at = put_answer(block, out);
-    let next = push(out, at, b'\r');
-    push(out, next, b'\n')
+    put(b"\r\n", &mut out);
+    out
 }
 
 fn main(rt: HostRuntime) {
     let mut input = [0u8; INPUT];
     let n = read_full(&mut rt.stdin(), &mut input);
-    let mut out = [0u8; ENDED_LENGTH];
-    let end = put_reply(&input[..n], &mut out);
-    let _ = rt.write_all(&out[..end]);
+    let _ = rt.write_all(reply(&input[..n]).as_slice());
 }

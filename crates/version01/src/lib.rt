@@ -4,12 +4,13 @@
 #![tactic(auto)]
 
 ghost use Rattle.std.specs.Prelude.{◌≡◌, ◌++◌, ◌+◌, ◌≤◌, length, drop};
+ghost use Rattle.limits.specs.Numbers.{number_of};
 ghost use Rattle.version01.specs.Convert.{form_text, down_answer, down_after, up_answer, up_after, old_length};
 
 use columns::LINE_LENGTH;
+use labels::Supplied;
 use lent::put;
-use limits::{then, when};
-use reading::Reading;
+use limits::Refusal;
 
 const OLD_LENGTH: usize = 103;
 
@@ -33,35 +34,38 @@ fn write(first: u8, line: &[u8], behind: &[u8], lent: &mut [u8])
 }
 
 // A line of ours down to the old form, in the first 103 bytes of the lent line.
-pub fn down(line: &[u8], old: &mut [u8]) -> u32
-    ensures answer { result ≡ down_answer line.now (length old.old) }
+pub fn down(line: &[u8], old: &mut [u8]) -> Result<(), Refusal>
+    ensures answer { number_of result ≡ down_answer line.now (length old.old) }
     ensures written { old.new ≡ down_after line.now old.old }
 {
-    let reading = reading::read(line);
-    let Reading::Line { labels, numbers: _ } = reading else {
-        return reading::reading_number(reading);
-    };
-    let letter = when(25, labels.constellation != b'G');
-    let room = when(9, old.len() < OLD_LENGTH);
-    let number = then(letter, room);
-    if number == 0 {
-        write(b' ', line, &line[SHARED..SHARED], old);
+    let reading = reading::read(line)?;
+    if reading.labels.constellation != b'G' {
+        return Err(Refusal::NotGps);
     }
-    number
+    if old.len() < OLD_LENGTH {
+        return Err(Refusal::Lent);
+    }
+    write(b' ', line, &[], old);
+    Ok(())
 }
 
 // An old line up to our form, in the first 113 bytes of the lent line.
-pub fn up(old: &[u8], hc: u8, frc1: u8, frc2: u8, frc3: u8, line: &mut [u8]) -> u32
-    ensures answer { result ≡ up_answer hc frc1 frc2 frc3 old.now (length line.old) }
-    ensures written { line.new ≡ up_after hc frc1 frc2 frc3 old.now line.old }
+pub fn up(old: &[u8], supplied: Supplied, line: &mut [u8]) -> Result<(), Refusal>
+    ensures answer { number_of result ≡ up_answer supplied.hc supplied.frc1 supplied.frc2 supplied.frc3 old.now (length line.old) }
+    ensures written { line.new ≡ up_after supplied.hc supplied.frc1 supplied.frc2 supplied.frc3 old.now line.old }
 {
-    let refusal = reading::old_refusal(old, hc, frc1, frc2, frc3);
-    let room = when(9, line.len() < LINE_LENGTH);
-    let answer = then(refusal, room);
-    if answer == 0 {
-        let mut behind = [b'0', b'0', b' ', b'0', b'0', b' ', frc1, frc2, frc3, b' '];
-        fields::decimal(hc as u64, &mut behind[3..5]);
-        write(b'G', old, &behind, line);
+    reading::old_refusal(old, supplied)?;
+    if line.len() < LINE_LENGTH {
+        return Err(Refusal::Lent);
     }
-    answer
+    let Supplied {
+        hc,
+        frc1,
+        frc2,
+        frc3,
+    } = supplied;
+    let mut behind = [b'0', b'0', b' ', b'0', b'0', b' ', frc1, frc2, frc3, b' '];
+    fields::decimal(hc as u64, &mut behind[3..5]);
+    write(b'G', old, &behind, line);
+    Ok(())
 }

@@ -1,26 +1,26 @@
 -- How a report grows, one difference after the other (specs/View.antt, specs/Gather.antt).
 -- Assumes nothing.
-use mathlib.Core.Path.{◌≡◌, refl, sym, ap, ap₂, subst, ◌∙◌}
-use mathlib.Core.Bool.{Bool, true, false, cond, ◌&&◌, ◌||◌}
+use mathlib.Core.Path.{◌≡◌, refl, sym, ap, subst, ◌∙◌}
+use mathlib.Core.Bool.{Bool, true, false, cond, ◌||◌}
 use mathlib.Core.List.{List, [], ◌∷◌, ◌++◌, append_assoc, append-nil}
 use Prim.Native.Nat.{ℕ, suc, ◌+◌, ◌≤◌}
 use native.Mathlib.Omega.{arith}
-use lib.Dec.{ltb, eqb}
+use lib.Dec.{eqb}
 use lib.IntN.{ℤ, pos, neg_ℤ, nat_abs, ◌+ℤ◌, ◌-ℤ◌, +ℤ_idl, +ℤ_idr, +ℤ_assoc, pos-+ℤ-pos}
 use lib.Signed.{lt_z}
-use lib.ListN.{length, drop, get_or, length-append}
+use lib.ListN.{length, length-append}
 use mir.Syntax.{w64}
 use mir.Val.{SFits}
 use borrow.Author.Tests.{le-ltb}
 use Rattle.whole.proofs.Magnitudes.{nat_abs-add, nat_abs-neg}
 use Rattle.viewing.specs.declared.Figures.{Figures}
-use Rattle.linefile.specs.declared.Next.{Next}
-use Rattle.linefile.specs.Partners.{partners}
+use Rattle.linefile.specs.declared.step.Step.{Step}
+use Rattle.linefile.specs.Walk.{step_map, pairs_in}
 use Rattle.viewing.specs.View.{trkl_of, refsys_of, same_trkl, differences, sum_of, smaller, larger, chosen, extreme, figures}
 use Rattle.viewing.specs.Gather.{counted, widest, Bounded}
-use Rattle.linefile.proofs.Ascending.{Accepted}
+use Rattle.linefile.proofs.Ascending.{All}
 use Rattle.viewing.proofs.Values.{refsys-bound}
-use Rattle.linefile.proofs.Steps.{Stepped, end-pairs}
+use Rattle.linefile.proofs.Steps.{BothAccepted}
 
 -- ---- one difference more
 
@@ -98,68 +98,103 @@ pub record Gathered (all left : List ℤ) (f : Figures) : Type 0 where
   pub seen : List ℤ
   pub whole : seen ++ left ≡ all
   pub is : f ≡ figures seen
+  pub bounded : Bounded (length seen) f
 
 pub nothing-gathered : (all : List ℤ) → Gathered all all (record { pairs = pos 0; sum = pos 0; smallest = pos 0; largest = pos 0 })
 unfolding figures sum_of extreme
-nothing-gathered all = record { seen = []; whole = refl; is = refl }
+nothing-gathered all = record { seen = []; whole = refl; is = refl; bounded = nothing-bounded }
 
 pub all-gathered : {all left : List ℤ} {f : Figures} → left ≡ [] → Gathered all left f → f ≡ figures all
 all-gathered e g = g.is ∙ ap figures (sym (append-nil g.seen) ∙ ap (λ (l : List ℤ). g.seen ++ l) (sym e) ∙ g.whole)
 
+-- what was seen is at most as much as there is
+pub seen-bounded : (most : ℕ) {all left : List ℤ} {f : Figures} → length all ≤ most → Gathered all left f → Bounded most f
+seen-bounded most {left = left} h g =
+    more-bounded (length g.seen) most (omega (arith, ap length g.whole, length-append g.seen left)) g.bounded
+
 -- a difference is counted where a test says so
 more-gathered : (b : Bool) (d : ℤ) {all left next : List ℤ} {f g : Figures} → left ≡ cond b (d ∷ []) [] ++ next → g ≡ cond b (counted f d) f
-    → Gathered all left f → Gathered all next g
-more-gathered true d {next = next} e h t =
+    → nat_abs d ≤ widest → Gathered all left f → Gathered all next g
+more-gathered true d {next = next} {f} {g} e h w t =
     record {
       seen = t.seen ++ d ∷ [];
       whole = append_assoc t.seen (d ∷ []) next ∙ ap (λ (l : List ℤ). t.seen ++ l) (sym e) ∙ t.whole;
       is = h ∙ ap (λ (x : Figures). counted x d) t.is ∙ counted-figures t.seen d;
+      bounded =
+          subst (λ (n : ℕ). Bounded n g) (sym (length-append t.seen (d ∷ [])))
+          (subst (Bounded (length t.seen + 1)) (sym h) (counted-bounded (length t.seen) f d t.bounded w));
     }
-more-gathered false d e h t =
-    record { seen = t.seen; whole = ap (λ (l : List ℤ). t.seen ++ l) (sym e) ∙ t.whole; is = h ∙ t.is }
+more-gathered false d {g = g} e h w t =
+    record {
+      seen = t.seen;
+      whole = ap (λ (l : List ℤ). t.seen ++ l) (sym e) ∙ t.whole;
+      is = h ∙ t.is;
+      bounded = subst (Bounded (length t.seen)) (sym h) t.bounded;
+    }
 
-taken-bounded : (b : Bool) (most : ℕ) (d : ℤ) {f g : Figures} → g ≡ cond b (counted f d) f → nat_abs d ≤ widest → Bounded most f → Bounded (most + 1) g
-taken-bounded true most d {f} e h t = subst (Bounded (most + 1)) (sym e) (counted-bounded most f d t h)
-taken-bounded false most d e h t = subst (Bounded (most + 1)) (sym e) (more-bounded most (most + 1) (omega arith) t)
+-- the differences of some pairs
+abbrev pub viewed_in : List (List ℕ × List ℕ) → List ℤ
+viewed_in ps = differences (same_trkl ps)
 
-differences-more : (level : Bool) (x y : List ℕ) (rest : List (List ℕ × List ℕ))
-    → differences (same_trkl (cond level ((x, y) ∷ []) [] ++ rest))
-    ≡ cond (level && eqb (trkl_of x) (trkl_of y)) ((refsys_of x -ℤ refsys_of y) ∷ []) [] ++ differences (same_trkl rest)
+differences-more : (x y : List ℕ) (rest : List (List ℕ × List ℕ))
+    → viewed_in ((x, y) ∷ rest) ≡ cond (eqb (trkl_of x) (trkl_of y)) ((refsys_of x -ℤ refsys_of y) ∷ []) [] ++ viewed_in rest
 unfolding same_trkl differences
-differences-more false x y rest = refl
-differences-more true x y rest = by-test (eqb (trkl_of x) (trkl_of y))
+differences-more x y rest = by-test (eqb (trkl_of x) (trkl_of y))
   where
     by-test : (b : Bool)
         → differences (cond b ((x, y) ∷ []) [] ++ same_trkl rest) ≡ cond b ((refsys_of x -ℤ refsys_of y) ∷ []) [] ++ differences (same_trkl rest)
     by-test true = refl
     by-test false = refl
 
--- the differences that are left from line m of the first list and line n of the second on
-abbrev pub viewed_from : (xs ys : List (List ℕ)) (m n : ℕ) → List ℤ
-viewed_from xs ys m n = differences (same_trkl (partners (drop m xs) (drop n ys)))
-
-module _ (xs ys : List (List ℕ)) (m n : ℕ) (next : Next) (s : Stepped xs ys m n next)
-    (px : Accepted (get_or xs m [])) (py : Accepted (get_or ys n [])) {line other : List ℕ} (el : line ≡ get_or xs m []) (eo : other ≡ get_or ys n []) where
-  module _ (f : Figures) {g : Figures} (e : g ≡ cond (next.level && eqb (trkl_of line) (trkl_of other)) (counted f (refsys_of line -ℤ refsys_of other)) f) where
-    same_lines : g ≡ cond (next.level && eqb (trkl_of (get_or xs m [])) (trkl_of (get_or ys n [])))
-        (counted f (refsys_of (get_or xs m []) -ℤ refsys_of (get_or ys n []))) f
-    same_lines =
-        e
-        ∙ ap₂ (λ (x y : List ℕ). cond (next.level && eqb (trkl_of x) (trkl_of y)) (counted f (refsys_of x -ℤ refsys_of y)) f) el eo
-
-    pub pair-gathered : {all : List ℤ} → Gathered all (viewed_from xs ys m n) f → Gathered all (viewed_from xs ys next.m next.n) g
-    pair-gathered t =
-        more-gathered (next.level && eqb (trkl_of (get_or xs m [])) (trkl_of (get_or ys n []))) (refsys_of (get_or xs m []) -ℤ refsys_of (get_or ys n []))
-        (ap (λ (p : List (List ℕ × List ℕ)). differences (same_trkl p)) s.pairs ∙ differences-more next.level (get_or xs m []) (get_or ys n []) _)
-        same_lines t
-
-    pub pair-bounded : Bounded (m + n) f → Bounded (next.m + next.n) g
-    pair-bounded b =
-        more-bounded (m + n + 1) (next.m + next.n) (omega (arith, s.forward))
-        (taken-bounded (next.level && eqb (trkl_of (get_or xs m [])) (trkl_of (get_or ys n []))) (m + n) (refsys_of (get_or xs m []) -ℤ refsys_of (get_or ys n [])) same_lines
-        (difference-bound (refsys_of (get_or xs m [])) (refsys_of (get_or ys n [])) (refsys-bound (get_or xs m []) px) (refsys-bound (get_or ys n []) py)) b)
-
--- nothing is left where one of the lists ends
-pub end-viewed : (xs ys : List (List ℕ)) (m n : ℕ) → ltb m (length xs) && ltb n (length ys) ≡ false → viewed_from xs ys m n ≡ []
+pub few-viewed : (ps : List (List ℕ × List ℕ)) → length (viewed_in ps) ≤ length ps
 unfolding same_trkl differences
-end-viewed xs ys m n e = ap (λ (p : List (List ℕ × List ℕ)). differences (same_trkl p)) (end-pairs xs ys m n e)
+few-viewed [] = omega arith
+few-viewed ((x, y) ∷ ps) = by-test (eqb (trkl_of x) (trkl_of y)) (few-viewed ps)
+  where
+    by-test : (b : Bool) → length (viewed_in ps) ≤ length ps → length (differences (cond b ((x, y) ∷ []) [] ++ same_trkl ps)) ≤ suc (length ps)
+    by-test true h = omega arith
+    by-test false h = omega arith
+
+-- What the report is made of behind some steps, and that the lines of each pair that is left are accepted.
+pub record Left (all : List ℤ) (steps : List (Step (List ℕ))) (f : Figures) : Type 0 where
+  pub gathered : Gathered all (viewed_in (pairs_in steps)) f
+  pub accepted : All BothAccepted (pairs_in steps)
+
+pub first-left : (all : List ℤ) (steps : List (Step (List ℕ))) → all ≡ viewed_in (pairs_in steps) → All BothAccepted (pairs_in steps)
+    → Left all steps (record { pairs = pos 0; sum = pos 0; smallest = pos 0; largest = pos 0 })
+first-left all steps e a =
+    record {
+      gathered = subst (λ (l : List ℤ). Gathered all l (record { pairs = pos 0; sum = pos 0; smallest = pos 0; largest = pos 0 })) e (nothing-gathered all);
+      accepted = a;
+    }
+
+module _ {all : List ℤ} {left next : List (Step (List ℕ))} {step : Step (List ℕ)} {x y : List ℕ} {f : Figures} (l : Left all left f)
+    (e : left ≡ step ∷ next) (b : step ≡ Step.Both x y) where
+  pairs-are : pairs_in left ≡ (x, y) ∷ pairs_in next
+  pairs-are = ap pairs_in (e ∙ ap (λ (s : Step (List ℕ)). s ∷ next) b)
+
+  pub pair-accepted : BothAccepted (x, y)
+  pair-accepted = (subst (All BothAccepted) pairs-are l.accepted).0
+
+  pub pair-left : {g : Figures} → g ≡ cond (eqb (trkl_of x) (trkl_of y)) (counted f (refsys_of x -ℤ refsys_of y)) f → Left all next g
+  pair-left h =
+      record {
+        gathered =
+            more-gathered (eqb (trkl_of x) (trkl_of y)) (refsys_of x -ℤ refsys_of y) (ap viewed_in pairs-are ∙ differences-more x y (pairs_in next)) h
+            (difference-bound (refsys_of x) (refsys_of y) (refsys-bound x pair-accepted.0) (refsys-bound y pair-accepted.1)) l.gathered;
+        accepted = (subst (All BothAccepted) pairs-are l.accepted).1;
+      }
+
+pub alone-left : {A : Type 0} (view : A → List ℕ) (step : Step A) {all : List ℤ} {left next : List (Step (List ℕ))} {f : Figures} → Left all left f
+    → left ≡ step_map view step ∷ next → ((x y : A) → step ≡ Step.Both x y → ⊥) → Left all next f
+alone-left view (Step.First x) {all} {f = f} l e n =
+    let p = ap pairs_in e in
+    record { gathered = subst (λ ps. Gathered all (viewed_in ps) f) p l.gathered; accepted = subst (All BothAccepted) p l.accepted }
+alone-left view (Step.Second y) {all} {f = f} l e n =
+    let p = ap pairs_in e in
+    record { gathered = subst (λ ps. Gathered all (viewed_in ps) f) p l.gathered; accepted = subst (All BothAccepted) p l.accepted }
+alone-left view (Step.Both x y) l e n = absurd (n x y refl)
+
+pub none-left : {all : List ℤ} {left : List (Step (List ℕ))} {f : Figures} → left ≡ [] → Left all left f → f ≡ figures all
+unfolding same_trkl differences
+none-left e l = all-gathered (ap (λ (s : List (Step (List ℕ))). viewed_in (pairs_in s)) e) l.gathered

@@ -1,7 +1,6 @@
 pub mod Values
 pub mod Gathering
 pub mod Reports
-pub mod Answers
 pub mod Extremes
 pub mod Pairing
 pub mod CommonView

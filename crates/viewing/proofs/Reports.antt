@@ -1,6 +1,6 @@
 -- What common view answers (specs/View.antt), where it is refused and where it is not.
 -- Assumes nothing.
-use mathlib.Core.Path.{◌≡◌, refl, sym, ap, ◌∙◌}
+use mathlib.Core.Path.{◌≡◌, refl, sym, ap, ap₂, ◌∙◌}
 use mathlib.Core.Bool.{Bool, true, false, ◌||◌}
 use mathlib.Core.List.{List, []}
 use Prim.Native.Nat.{ℕ, ◌≤◌, ◌<◌}
@@ -15,8 +15,15 @@ use Rattle.limits.specs.Reply.{reply}
 use Rattle.limits.proofs.Laws.{then-refused, then-passed, then-assoc, or-false}
 use Rattle.limits.proofs.Replies.{reply-accepted, reply-refused}
 use Rattle.viewing.specs.declared.Figures.{Figures}
-use Rattle.linefile.specs.Files.{file_number}
-use Rattle.viewing.specs.View.{figures, viewed, longest, view_number_lem, view_rule}
+use Rattle.linefile.specs.Files.{lines, file_number}
+use Rattle.linefile.specs.Partners.{partners}
+use Rattle.viewing.specs.View.{same_trkl, pairs_of, differences, figures, viewed, longest, view_number_lem, view_rule}
+
+-- what is gathered of the lines of two files
+pub gathered-is : (first second : List ℕ) {xs ys : List (List ℕ)} {f : Figures} → (xs ≡ lines first) × (ys ≡ lines second)
+    → f ≡ figures (differences (same_trkl (partners xs ys))) → f ≡ figures (viewed first second)
+unfolding viewed pairs_of
+gathered-is first second l e = e ∙ ap₂ (λ (xs ys : List (List ℕ)). figures (differences (same_trkl (partners xs ys)))) l.0 l.1
 
 module _ (first second : List ℕ) where
   -- the answer of a refusal

@@ -1,14 +1,13 @@
 -- TRKL and REFSYS of an accepted line, as its digits stand (specs/View.antt).
 -- Assumes nothing.
-use mathlib.Core.Path.{◌≡◌, refl, sym, ap, subst, ◌∙◌}
+use mathlib.Core.Path.{◌≡◌, refl, ap, ◌∙◌}
 use mathlib.Core.Bool.{true, false}
 use mathlib.Core.List.{List, ◌∷◌}
 use Prim.Native.Nat.{ℕ, ◌+◌, ◌*◌, ◌≤◌}
-use native.Mathlib.Nat.{le_trans, min-le_right}
 use native.Mathlib.Omega.{arith}
 use lib.Dec.{eqb, lit<, lit≤}
 use lib.IntN.{pos, neg_ℤ, nat_abs}
-use lib.ListN.{length, get_or, length-take}
+use lib.ListN.{get_or}
 use lib.Seq.{get_or-take}
 use borrow.Author.Tests.{eq-eqb, ne_eqb}
 use Rattle.fields.specs.Read.{read_decimal, read_signed}
@@ -20,12 +19,9 @@ use Rattle.reading.proofs.Columns.{field-most, signed-field}
 use Rattle.linefile.specs.Files.{columns_of}
 use Rattle.viewing.specs.View.{trkl_of, refsys_of}
 use Rattle.linefile.proofs.Ascending.{Accepted}
-use Rattle.linefile.proofs.Digits.{raw_from, excess, row, columns, columns-long, digits-raw}
+use Rattle.linefile.proofs.Digits.{raw_from, excess, row, columns, digits-raw}
 
 module _ (line : List ℕ) (e : Accepted line) where
-  pub line-long : line_length ≤ length line
-  line-long = le_trans (columns-long line e) (subst (λ (n : ℕ). n ≤ length line) (sym (length-take line_length line)) (min-le_right line_length (length line)))
-
   pub trkl-raw : 100 * two_digits_lem 20 line + two_digits_lem 22 line ≡ trkl_of line + 53328
   unfolding trkl_of read_numbers field raw_from excess row
   trkl-raw = omega (arith, digits-raw line e 4 20 (lit≤ tt) (columns line e).trkl.holds)

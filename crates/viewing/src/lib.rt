@@ -2,11 +2,12 @@
 // first file and then the second by what they are refused for themselves, and files without a pair in the end (18).
 #![tactic(auto)]
 
-ghost use Rattle.std.specs.Prelude.{◌≡◌};
-ghost use Rattle.viewing.specs.View.{view_rule};
-ghost use Rattle.viewing.specs.Answers.{view_reply, ViewNumbered};
+ghost use Rattle.std.specs.Prelude.{◌≡◌, []};
+ghost use Rattle.limits.specs.Numbers.{reply_of};
+ghost use Rattle.viewing.specs.View.{figures, view_rule};
 
 use columns::ENDED_LENGTH;
+use limits::Refusal;
 
 mod pairs;
 
@@ -15,7 +16,8 @@ const MOST_LINES: usize = 10000;
 
 const LONGEST: usize = MOST_LINES * ENDED_LENGTH;
 
-// How many pairs there are, the sum of their differences, the smallest and the largest, in 0.1 ns.
+// The report: how many pairs there are and, of what the first file's REFSYS is more than the second's in each, the sum, the smallest and the
+// largest, in 0.1 ns.
 #[derive(Clone, Copy)]
 pub struct Figures {
     pub pairs: i64,
@@ -24,54 +26,17 @@ pub struct Figures {
     pub largest: i64,
 }
 
-// What common view answers: the number of pairs and, of what the first file's REFSYS is more than the second's in each, the sum and the two
-// extremes, in 0.1 ns; or the number of the refusal.
-#[derive(Clone, Copy)]
-pub enum View {
-    Report {
-        pairs: i64,
-        sum: i64,
-        smallest: i64,
-        largest: i64,
-    },
-    Refused(u32),
-}
-
 // The report on two files in common view.
-pub fn common_view(first: &[u8], second: &[u8]) -> View
-    ensures answer { view_reply result ≡ view_rule first.now second.now }
-    ensures variant { ViewNumbered result }
+pub fn common_view(first: &[u8], second: &[u8]) -> Result<Figures, Refusal>
+    ensures answer { reply_of (figures []) result ≡ view_rule first.now second.now }
 {
     if (LONGEST < first.len()) | (LONGEST < second.len()) {
-        return View::Refused(19);
+        return Err(Refusal::FileLength);
     }
-    let refusal = linefile::refusals(first, second);
-    if refusal != 0 {
-        return View::Refused(refusal);
-    }
-    let figures = pairs::gather(first, second);
+    let (lines, others) = linefile::both_accepted(first, second)?;
+    let figures = pairs::gather(lines, others);
     if figures.pairs < 1 {
-        return View::Refused(18);
+        return Err(Refusal::NoPair);
     }
-    View::Report {
-        pairs: figures.pairs,
-        sum: figures.sum,
-        smallest: figures.smallest,
-        largest: figures.largest,
-    }
-}
-
-// The number of an answer: that of the refusal, 0 where there is none.
-pub fn view_number(view: View) -> u32
-    ensures { result ≡ (view_reply view).number }
-{
-    match view {
-        View::Report {
-            pairs: _,
-            sum: _,
-            smallest: _,
-            largest: _,
-        } => 0,
-        View::Refused(number) => number,
-    }
+    Ok(figures)
 }

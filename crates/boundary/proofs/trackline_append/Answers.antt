@@ -1,43 +1,36 @@
--- `boundary::trackline_append` meets its contract: the case of the answer tells whether the place is written.
+-- `boundary::trackline_append` meets its contract: the answer tells whether the place is written.
 -- Assumes nothing.
-use Rattle.limits.proofs.Laws.{lent-kept}
-use Rattle.delays.proofs.Answers.{append-refused-case, append-bytes-case}
-use Rattle.delays.specs.Append.{append_rule, append_after}
-use Rattle.delays.specs.Answers.{append_reply}
-use Rattle.delays.specs.Store.{version, count, store_length_lem}
-use Rattle.delays.specs.declared.Appended.{Appended}
-use mir.Facts.{to_z-of_z}
-use lib.ListN.{length}
-use native.Mathlib.Omega.{arith}
+use mathlib.Core.Path.{◌≡◌, ◌∙◌}
 use Prim.Native.Nat.{suc}
-use mathlib.Core.Path.{◌≡◌, sym, ap, ◌∙◌}
-use Rattle.boundary.proofs.trackline_append.Goals.{After-append-appended}
+use lib.ListN.{length}
+use mir.Facts.{to_z-of_z}
+use Rattle.limits.specs.Numbers.{reply_of}
+use Rattle.delays.specs.Append.{append_number, append_rule}
+use Rattle.delays.specs.Store.{version, count, store_length_lem}
+use Rattle.limits.proofs.Cases.{number_of_reply}
+use Rattle.boundary.proofs.Rows.{accepted}
+use Rattle.boundary.proofs.trackline_append.Goals.{After-append-answer}
 use Rattle.boundary.proofs.trackline_append.Goals as goal
 
 -- what append ensures, on the delays themselves
-answer : (c : After-append-appended)
-    → append_reply c.append-appended.result ≡ append_rule c.args.store.now c.args.mjd c.args.intdly c.args.cabdly c.args.refdly c.args.gd (length c.args.longer.now)
-answer c =
-    c.append-appended.ensures.answer
+told : (c : After-append-answer)
+    → reply_of 0 c.append-answer.result ≡ append_rule c.args.store.now c.args.mjd c.args.intdly c.args.cabdly c.args.refdly c.args.gd (length c.args.longer.now)
+told c =
+    c.append-answer.ensures.answer
     ∙ (λ i. append_rule c.args.store.now c.args.mjd (to_z-of_z c.ranges.intdly i) (to_z-of_z c.ranges.cabdly i) (to_z-of_z c.ranges.refdly i) (to_z-of_z c.ranges.gd i) (length c.args.longer.now))
 
-after : (c : After-append-appended)
-    → c.append-appended.new.longer ≡ append_after c.args.store.now c.args.mjd c.args.intdly c.args.cabdly c.args.refdly c.args.gd c.args.longer.now
-after c =
-    c.append-appended.ensures.written
-    ∙ (λ i. append_after c.args.store.now c.args.mjd (to_z-of_z c.ranges.intdly i) (to_z-of_z c.ranges.cabdly i) (to_z-of_z c.ranges.refdly i) (to_z-of_z c.ranges.gd i) c.args.longer.now)
+pub returns-in_default-clause-answer : goal.returns-in_default-clause-answer
+unfolding append_rule
+returns-in_default-clause-answer c =
+    c.reply_number.ensures
+    ∙ number_of_reply 0 c.append-answer.result (append_number c.args.store.now c.args.mjd c.args.intdly c.args.cabdly c.args.refdly c.args.gd (length c.args.longer.now)) (store_length_lem (version c.args.store.now) (suc (count c.args.store.now))) (told (goal.at.returns-in_default-clause-answer c).After-append-answer)
 
-pub returns-in_default : goal.returns-in_default
-returns-in_default c = let n = c.appended_number.ensures ∙ ap (λ (r : Appended). (append_reply r).number) c.in_default.is in
-    let r = append-refused-case c.args.store.now c.args.mjd c.args.intdly c.args.cabdly c.args.refdly c.args.gd (length c.args.longer.now) c.in_default.is (answer (goal.at.returns-in_default c).After-append-appended) c.append-appended.ensures.variant in record {
-      answer = n ∙ r.0;
-      longer = after (goal.at.returns-in_default c).After-append-appended;
-      written = lent-kept c.appended_number.result (store_length_lem (version c.args.store.now) (suc (count c.args.store.now))) c.args.written.now (omega (arith, n, r.1));
-    }
+pub returns-clause-answer : goal.returns-clause-answer
+unfolding append_rule
+returns-clause-answer c =
+    (accepted 0 (store_length_lem (version c.args.store.now) (suc (count c.args.store.now))) (append_number c.args.store.now c.args.mjd c.args.intdly c.args.cabdly c.args.refdly c.args.gd (length c.args.longer.now)) c.in-Ok.is (told (goal.at.returns-clause-answer c).After-append-answer)).0
 
-pub returns : goal.returns
-returns c = let r = append-bytes-case c.args.store.now c.args.mjd c.args.intdly c.args.cabdly c.args.refdly c.args.gd (length c.args.longer.now) c.in-Bytes.is (answer (goal.at.returns c).After-append-appended) in record {
-  answer = sym r.0;
-  longer = after (goal.at.returns c).After-append-appended;
-  written = r.1;
-}
+pub returns-clause-written : goal.returns-clause-written
+unfolding append_rule
+returns-clause-written c =
+    (accepted 0 (store_length_lem (version c.args.store.now) (suc (count c.args.store.now))) (append_number c.args.store.now c.args.mjd c.args.intdly c.args.cabdly c.args.refdly c.args.gd (length c.args.longer.now)) c.in-Ok.is (told (goal.at.returns-clause-written c).After-append-answer)).1

@@ -2,13 +2,14 @@
 -- Assumes nothing.
 use mathlib.Core.Path.{◌≡◌}
 use mathlib.Core.Bool.{◌&&◌}
-use Prim.Native.Nat.{◌≤◌, ◌-◌}
-use lib.ListN.{length, drop}
+use lib.ListN.{length}
+use Rattle.std.specs.Iterator.Adapters.{zip_first, zip_second}
+use Rattle.std.specs.Slice.Iter.{iter_rest}
 use Rattle.characters.specs.Kinds.{allowed}
 use Rattle.characters.proofs.columns_fit.Given as goal
 
-abbrev pub invariant-loop-i : goal.invariant-loop-i
-invariant-loop-i l = (l.i ≤ length l.kinds) × (l.fit && allowed (drop l.i l.kinds) (drop l.i l.line) ≡ allowed l.kinds l.line)
-
-abbrev pub decreases-loop-i : goal.decreases-loop-i
-decreases-loop-i l = length l.kinds - l.i
+abbrev pub invariant-loop-kind : goal.invariant-loop-kind
+invariant-loop-kind l =
+    let kinds = iter_rest (zip_first l.kind-iterator) in
+    let line = iter_rest (zip_second l.kind-iterator) in
+    (length kinds ≡ length line) × (l.fit && allowed kinds line ≡ allowed l.kinds l.line)

@@ -6,7 +6,6 @@ use Prim.Native.Nat.{ℕ, ◌≤◌}
 use native.Mathlib.Nat.{zero-add}
 use native.Mathlib.Omega.{arith}
 use lib.ListN.{length, drop}
-use lib.Seq.{length-take-le}
 use Rattle.lent.specs.Placed.{placed, placed_within}
 use Rattle.lent.proofs.Placing.{within, not_within}
 use Rattle.columns.specs.Text.{line_length, line_text}
@@ -18,17 +17,11 @@ front : (d s : List ℕ) → length s ≡ line_length → line_length ≤ length
 unfolding placed
 front d s l h = ap (λ (n : ℕ). s ++ drop n d) (sym l ∙ sym (zero-add (length s))) ∙ sym (within d 0 s (omega (arith, l, h)))
 
-pub slice_bounds-put_line-end-then-lent-ge-LINE_LENGTH : goal.slice_bounds-put_line-end-then-lent-ge-LINE_LENGTH
-slice_bounds-put_line-end-then-lent-ge-LINE_LENGTH c = sym (length-take-le line_length c.args.lent.now (omega arith))
-
-pub put_line-requires : goal.put_line-requires
-put_line-requires c = length-take-le line_length c.args.lent.now (omega arith)
-
-pub returns-then-lent-ge-LINE_LENGTH : goal.returns-then-lent-ge-LINE_LENGTH
-returns-then-lent-ge-LINE_LENGTH c =
+pub returns-in-Some : goal.returns-in-Some
+returns-in-Some c =
     ap (λ (x : List ℕ). x ++ drop line_length c.args.lent.now) c.put_line.ensures
-    ∙ front c.args.lent.now (line_text c.args.labels c.args.numbers) (line-width c.args.labels c.args.numbers) (omega arith)
+    ∙ front c.args.lent.now (line_text c.args.labels c.args.numbers) (line-width c.args.labels c.args.numbers) c.in-Some.ensures.cases.enough
 
-pub returns-else-lent-ge-LINE_LENGTH : goal.returns-else-lent-ge-LINE_LENGTH
-returns-else-lent-ge-LINE_LENGTH c =
-    sym (not_within c.args.lent.now 0 (line_text c.args.labels c.args.numbers) (omega (arith, line-width c.args.labels c.args.numbers, c.if-lent-ge-LINE_LENGTH.false)))
+pub returns-in_default : goal.returns-in_default
+returns-in_default c =
+    sym (not_within c.args.lent.now 0 (line_text c.args.labels c.args.numbers) (omega (arith, line-width c.args.labels c.args.numbers, c.in_default.ensures.cases)))

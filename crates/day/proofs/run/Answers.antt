@@ -1,57 +1,50 @@
--- `day::run` meets its contract: each test tells what is answered and whether anything is written.
+-- `day::run` meets its contract: each exit tells what is answered and whether anything is written.
 -- Assumes nothing.
-use mathlib.Core.Path.{◌≡◌, sym, ap, subst, ◌∙◌}
-use Prim.Native.Nat.{ℕ, ◌*◌, ◌≤◌}
-use Rattle.columns.specs.Text.{ended_length}
-use native.Mathlib.Omega.{arith}
-use lib.ListN.{length}
-use Rattle.limits.specs.Refusal.{◌then◌}
-use Rattle.day.specs.Day.{day_number}
-use Rattle.day.proofs.Finishing.{Judged, number_is, refused, accepted, written}
-use Rattle.day.proofs.run.Goals.{After-judge-judged, After-then-number}
+use mathlib.Core.Path.{◌∙◌}
+use Rattle.std.proofs.lemmas.Result.{err_from_is_err_and}
+use Rattle.day.proofs.Finishing.{Judged, rejected, no_room, accepted, written}
+use Rattle.day.proofs.run.Goals.{In_ok-count}
 use Rattle.day.proofs.run.Goals as goal
 
--- what is known when all blocks are judged
-known : (c : After-judge-judged)
-    → Judged c.args.blocks.now c.start.result c.write-begun.result c.judge-judged.result c.write-begun.new.file
-known c =
-    record {
-      cache = _;
-      at = c.start.ensures.0;
-      count = c.start.ensures.1;
-      refusal = c.start.ensures.2;
-      wrote = c.write-begun.ensures.wrote;
-      verdict = c.judge-judged.ensures;
-    }
+-- what is known when all blocks are accepted
+known : (c : In_ok-count) → Judged c.args.blocks.now c.in_ok-begun.begun c.in_ok-count.count c.write.new.file
+known c = record { cache = _; wrote = c.in_ok-begun.ensures.wrote; verdict = c.in_ok-count.ensures }
 
--- what the test is on
-number : (c : After-then-number)
-    → c.then-number.result ≡ day_number c.args.blocks.now (length c.args.file.now)
-number c =
-    c.then-number.ensures
-    ∙ ap (λ (n : ℕ). c.judge-judged.result.refusal then n) c.when.ensures
-    ∙ number_is (known (goal.at.After-then-number c).After-judge-judged) (length c.args.file.now)
+pub returns-in_err-begun-clause-answer : goal.returns-in_err-begun-clause-answer
+returns-in_err-begun-clause-answer c =
+    let p = err_from_is_err_and c.from_residual.result c.from_residual.ensures.1 in
+    rw (p.1, p.2) (rejected c.args.blocks.now c.args.file.now c.in_err-begun.field-0.0 c.in_err-begun.ensures.rejected).0
 
-pub returns-then-number-ne0 : goal.returns-then-number-ne0
-returns-then-number-ne0 c =
-    let r = refused (known (goal.at.returns-then-number-ne0 c).After-judge-judged) c.args.file.now c.then-number.result (number (goal.at.returns-then-number-ne0 c).After-then-number) c.if-number-ne0.true in
-    record { answer = r.0; written = r.1 }
+pub returns-in_err-begun-clause-written : goal.returns-in_err-begun-clause-written
+returns-in_err-begun-clause-written c =
+    (rejected c.args.blocks.now c.args.file.now c.in_err-begun.field-0.0 c.in_err-begun.ensures.rejected).1
 
-pub finish-requires : goal.finish-requires
-finish-requires c =
-    let r = accepted (known (goal.at.finish-requires c).After-judge-judged) c.args.file.now (sym (number (goal.at.finish-requires c).After-then-number) ∙ c.if-number-ne0.false) in record {
-      within_bytes = c.write-begun.ensures.wrote.walked.within;
-      accepted = r.0;
-      kept_lines = subst (λ (n : ℕ). ended_length * c.write-begun.result.count ≤ n) (sym c.write-begun.auto.file) c.write-begun.ensures.wrote.room;
-      room = r.1;
-    }
+pub returns-in_err-count-clause-answer : goal.returns-in_err-count-clause-answer
+returns-in_err-count-clause-answer c =
+    let p = err_from_is_err_and c.from_residual-in_err-count.result c.from_residual-in_err-count.ensures.1 in
+    rw (p.1, p.2)
+    (rejected c.args.blocks.now c.args.file.now c.in_err-count.field-0.0 (c.in_ok-begun.ensures.wrote.walked.same ∙ c.in_err-count.ensures)).0
 
-pub overflow_mul-result : goal.overflow_mul-result
-overflow_mul-result c =
-    let r = accepted (known (goal.at.overflow_mul-result c).After-judge-judged) c.args.file.now (sym (number (goal.at.overflow_mul-result c).After-then-number) ∙ c.if-number-ne0.false) in
-    omega (arith, r.3)
+pub returns-in_err-count-clause-written : goal.returns-in_err-count-clause-written
+returns-in_err-count-clause-written c =
+    (rejected c.args.blocks.now c.args.file.now c.in_err-count.field-0.0 (c.in_ok-begun.ensures.wrote.walked.same ∙ c.in_err-count.ensures)).1
 
-pub returns : goal.returns
-returns c =
-    let r = written (known (goal.at.returns c).After-judge-judged) c.args.file.now c.finish.new.file (sym (number (goal.at.returns c).After-then-number) ∙ c.if-number-ne0.false) c.finish.ensures in
-    record { answer = r.0; written = r.1 }
+pub returns-then-file-count-clause-answer : goal.returns-then-file-count-clause-answer
+returns-then-file-count-clause-answer c =
+    (no_room (known (goal.at.returns-then-file-count-clause-answer c).In_ok-count) c.args.file.now c.if-file-count.true).0
+
+pub returns-then-file-count-clause-written : goal.returns-then-file-count-clause-written
+returns-then-file-count-clause-written c =
+    (no_room (known (goal.at.returns-then-file-count-clause-written c).In_ok-count) c.args.file.now c.if-file-count.true).1
+
+pub finish-requires-clause-room : goal.finish-requires-clause-room
+finish-requires-clause-room c =
+    (accepted (known (goal.at.finish-requires-clause-room c).In_ok-count) c.args.file.now c.if-file-count.false).1
+
+pub returns-clause-answer : goal.returns-clause-answer
+returns-clause-answer c =
+    (written (known (goal.at.returns-clause-answer c).In_ok-count) c.args.file.now c.if-file-count.false c.finish.new.file c.finish.ensures).0
+
+pub returns-clause-written : goal.returns-clause-written
+returns-clause-written c =
+    (written (known (goal.at.returns-clause-written c).In_ok-count) c.args.file.now c.if-file-count.false c.finish.new.file c.finish.ensures).1

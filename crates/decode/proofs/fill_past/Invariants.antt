@@ -2,17 +2,12 @@
 -- Assumes nothing.
 use mathlib.Core.Path.{◌≡◌}
 use mathlib.Core.List.{◌++◌}
-use Prim.Native.Nat.{◌≤◌, ◌-◌}
+use Prim.Native.Nat.{◌-◌}
 use lib.ListN.{length, take}
 use Rattle.decode.specs.Number.{signeds_at}
 use Rattle.decode.proofs.fill_past.Given as goal
 
-abbrev pub invariant-loop-i : goal.invariant-loop-i
-invariant-loop-i l =
-    (l.i ≤ length l.out)
-    × (length l.out ≡ length l.initial.out)
-    × (l.next ≤ length l.bytes)
-    × (signeds_at l.bytes l.at l.stride (length l.initial.out) ≡ take l.i l.out ++ signeds_at l.bytes l.next l.stride (length l.initial.out - l.i))
-
-abbrev pub decreases-loop-i : goal.decreases-loop-i
-decreases-loop-i l = length l.initial.out - l.i
+abbrev pub invariant-loop-number : goal.invariant-loop-number
+invariant-loop-number l =
+    (length l.out ≡ length l.initial.out)
+    × (signeds_at l.bytes l.at l.stride (length l.initial.out) ≡ take l.number-index l.out ++ signeds_at l.bytes l.next l.stride (length l.initial.out - l.number-index))

@@ -1,17 +1,9 @@
--- `decode::unsigned32` meets its contract: what the test says picks the definition's case.
+-- `decode::unsigned32` meets its contract: std's number of the bytes is the definition's.
 -- Assumes nothing.
-use mathlib.Core.Path.{sym, ◌∙◌}
-use borrow.Author.Tests.{leb-true}
-use Rattle.decode.proofs.Little.{unsigned-inside, unsigned-outside}
+use mathlib.Core.Path.{◌∙◌}
+use borrow.Author.Rules.{rules}
+use Rattle.decode.proofs.Little.{four}
 use Rattle.decode.proofs.unsigned32.Goals as goal
 
-pub unsigned32-requires : goal.unsigned32-requires
-unsigned32-requires c = leb-true _ _ (sym c.lies.ensures ∙ c.if-lies.true)
-
-pub returns-then-lies : goal.returns-then-lies
-returns-then-lies c =
-    c.unsigned32.ensures ∙ unsigned-inside 4 c.args.at c.args.bytes.now (sym c.lies.ensures ∙ c.if-lies.true)
-
-pub returns-else-lies : goal.returns-else-lies
-returns-else-lies c =
-    unsigned-outside 4 c.args.at c.args.bytes.now (sym c.lies.ensures ∙ c.if-lies.false)
+pub returns : goal.returns
+returns c = c.from_le_bytes.ensures ∙ four c.chunk.result (search rules) ∙ c.chunk.ensures

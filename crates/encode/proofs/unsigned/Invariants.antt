@@ -2,14 +2,11 @@
 -- Assumes nothing.
 use mathlib.Core.Path.{◌≡◌}
 use mathlib.Core.List.{◌++◌}
-use Prim.Native.Nat.{◌≤◌, ◌-◌}
+use Prim.Native.Nat.{◌-◌}
 use lib.ListN.{length, take}
 use Rattle.encode.specs.Encode.{little_bytes}
 use Rattle.encode.proofs.unsigned.Given as goal
 
-abbrev pub invariant-loop-i : goal.invariant-loop-i
-invariant-loop-i l =
-    (l.i ≤ length l.out) × (length l.out ≡ length l.initial.out) × (little_bytes (length l.initial.out) l.value ≡ take l.i l.out ++ little_bytes (length l.initial.out - l.i) l.rest)
-
-abbrev pub decreases-loop-i : goal.decreases-loop-i
-decreases-loop-i l = length l.initial.out - l.i
+abbrev pub invariant-loop-byte : goal.invariant-loop-byte
+invariant-loop-byte l =
+    (length l.out ≡ length l.initial.out) × (little_bytes (length l.initial.out) l.value ≡ take l.byte-index l.out ++ little_bytes (length l.initial.out - l.byte-index) l.rest)

@@ -3,14 +3,9 @@
 -- Assumes nothing.
 use mathlib.Core.Path.{◌≡◌}
 use mathlib.Core.List.{◌++◌}
-use Prim.Native.Nat.{◌≤◌}
 use lib.ListN.{length, drop}
 use Rattle.fields.specs.Text.{decimal}
 use Rattle.fields.proofs.decimal.Given as goal
 
 abbrev pub invariant-loop-i : goal.invariant-loop-i
-invariant-loop-i l =
-    (l.i ≤ length l.out) × (length l.out ≡ length l.initial.out) × (decimal (length l.initial.out) l.value ≡ decimal l.i l.rest ++ drop l.i l.out)
-
-abbrev pub decreases-loop-i : goal.decreases-loop-i
-decreases-loop-i l = l.i
+invariant-loop-i l = (length l.out ≡ length l.initial.out) × (decimal (length l.initial.out) l.value ≡ decimal l.i l.rest ++ drop l.i l.out)

@@ -1,19 +1,24 @@
 -- `fields::signed` meets its contract: the sign is stored, and the digits come back in the part behind it.
 -- Assumes nothing.
-use mathlib.Core.Path.{ap, ◌∙◌}
+use mathlib.Core.Path.{◌≡◌, sym, ap, ◌∙◌}
+use mathlib.Core.List.{◌∷◌}
+use Prim.Native.Nat.{ℕ, suc}
+use native.Mathlib.Omega.{arith}
 use lib.IntN.{nat_abs}
+use lib.ListN.{length}
 use mir.Facts.{to_z-of_z}
 use Rattle.fields.specs.Text.{decimal, sign, signed}
-use Rattle.fields.proofs.Laws.{signed-done, empty-signed}
+use Rattle.fields.proofs.Laws.{empty-signed}
 use Rattle.fields.proofs.signed.Goals as goal
 
-pub returns-then-out-gt0 : goal.returns-then-out-gt0
-returns-then-out-gt0 c =
-    signed-done c.args.out.now c.sign.result c.args.value _
-    c.if-out-gt0.true
-    (c.sign.ensures ∙ ap sign (to_z-of_z c.ranges.value))
-    (c.decimal.ensures ∙ ap (decimal _) (c.magnitude.ensures ∙ ap nat_abs (to_z-of_z c.ranges.value)))
-
-pub returns-else-out-gt0 : goal.returns-else-out-gt0
+pub returns-in-Some : goal.returns-in-Some
 unfolding signed
-returns-else-out-gt0 c = empty-signed c.args.out.now c.args.value c.if-out-gt0.false
+returns-in-Some c =
+    let n : length c.args.out.now ≡ suc (length c.in-Some.digits.now) = omega (arith, c.in-Some.ensures.cases.1) in
+    let v = to_z-of_z c.ranges.value in
+    let s = c.sign.ensures ∙ ap sign v in
+    let d = c.decimal.ensures ∙ ap (decimal (length c.in-Some.digits.now)) (c.unsigned_abs.ensures.value ∙ ap nat_abs v) in
+    (λ i. s i ∷ d i) ∙ sym (ap (λ (k : ℕ). signed k c.args.value) n)
+
+pub returns-in_default : goal.returns-in_default
+returns-in_default c = empty-signed c.args.out.now c.args.value (omega (arith, c.in_default.ensures.cases))

@@ -1,7 +1,7 @@
--- `lent::copy` meets its contract: after i turns the first i bytes are those that are copied.
+-- `lent::copy` meets its contract: after i turns the first i items are those that are copied.
 -- Assumes nothing.
 use Rattle.std.proofs.Common.{◌≡◌, take}
 use Rattle.lent.proofs.copy.Given as goal
 
 abbrev pub invariant-loop-i : goal.invariant-loop-i
-invariant-loop-i l = take l.i l.lent ≡ take l.i l.bytes
+invariant-loop-i g l = take l.i l.lent ≡ take l.i l.items

@@ -8,7 +8,7 @@ use Rattle.whole.proofs.Offsets.{lies_at}
 use Rattle.lent.proofs.fits.Goals as goal
 
 pub returns-then-room-at : goal.returns-then-room-at
-returns-then-room-at c = sym (lt-leb (c.args.at + c.args.bytes) c.args.room (omega arith))
+returns-then-room-at c = sym (lt-leb (c.args.at + c.args.items) c.args.room (omega arith))
 
 pub returns : goal.returns
-returns c = lies_at c.args.at c.args.bytes c.args.room (omega arith)
+returns c = lies_at c.args.at c.args.items c.args.room (omega arith)

@@ -1,55 +1,50 @@
--- `linefile::refusal` meets its contract: after i turns the first i lines are judged, each by its rank.
+-- `linefile::refusal` meets its contract: what is left to judge is what is left of the lines, behind the last one's rank.
 -- Assumes nothing.
-use Rattle.limits.proofs.Laws.{both}
-use borrow.Author.Tests.{ltb-true, eqb-true}
-use mathlib.Core.Path.{◌≡◌, refl, sym, ap₂, ◌∙◌}
-use Prim.Native.Nat.{◌/◌, ◌<◌}
+use mathlib.Core.Path.{◌≡◌, sym, ap, ◌∙◌}
+use mathlib.Core.Bool.{Bool, not}
+use Prim.Native.Nat.{ℕ}
 use native.Mathlib.Omega.{arith}
-use lib.ListN.{length}
-use Rattle.limits.specs.Refusal.{◌then◌}
-use Rattle.columns.specs.Text.{ended_length}
-use Rattle.linefile.specs.Files.{lines, file_number}
-use Rattle.linefile.proofs.Judging.{judged, judged-all, ranked-none}
-use Rattle.linefile.proofs.Lines.{line-part, length-lines}
-use Rattle.linefile.proofs.refusal.Goals.{In-loop-i}
+use lib.Dec.{lit<, eqb}
+use Rattle.std.proofs.lemmas.Result.{err_from_is_err_and}
+use Rattle.limits.specs.Refusal.{◌when◌}
+use Rattle.linefile.specs.Files.{file_number}
+use Rattle.limits.proofs.Cases.{paper_above_zero}
+use Rattle.linefile.proofs.Lines.{chunks-lines}
+use Rattle.linefile.proofs.Judging.{line-refused, order-refused, line-passed, file-refused, file-judged}
+use Rattle.linefile.proofs.refusal.Goals.{After-is_empty}
 use Rattle.linefile.proofs.refusal.Goals as goal
 
-pub loop-i-init : goal.loop-i-init
-unfolding ◌then◌
-loop-i-init c = (omega arith, refl)
+pub returns-in_err-line_refusal : goal.returns-in_err-line_refusal
+returns-in_err-line_refusal c =
+    let p = err_from_is_err_and c.from_residual.result c.from_residual.ensures.1 in
+    let some = paper_above_zero c.in_err-line_refusal.field-0.0 in
+    rw (p.1, p.2)
+    (file-refused c.args.file.now (chunks-lines c.args.file.now c.as_chunks.ensures.front)
+    (c.loop-line.invariant ∙ line-refused c.as_chunks.result.0.now c.loop-line.line-index c.loop-line.last (omega arith) c.in_err-line_refusal.ensures some) some)
 
--- what the loop's test tells
-turn : (c : In-loop-i)
-    → (c.loop-i.i < length c.args.file.now / ended_length) × (c.loop-i.number ≡ 0)
-turn c = let t = both _ _ c.loop-i-test.true in (ltb-true _ _ t.0, eqb-true _ 0 t.1)
+pub returns-then-place-last : goal.returns-then-place-last
+returns-then-place-last c =
+    file-refused c.args.file.now (chunks-lines c.args.file.now c.as_chunks.ensures.front)
+    (c.loop-line.invariant
+    ∙ order-refused c.as_chunks.result.0.now c.loop-line.line-index c.loop-line.last (omega arith) c.in_ok-line_refusal.ensures c.rank-place.ensures c.if-place-last.true)
+    (lit< tt)
 
-pub slice_bounds-line-end : goal.slice_bounds-line-end
-slice_bounds-line-end c = omega (arith, turn c)
+pub loop-line-preserved : goal.loop-line-preserved
+loop-line-preserved c =
+    c.loop-line.invariant
+    ∙ line-passed c.as_chunks.result.0.now c.loop-line.line-index c.loop-line.last (omega arith) c.in_ok-line_refusal.ensures c.rank-place.ensures c.if-place-last.false
 
-pub loop-i-smaller : goal.loop-i-smaller
-loop-i-smaller c = omega (arith, turn (goal.at.loop-i-smaller c).In-loop-i)
+-- what the lines and the tail give
+abbrev tail : (c : After-is_empty) → file_number c.args.file.now ≡ 12 when not c.is_empty.result
+tail c =
+    file-judged c.args.file.now (chunks-lines c.args.file.now c.as_chunks.ensures.front) c.loop-line.line-index c.loop-line.last (omega arith) c.loop-line.invariant
+    ∙ ap (λ (b : Bool). 12 when not b) (ap (λ (n : ℕ). eqb n 0) (sym c.as_chunks.ensures.back_len) ∙ sym c.is_empty.ensures)
 
-pub loop-i-preserved : goal.loop-i-preserved
-loop-i-preserved c =
-    let h = turn (goal.at.loop-i-preserved c).In-loop-i in (
-      omega arith,
-      judged
-          (lines c.args.file.now)
-          c.loop-i.i
-          c.loop-i.last
-          c.rank-place.result
-          (rw (length-lines c.args.file.now) h.0)
-          (line-part c.args.file.now c.loop-i.i h.0)
-          c.rank-place.ensures
-          c.line_refusal-own.ensures
-          c.when-order.ensures
-          h.1
-          c.loop-i.invariant.1
-          c.then-number.ensures,
-    )
+pub returns-then-not-is_empty : goal.returns-then-not-is_empty
+unfolding ◌when◌
+returns-then-not-is_empty c =
+    sym (tail (goal.at.returns-then-not-is_empty c).After-is_empty ∙ ap (λ (b : Bool). 12 when not b) c.if-not-is_empty.true)
 
 pub returns : goal.returns
-unfolding file_number
-returns c =
-    let judged = ranked-none (lines c.args.file.now) ∙ judged-all (lines c.args.file.now) c.loop-i.i c.loop-i.last c.loop-i.number (rw (length-lines c.args.file.now) c.loop-i-test.false) c.loop-i.invariant.1 in
-    c.then.ensures ∙ ap₂ ◌then◌ (sym judged) c.when.ensures
+unfolding ◌when◌
+returns c = sym (tail (goal.at.returns c).After-is_empty ∙ ap (λ (b : Bool). 12 when not b) c.if-not-is_empty.false)

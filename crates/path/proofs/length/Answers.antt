@@ -17,4 +17,4 @@ int_to_float-result c = le→leb c.root.result 9007199254740992 (omega (arith, c
 pub returns : goal.returns
 unfolding whole_length length_of
 returns c =
-    ap (λ (n : ℕ). of_int binary64 (pos n)) (c.root.ensures.0 ∙ ap root c.sum_of_squares.ensures.0.is)
+    ap (λ (n : ℕ). of_int binary64 (pos n)) (c.root.ensures.0 ∙ ap root c.sum_of_squares.ensures.0)

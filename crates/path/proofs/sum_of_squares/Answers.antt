@@ -1,8 +1,9 @@
 -- `path::sum_of_squares` meets its contract: each difference is at most 10^11, and the sum of the three squares is the definition's.
 -- Assumes nothing.
+use mathlib.Core.Path.{refl}
 use native.Mathlib.Omega.{arith}
-use Rattle.path.proofs.Points.{Usable, usable, accepted, part, squares-are}
-use Rattle.path.proofs.Products.{square-bound}
+use Rattle.path.proofs.Points.{Usable, usable, accepted, squares-are}
+use Rattle.path.proofs.Roots.{square-bound}
 use Rattle.path.proofs.sum_of_squares.Goals.{Start}
 use Rattle.path.proofs.sum_of_squares.Goals as goal
 
@@ -27,26 +28,15 @@ apart-dz-requires c =
     let s = (goal.at.apart-dz-requires c).Start in
     ((satellite s).2.0, (satellite s).2.1, (antenna s).2.0, (antenna s).2.1)
 
-pub sum-requires : goal.sum-requires
-sum-requires c = (
-  part c.product.ensures (omega (arith, c.apart-dx.ensures.1, c.apart-dy.ensures.1, c.apart-dz.ensures.1)) (omega (arith, c.apart-dx.ensures.1, c.apart-dy.ensures.1, c.apart-dz.ensures.1)),
-  part c.product-2.ensures (omega (arith, c.apart-dx.ensures.1, c.apart-dy.ensures.1, c.apart-dz.ensures.1)) (omega (arith, c.apart-dx.ensures.1, c.apart-dy.ensures.1, c.apart-dz.ensures.1)),
-  part c.product-3.ensures (omega (arith, c.apart-dx.ensures.1, c.apart-dy.ensures.1, c.apart-dz.ensures.1)) (omega (arith, c.apart-dx.ensures.1, c.apart-dy.ensures.1, c.apart-dz.ensures.1)),
-)
-
 pub returns : goal.returns
 returns c = (
-  record {
-    is = squares-are c.args.satellite c.args.antenna c.apart-dx.result c.apart-dy.result c.apart-dz.result c.sum.ensures.is c.product.ensures.is c.product-2.ensures.is c.product-3.ensures.is
-        c.apart-dx.ensures.0 c.apart-dy.ensures.0 c.apart-dz.ensures.0;
-    small = c.sum.ensures.small;
-  },
+  squares-are c.args.satellite c.args.antenna c.apart-dx.result c.apart-dy.result c.apart-dz.result refl c.product.ensures c.product-2.ensures c.product-3.ensures c.apart-dx.ensures.0
+      c.apart-dy.ensures.0 c.apart-dz.ensures.0,
   omega (
     arith,
-    c.sum.ensures.is,
-    c.product.ensures.is,
-    c.product-2.ensures.is,
-    c.product-3.ensures.is,
+    c.product.ensures,
+    c.product-2.ensures,
+    c.product-3.ensures,
     square-bound c.apart-dx.result c.apart-dx.ensures.1,
     square-bound c.apart-dy.result c.apart-dy.ensures.1,
     square-bound c.apart-dz.result c.apart-dz.ensures.1,

@@ -3,29 +3,16 @@
 use mathlib.Core.Path.{◌≡◌, sym, ap, ◌∙◌}
 use native.Mathlib.Omega.{arith}
 use mathlib.Core.List.{List}
-use Prim.Native.Nat.{ℕ, ◌+◌, ◌-◌, ◌≤◌, ◌<◌}
+use Prim.Native.Nat.{ℕ, ◌+◌, ◌-◌}
 use lib.ListN.{length, take, drop}
 use Rattle.std.specs.Borrow.{Bor}
 use Rattle.limits.proofs.Parts.{rest_part}
 use Rattle.reader.specs.Part.{PartFrom}
 use Rattle.reader.specs.Comment.{comment_offset}
-use Rattle.reading.specs.Read.{read_number}
 use Rattle.reading.proofs.Refusals.{accepted}
 use Rattle.reading.proofs.Readings.{accepted-case, refused-case}
 use Rattle.reader.proofs.Comments.{offset-accepted, offset-refused}
-use Rattle.columns.specs.Text.{line_length}
-use Rattle.reader.proofs.comment.Goals.{In-Line, In_default}
 use Rattle.reader.proofs.comment.Goals as goal
-
--- what each case tells of the line
-refused : (c : In_default) → 0 < read_number c.args.line.now
-refused c = refused-case _ c.in_default.is c.read-reading.ensures.answer c.read-reading.ensures.variant
-
-read-line : (c : In-Line) → read_number c.args.line.now ≡ 0
-read-line c = accepted-case _ c.in-Line.is c.read-reading.ensures.answer
-
-long : (c : In-Line) → line_length ≤ length c.args.line.now
-long c = (accepted _ (read-line c)).0.least
 
 -- the part that is lent from an offset on
 part_at : (line : Bor (List ℕ)) (at : ℕ) → comment_offset line.now ≡ at
@@ -39,14 +26,17 @@ part_at line at e =
 
 pub returns-in_default : goal.returns-in_default
 returns-in_default c =
-    part_at c.args.line _ (offset-refused c.args.line.now (refused (goal.at.returns-in_default c).In_default))
+    part_at c.args.line _ (offset-refused c.args.line.now (refused-case c.args.line.now c.in_default.is c.read.ensures.answer))
 
+-- a line that is read has all columns
 pub slice_bounds-result-count-2 : goal.slice_bounds-result-count-2
-slice_bounds-result-count-2 c = omega (arith, long c)
+slice_bounds-result-count-2 c =
+    omega (arith, (accepted c.args.line.now (accepted-case c.args.line.now c.in-Ok.is c.read.ensures.answer)).0.least)
 
 pub slice_bounds-result-start-2 : goal.slice_bounds-result-start-2
-slice_bounds-result-start-2 c = omega (arith, long c)
+slice_bounds-result-start-2 c =
+    omega (arith, (accepted c.args.line.now (accepted-case c.args.line.now c.in-Ok.is c.read.ensures.answer)).0.least)
 
 pub returns : goal.returns
 returns c =
-    part_at c.args.line _ (offset-accepted c.args.line.now (read-line (goal.at.returns c).In-Line))
+    part_at c.args.line _ (offset-accepted c.args.line.now (accepted-case c.args.line.now c.in-Ok.is c.read.ensures.answer))

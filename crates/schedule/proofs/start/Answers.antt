@@ -3,6 +3,7 @@
 use Prim.Native.Nat.{◌≤◌}
 use native.Mathlib.Omega.{arith}
 use borrow.Author.Tests.{ltb-false}
+use borrow.Author.Rules.{rules}
 use Rattle.limits.specs.Refusal.{◌when◌, ◌then◌}
 use Rattle.limits.proofs.Laws.{or-false}
 use Rattle.schedule.specs.Schedule.{first_date, last_date, start_number}
@@ -23,8 +24,12 @@ is_start-requires c = omega (arith, dated c)
 
 pub returns-then-mjd : goal.returns-then-mjd
 unfolding start_number ◌when◌ ◌then◌
-returns-then-mjd c = simp c.if-mjd.true
+returns-then-mjd c = search rules
+
+pub returns-then-not-is_start : goal.returns-then-not-is_start
+unfolding start_number ◌when◌ ◌then◌
+returns-then-not-is_start c = search rules
 
 pub returns : goal.returns
 unfolding start_number ◌when◌ ◌then◌
-returns c = simp (c.if-mjd.false, c.when.ensures, c.is_start.ensures)
+returns c = search rules

@@ -1,89 +1,77 @@
 -- `version01::down` meets its contract: refused, it touches nothing; accepted, the line has all columns and there is room.
 -- Assumes nothing.
-use mathlib.Core.Path.{◌≡◌, sym, ap, ap₂, ◌∙◌}
-use mathlib.Core.Bool.{not}
+use mathlib.Core.Path.{◌≡◌, refl, sym, ap, subst, ◌∙◌}
+use mathlib.Core.Bool.{Bool, true, false, not}
 use mathlib.Core.List.{List}
-use Prim.Native.Nat.{ℕ, ◌≤◌, ◌<◌}
+use Prim.Native.Nat.{ℕ, ◌<◌}
 use native.Mathlib.Omega.{arith}
-use lib.Dec.{eqb}
+use lib.Dec.{eqb, ltb, lit<}
 use lib.ListN.{length}
+use borrow.Author.Tests.{eq-eqb, ne_eqb, lt-ltb, le-ltb}
+use Rattle.std.specs.Prelude.{Result, Ok}
+use Rattle.std.proofs.lemmas.Result.{err_from_is_err_and}
+use Rattle.limits.specs.Numbers.{paper_number, number_of}
 use Rattle.limits.specs.Refusal.{◌when◌, ◌then◌}
-use Rattle.limits.proofs.Laws.{then-zero, then-refused, then-passed, after-accepted, after-refused, room-passed}
+use Rattle.limits.specs.declared.refusal.Refusal.{Refusal}
+use Rattle.limits.proofs.Laws.{after-accepted, lent-kept}
+use Rattle.limits.proofs.Cases.{paper_above_zero, refused_here}
 use Rattle.labels.specs.declared.Labels.{Labels}
 use Rattle.columns.specs.Columns.{labels_with_lem, read_labels}
 use Rattle.reading.specs.declared.Reading.{Reading}
 use Rattle.reading.specs.Answers.{read_reply}
-use Rattle.reading.specs.Read.{read_number}
-use Rattle.reading.proofs.Readings.{accepted-case, accepted-values, refused-case, refused-number}
+use Rattle.reading.specs.Read.{read_rule}
+use Rattle.reading.proofs.Readings.{accepted-case, accepted-values, refused-number}
 use Rattle.reading.proofs.Refusals.{accepted}
 use Rattle.version01.specs.Convert.{down_answer, down_after, old_length}
-use Rattle.columns.specs.Text.{line_length}
-use Rattle.version01.proofs.down.Goals.{After-then-number, Then-number-eq0}
 use Rattle.version01.proofs.down.Goals as goal
 
--- a line that is not read has the reader's number
-unread : (line : List ℕ) (room : ℕ) → 0 < read_number line → read_number line ≡ down_answer line room
-unfolding down_answer
-unread line room h = sym (then-refused (read_number line) _ h)
-
-pub returns-in_default : goal.returns-in_default
+-- the lent line is kept at a refusal
+kept : {number : ℕ} (line lent : List ℕ) → 0 < number → number ≡ down_answer line (length lent) → lent ≡ down_after line lent
 unfolding down_after
-returns-in_default c =
-    let some = refused-case c.args.line.now c.in_default.is c.read-reading.ensures.answer c.read-reading.ensures.variant in
-    let number = c.reading_number.ensures ∙ ap (λ (r : Reading). (read_reply r).number) c.in_default.is ∙ refused-number c.args.line.now c.in_default.is c.read-reading.ensures.answer in
-    let answer = unread c.args.line.now (length c.args.old.now) some in
-    record {
-      answer = number ∙ answer;
-      written = sym (after-refused _ _ (λ z. above some (answer ∙ z)));
+kept line lent h e = lent-kept _ _ lent (subst (λ (n : ℕ). 0 < n) e h)
+
+-- the row by the answers of the tests, of a line that is read
+row_is : {reading : Reading} {r : Result Reading Refusal} {other short : Bool} (line : List ℕ) (room : ℕ) → r ≡ Ok reading → read_reply r ≡ read_rule line
+    → other ≡ not (eqb reading.labels.constellation 71) → short ≡ ltb room old_length → 25 when other then 9 when short ≡ down_answer line room
+unfolding down_answer read_labels labels_with_lem ◌then◌
+row_is line room is a e f =
+    let z = sym (accepted-case line is a) in
+    let o = e ∙ ap (λ (l : Labels). not (eqb l.constellation 71)) (accepted-values line is a).0 in
+    λ i. z i then 25 when o i then 9 when f i
+
+pub returns-in_err-reading : goal.returns-in_err-reading
+unfolding down_answer
+returns-in_err-reading c =
+    let p = err_from_is_err_and c.from_residual.result c.from_residual.ensures.1 in
+    let e = refused_here c.in_err-reading.field-0.0 _ (refused-number c.args.line.now c.in_err-reading.was c.read.ensures.answer) in record {
+      answer = ap number_of p.1 ∙ ap paper_number p.2 ∙ e;
+      written = kept c.args.line.now c.args.old.now (paper_above_zero c.in_err-reading.field-0.0) e;
     }
-  where
-    above : {n : ℕ} → 0 < n → n ≡ 0 → ⊥
-    above h e = omega arith
 
--- in a line that is read the letter is looked at, and then the room
-answer-is : (c : After-then-number) → c.then-number.result ≡ down_answer c.args.line.now (length c.args.old.now)
-unfolding down_answer read_labels labels_with_lem
-answer-is c =
-    c.then-number.ensures
-    ∙ ap₂ ◌then◌ (c.when-letter.ensures ∙ ap (λ (l : Labels). 25 when not (eqb l.constellation 71)) (accepted-values c.args.line.now c.in-Line.is c.read-reading.ensures.answer).0) c.when-room.ensures
-    ∙ sym (then-passed _ _ (accepted-case c.args.line.now c.in-Line.is c.read-reading.ensures.answer))
-
--- an accepted line has all columns, and there is room
-accepted-is : (line : List ℕ) (room : ℕ) → down_answer line room ≡ 0 → (line_length ≤ length line) × (old_length ≤ room)
-unfolding down_answer
-accepted-is line room e =
-    let read = then-zero _ _ e in
-    ((accepted line read.0).0.least, room-passed room old_length (then-zero _ _ read.1).1)
-
-passed : (c : Then-number-eq0) → down_answer c.args.line.now (length c.args.old.now) ≡ 0
-passed c = sym (answer-is (goal.at.Then-number-eq0 c).After-then-number) ∙ c.if-number-eq0.true
-
-pub slice_bounds-write-count : goal.slice_bounds-write-count
-slice_bounds-write-count c = omega (arith, (accepted-is _ _ (passed c)).0)
-
-pub slice_bounds-write-start : goal.slice_bounds-write-start
-slice_bounds-write-start c = omega (arith, (accepted-is _ _ (passed c)).0)
-
-pub slice_bounds-write-end : goal.slice_bounds-write-end
-slice_bounds-write-end c = omega (arith, (accepted-is _ _ (passed c)).0)
-
-pub write-requires : goal.write-requires
-write-requires c = let a = accepted-is _ _ (passed (goal.at.write-requires c).Then-number-eq0) in record {
-  in_bounds = omega (arith, a.0);
-  behind_in_bounds = a.1;
-}
-
-pub returns-then-number-eq0 : goal.returns-then-number-eq0
-unfolding down_after
-returns-then-number-eq0 c = record {
-  answer = answer-is (goal.at.returns-then-number-eq0 c).After-then-number;
-  written = c.write.ensures ∙ sym (after-accepted _ _ (passed (goal.at.returns-then-number-eq0 c).Then-number-eq0));
-}
-
-pub returns-else-number-eq0 : goal.returns-else-number-eq0
-unfolding down_after
-returns-else-number-eq0 c =
-    let e = answer-is (goal.at.returns-else-number-eq0 c).After-then-number in record {
+pub returns-then-reading-ne71 : goal.returns-then-reading-ne71
+unfolding ◌when◌ ◌then◌
+returns-then-reading-ne71 c =
+    let e = row_is {other = true} c.args.line.now (length c.args.old.now) c.in_ok-reading.was c.read.ensures.answer (sym (ap not (ne_eqb _ 71 c.if-reading-ne71.true))) refl in record {
       answer = e;
-      written = sym (after-refused _ _ (λ z. c.if-number-eq0.false (e ∙ z)));
+      written = kept c.args.line.now c.args.old.now (lit< tt) e;
+    }
+
+pub returns-then-old-lt-OLD_LENGTH : goal.returns-then-old-lt-OLD_LENGTH
+unfolding ◌when◌ ◌then◌
+returns-then-old-lt-OLD_LENGTH c =
+    let e = row_is {other = false} {short = true} c.args.line.now (length c.args.old.now) c.in_ok-reading.was c.read.ensures.answer (sym (ap not (eq-eqb _ 71 c.if-reading-ne71.false))) (sym (lt-ltb _ 103 c.if-old-lt-OLD_LENGTH.true)) in record {
+      answer = e;
+      written = kept c.args.line.now c.args.old.now (lit< tt) e;
+    }
+
+pub write-requires-clause-in_bounds : goal.write-requires-clause-in_bounds
+write-requires-clause-in_bounds c =
+    omega (arith, (accepted c.args.line.now (accepted-case c.args.line.now c.in_ok-reading.was c.read.ensures.answer)).0.least)
+
+pub returns : goal.returns
+unfolding down_after ◌when◌ ◌then◌
+returns c =
+    let e = row_is {other = false} {short = false} c.args.line.now (length c.args.old.now) c.in_ok-reading.was c.read.ensures.answer (sym (ap not (eq-eqb _ 71 c.if-reading-ne71.false))) (sym (le-ltb _ 103 c.if-old-lt-OLD_LENGTH.false)) in record {
+      answer = e;
+      written = c.write.ensures ∙ sym (after-accepted _ _ (sym e));
     }

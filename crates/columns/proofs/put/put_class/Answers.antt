@@ -9,4 +9,4 @@ use Rattle.columns.proofs.put.put_class.Goals as goal
 
 pub returns : goal.returns
 returns c =
-    onto c.requires (omega arith) (ap (λ (n : ℕ). 4 + n) (length-hexadecimal c.args.cl)) c.put_hexadecimal.ensures c.put_byte.ensures
+    onto _ _ _ c.told-line (omega arith) (ap (λ (n : ℕ). 4 + n) (length-hexadecimal c.args.cl)) c.put_hexadecimal.ensures c.put_byte.ensures

@@ -23,18 +23,15 @@ pub returns : goal.returns
 unfolding clock_columns
 returns c =
     let f = numbers_fit (goal.at.returns c).Start in
-    record {
-      is = end
-          (column (length-decimal 4 _)
-          (column (length-signed 6 _)
-          (column (length-signed 11 _)
-          (column (length-signed 6 _)
-          (column (length-signed 11 _)
-          (begin (clock_columns c.args.numbers) c.args.line.now 34 c.requires (omega arith))
-          (simp (to_z-of_z f.0) at c.put_signed.ensures))
-          (simp (to_z-of_z f.1) at c.put_signed-2.ensures))
-          (simp (to_z-of_z f.2) at c.put_signed-3.ensures))
-          (simp (to_z-of_z f.3) at c.put_signed-4.ensures))
-          (simp (c.magnitude.ensures, to_z-of_z f.4) at c.put_decimal.ensures));
-      long = c.put_decimal.ensures.long;
-    }
+    end
+    (column (length-decimal 4 _)
+    (column (length-signed 6 _)
+    (column (length-signed 11 _)
+    (column (length-signed 6 _)
+    (column (length-signed 11 _)
+    (begin (clock_columns c.args.numbers) c.args.line.now 34 c.told-line (omega arith))
+    (simp (to_z-of_z f.0) at c.put_signed.ensures))
+    (simp (to_z-of_z f.1) at c.put_signed-2.ensures))
+    (simp (to_z-of_z f.2) at c.put_signed-3.ensures))
+    (simp (to_z-of_z f.3) at c.put_signed-4.ensures))
+    (simp (c.unsigned_abs.ensures.value, to_z-of_z f.4) at c.put_decimal.ensures))

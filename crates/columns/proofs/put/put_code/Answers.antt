@@ -7,6 +7,6 @@ use Rattle.columns.proofs.put.put_code.Goals as goal
 
 pub returns : goal.returns
 returns c =
-    onto c.requires (omega arith) refl c.put_byte.ensures
-    (onto c.put_byte.ensures.long (omega arith) refl c.put_byte-2.ensures
-    (onto c.put_byte-2.ensures.long (omega arith) refl c.put_byte-3.ensures c.put_byte-4.ensures))
+    onto _ _ _ c.told-line (omega arith) refl c.put_byte.ensures
+    (onto _ _ _ c.put_byte.array_long (omega arith) refl c.put_byte-2.ensures
+    (onto _ _ _ c.put_byte-2.array_long (omega arith) refl c.put_byte-3.ensures c.put_byte-4.ensures))

@@ -9,5 +9,5 @@ use Rattle.columns.proofs.put.put_decimal.Goals as goal
 
 pub returns : goal.returns
 returns c =
-    onto c.requires.0 (omega arith) (ap (λ (n : ℕ). c.args.at + n) (length-decimal c.args.width c.args.value))
+    onto _ _ _ c.told-line (omega arith) (ap (λ (n : ℕ). c.args.at + n) (length-decimal c.args.width c.args.value))
     c.put_digits.ensures c.put_byte.ensures

@@ -23,24 +23,21 @@ pub returns : goal.returns
 unfolding delay_columns
 returns c =
     let f = numbers_fit (goal.at.returns c).Start in
-    record {
-      is = end
-          (column {width = 3} refl
-          (column (length-decimal 2 _)
-          (column (length-decimal 2 _)
-          (column (length-signed 4 _)
-          (column (length-decimal 4 _)
-          (column (length-signed 4 _)
-          (column (length-decimal 4 _)
-          (column (length-decimal 3 _)
-          (begin (delay_columns c.args.labels c.args.numbers) c.args.line.now 77 c.requires (omega arith))
-          c.put_decimal.ensures)
-          (simp (c.magnitude.ensures, to_z-of_z f.0) at c.put_decimal-2.ensures))
-          (simp (to_z-of_z f.1, to_z-of_z f.3) at c.put_signed.ensures))
-          (simp (c.magnitude-2.ensures, to_z-of_z f.2) at c.put_decimal-3.ensures))
-          (simp (to_z-of_z f.1, to_z-of_z f.3) at c.put_signed-2.ensures))
-          c.put_decimal-4.ensures)
-          c.put_decimal-5.ensures)
-          c.put_code.ensures);
-      long = c.put_code.ensures.long;
-    }
+    end
+    (column {width = 3} refl
+    (column (length-decimal 2 _)
+    (column (length-decimal 2 _)
+    (column (length-signed 4 _)
+    (column (length-decimal 4 _)
+    (column (length-signed 4 _)
+    (column (length-decimal 4 _)
+    (column (length-decimal 3 _)
+    (begin (delay_columns c.args.labels c.args.numbers) c.args.line.now 77 c.told-line (omega arith))
+    c.put_decimal.ensures)
+    (simp (c.unsigned_abs.ensures.value, to_z-of_z f.0) at c.put_decimal-2.ensures))
+    (simp (to_z-of_z f.1, to_z-of_z f.3) at c.put_signed.ensures))
+    (simp (c.unsigned_abs-2.ensures.value, to_z-of_z f.2) at c.put_decimal-3.ensures))
+    (simp (to_z-of_z f.1, to_z-of_z f.3) at c.put_signed-2.ensures))
+    c.put_decimal-4.ensures)
+    c.put_decimal-5.ensures)
+    c.put_code.ensures)

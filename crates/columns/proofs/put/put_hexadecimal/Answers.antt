@@ -9,6 +9,6 @@ use Rattle.columns.proofs.put.put_hexadecimal.Goals as goal
 pub returns : goal.returns
 unfolding hexadecimal
 returns c =
-    onto c.requires.0 (omega arith) refl
+    onto _ _ _ c.told-line (omega arith) refl
     (simp c.hex_digit.ensures at c.put_byte.ensures)
     (simp c.hex_digit-2.ensures at c.put_byte-2.ensures)

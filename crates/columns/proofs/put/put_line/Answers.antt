@@ -1,8 +1,5 @@
 -- `columns::put::put_line` meets its contract: the three groups of columns make all of them, whose sum the last two columns hold.
 -- Assumes nothing.
-use mathlib.Core.Path.{sym}
-use native.Mathlib.Omega.{arith}
-use lib.Seq.{length-take-le}
 use mir.Syntax.{w64}
 use mir.Val.{SFits}
 use mir.Facts.{to_z-of_z}
@@ -11,15 +8,12 @@ use borrow.Author.Rules.{rules}
 use Rattle.columns.proofs.put.put_line.Goals.{Start}
 use Rattle.columns.proofs.put.put_line.Goals as goal
 
-pub slice_bounds-checksum-end-2 : goal.slice_bounds-checksum-end-2
-slice_bounds-checksum-end-2 c = sym (length-take-le _ c.put_delays.new.line (omega (arith, c.put_delays.ensures.long)))
-
 trkl-fits : (c : Start) → SFits w64 c.args.numbers.trkl
 trkl-fits c = search rules
 
 pub returns : goal.returns
 returns c =
-    text-is c.args.labels c.args.numbers c.args.line.now c.requires
+    text-is c.args.labels c.args.numbers c.args.line.now c.told-line
     (simp (to_z-of_z (trkl-fits (goal.at.returns c).Start)) at c.put_track.ensures)
     c.put_clocks.ensures
     c.put_delays.ensures

@@ -7,4 +7,4 @@ use Rattle.columns.proofs.put.put_satellite.Goals as goal
 
 pub returns : goal.returns
 returns c =
-    onto c.requires (omega arith) refl c.put_byte.ensures c.put_decimal.ensures
+    onto _ _ _ c.told-line (omega arith) refl c.put_byte.ensures c.put_decimal.ensures

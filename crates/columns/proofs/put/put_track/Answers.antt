@@ -13,22 +13,19 @@ use Rattle.columns.proofs.put.put_track.Goals as goal
 pub returns : goal.returns
 unfolding track_columns
 returns c =
-    record {
-      is = end
-          (column (length-decimal 4 _)
-          (column (length-decimal 3 _)
-          (column (length-decimal 4 _)
-          (column (length-time _)
-          (column (length-decimal 5 _)
-          (column (length-hexadecimal _)
-          (column (ap suc (length-decimal 2 _))
-          (begin (track_columns c.args.labels c.args.trkl) c.args.line.now 0 c.requires (omega arith))
-          c.put_satellite.ensures)
-          c.put_class.ensures)
-          c.put_decimal.ensures)
-          c.put_time.ensures)
-          (simp (c.magnitude.ensures, to_z-of_z c.ranges.trkl) at c.put_decimal-2.ensures))
-          c.put_decimal-3.ensures)
-          c.put_decimal-4.ensures);
-      long = c.put_decimal-4.ensures.long;
-    }
+    end
+    (column (length-decimal 4 _)
+    (column (length-decimal 3 _)
+    (column (length-decimal 4 _)
+    (column (length-time _)
+    (column (length-decimal 5 _)
+    (column (length-hexadecimal _)
+    (column (ap suc (length-decimal 2 _))
+    (begin (track_columns c.args.labels c.args.trkl) c.args.line.now 0 c.told-line (omega arith))
+    c.put_satellite.ensures)
+    c.put_class.ensures)
+    c.put_decimal.ensures)
+    c.put_time.ensures)
+    (simp (c.unsigned_abs.ensures.value, to_z-of_z c.ranges.trkl) at c.put_decimal-2.ensures))
+    c.put_decimal-3.ensures)
+    c.put_decimal-4.ensures)

@@ -1,213 +1,235 @@
--- `correcting::correction::correct_blocks` meets its contract: after j turns the first j blocks are inside, and their values stand in the rows.
+-- `correcting::correction::correct_blocks` meets its contract: after so many turns the blocks so far are inside, and their values stand in the rows.
 -- Assumes nothing.
-use borrow.Author.Rules.{rules}
-use mathlib.Core.Path.{◌≡◌, refl, sym, ap, ◌∙◌, subst}
-use mathlib.Core.Bool.{false}
-use Prim.Native.Nat.{ℕ, ◌+◌, ◌*◌, ◌-◌, ◌≤◌, ◌<◌}
-use native.Mathlib.Nat.{le_antisymm}
+use mathlib.Core.Path.{◌≡◌, refl, sym, ap, ap₂, ◌∙◌, subst}
+use mathlib.Core.Bool.{true, false}
+use mathlib.Core.List.{List}
+use mathlib.Core.Logic.{inl}
+use Prim.Native.Nat.{ℕ, ◌+◌, ◌*◌, ◌/◌, ◌^◌, ◌≤◌, ◌<◌}
+use native.Mathlib.Nat.{div-le_self}
 use native.Mathlib.Omega.{arith}
-use lib.IntN.{ℤ, pos, nat_abs}
-use lib.ListN.{length, take, drop}
+use lib.IntN.{ℤ, pos}
+use lib.ListN.{length, take, drop, length-drop}
 use mir.Syntax.{w64}
-use mir.Val.{SFits, to_z, of_z}
-use mir.Facts.{to_z-of_z}
-use Rattle.whole.proofs.Words.{Word, known, equal, read, bound}
-use Rattle.limits.specs.Limits.{measurement_limit, measurement_least, measurement_most}
-use Rattle.limits.specs.Lists.{any_beyond_lem}
-use Rattle.limits.specs.Scan.{read_to, scan_rule}
-use Rattle.limits.specs.declared.Scanned.{Scanned}
-use Rattle.series.specs.declared.Smoothed.{Smoothed}
-use Rattle.series.specs.Answers.{smooth_reply}
+use mir.Val.{to_z, of_z}
+use Rattle.std.specs.Prelude.{Ok, Err}
+use Rattle.std.specs.Iterator.Adapters.{enumerate_source, enumerate_count}
+use Rattle.std.specs.Slice.Iter.{chunks_exact_rest, chunks_exact_size}
+use Rattle.limits.specs.Limits.{delay_limit, measurement_limit, measurement_least, measurement_most}
+use Rattle.limits.specs.Lists.{any_outside_lem, any_beyond_lem}
+use Rattle.limits.specs.Numbers.{reply_of}
+use Rattle.limits.specs.Scan.{read_to}
 use Rattle.series.specs.Smooth.{smoothed, smooth_rule}
-use Rattle.series.proofs.Replies.{smooth-cases}
-use Rattle.series.proofs.Weights.{most_smoothed}
 use Rattle.whole.specs.Table.{at}
-use Rattle.exact.specs.Corrected.{Given, steps, block, to_a, to_b}
-use Rattle.correcting.specs.declared.Corrected.{Corrected}
-use Rattle.correcting.specs.Correct.{given, blocks, smoothed_at, value_a, value_b, value_c, value_d}
-use Rattle.correcting.specs.Answer.{whole_blocks}
+use Rattle.exact.specs.Corrected.{Given}
+use Rattle.limits.proofs.Lists.{within-limit}
+use Rattle.correcting.specs.declared.correction.Values.{Values}
+use Rattle.correcting.specs.declared.inputs.Group.{Group}
+use Rattle.correcting.specs.Correct.{blocks, geometry_limit, value_a, value_b, value_c, value_d}
+use Rattle.correcting.specs.Given.{given_of}
+use Rattle.correcting.specs.Block.{values_of}
+use Rattle.whole.proofs.Words.{Word, known, equal, read, back, bound}
 use Rattle.correcting.proofs.Arrays.{filled_none, filled_more}
+use Rattle.correcting.proofs.Groups.{block-values}
 use Rattle.correcting.proofs.Blocks.{part-value, part-bound}
-use Rattle.correcting.proofs.Parts.{Passed, part-read, part-most, none_passed, passed, found, found-blocks, done, done-blocks}
-use Rattle.correcting.proofs.Refusals.{Sized, sized, Others, others}
-use Rattle.correcting.proofs.correction.correct_blocks.Invariants.{Rows}
-use Rattle.correcting.proofs.correction.correct_blocks.Goals.{After-corrected_at-values, After-scan-seen, After-smooth-answer, At-loop-j, Else-seen, In-Value, In-loop-j, Start}
+use Rattle.correcting.proofs.Parts.{Passed, none_passed, passed, cut, scan_tells, scan_passes, found, found-blocks, done, done-blocks, part-most}
+use Rattle.correcting.proofs.Refusals.{Sized, sized, others}
+use Rattle.correcting.proofs.correction.correct_blocks.Invariants.{AreFilled}
+use Rattle.correcting.proofs.correction.correct_blocks.Goals.{After-corrected, After-smooth, After-unwrap-smoothed, In-Err, In-Some, Start}
 use Rattle.correcting.proofs.correction.correct_blocks.Goals as goal
 
--- what the track is given, as it is passed and as it is read back
+-- what the track is given
 abbrev g : Start → Given
-g c =
-    given c.args.measurements.now c.args.int c.args.cab c.args.refdly c.args.gd c.args.geometry.now c.args.relativity.now c.args.ionosphere.now
-    c.args.troposphere.now c.args.clock.now
-
-abbrev h : Start → Given
-h c =
-    given c.args.measurements.now (to_z w64 (of_z w64 c.args.int)) (to_z w64 (of_z w64 c.args.cab)) (to_z w64 (of_z w64 c.args.refdly)) (to_z w64 (of_z w64 c.args.gd))
-    c.args.geometry.now c.args.relativity.now c.args.ionosphere.now c.args.troposphere.now c.args.clock.now
-
-same : (c : Start) → h c ≡ g c
-same c =
-    let i : to_z w64 (of_z w64 c.args.int) ≡ c.args.int = to_z-of_z c.ranges.int in
-    let k : to_z w64 (of_z w64 c.args.cab) ≡ c.args.cab = to_z-of_z c.ranges.cab in
-    let r : to_z w64 (of_z w64 c.args.refdly) ≡ c.args.refdly = to_z-of_z c.ranges.refdly in
-    let d : to_z w64 (of_z w64 c.args.gd) ≡ c.args.gd = to_z-of_z c.ranges.gd in
-    λ z. given c.args.measurements.now (i z) (k z) (r z) (d z) c.args.geometry.now c.args.relativity.now c.args.ionosphere.now c.args.troposphere.now c.args.clock.now
+g c = given_of c.args.measurements.now c.args.delays c.args.corrections
 
 sizes : (c : Start) → Sized (g c)
 sizes c = sized (g c) c.requires.sizes_right
 
-limits : (c : Start) → Others (g c)
-limits c = others (g c) c.requires.others_inside
+-- few chunks are left
+left : (count rest size : ℕ) → count + rest < 2 ^ 64 → count + rest / size < 2 ^ 64
+left count rest size h = omega (arith, div-le_self rest size)
 
--- the delays
-abbrev words : (c : Start) → Word c.args.int × Word c.args.cab × Word c.args.refdly × Word c.args.gd
-words c = let l = limits c in (known l.in-int, known l.in-cab, known l.in-refdly, known l.in-gd)
+-- the block of this turn, its place, and what the turns before have left
+record Here (c : In-Some) : Type 0 where
+  is : c.in-Some.block.now ≡ take 15 (drop (15 * c.in-Some.j) c.args.measurements.now)
+  room : 15 * c.in-Some.j + 15 ≤ length c.args.measurements.now
+  before : Passed c.args.measurements.now c.in-Some.j
+  rows : AreFilled (g (goal.at.In-Some c).Start) c.in-Some.j c.args.rows.now c.loop-j.rows
 
--- the rows at the end, of which the invariant speaks
-rows : (c : At-loop-j) (k : ℕ) → c.loop-j.j ≡ k
-    → Rows (g (goal.at.At-loop-j c).Start) k c.args.a.now c.args.b.now c.args.c.now c.args.d.now c.loop-j.a c.loop-j.b c.loop-j.c c.loop-j.d
-rows c k e =
-    let l = c.loop-j in
-    subst (λ (m : ℕ). Rows (g (goal.at.At-loop-j c).Start) m c.args.a.now c.args.b.now c.args.c.now c.args.d.now l.a l.b l.c l.d) e
-    (subst (λ (t : Given). Rows t l.j c.args.a.now c.args.b.now c.args.c.now c.args.d.now l.a l.b l.c l.d) (same (goal.at.At-loop-j c).Start) l.invariant.4)
+here : (c : In-Some) → Here c
+here c =
+    let s = c.in-Some.ensures.steps in
+    let i = c.loop-j.invariant in
+    let j : enumerate_count c.loop-j.j-iterator ≡ c.in-Some.j = sym s.1 in
+    let t = cut c.args.measurements.now c.in-Some.block.now _ (enumerate_count c.loop-j.j-iterator) (sym i.rest ∙ s.0.1.0) (s.0.1.1 ∙ i.size) i.few in
+    record {
+      is = t.0 ∙ ap (λ (k : ℕ). take 15 (drop (15 * k) c.args.measurements.now)) j;
+      room = subst (λ (k : ℕ). 15 * k + 15 ≤ length c.args.measurements.now) j t.2;
+      before = subst (Passed c.args.measurements.now) j i.inside;
+      rows = subst (λ (k : ℕ). AreFilled (g (goal.at.In-Some c).Start) k c.args.rows.now c.loop-j.rows) j i.rows;
+    }
 
--- what the scan of this block answers
-scanned : (c : After-scan-seen)
-    → c.scan-seen.result ≡ scan_rule measurement_least measurement_most (take 15 (drop (15 * c.loop-j.j) c.args.measurements.now))
-scanned c =
-    let e : 15 * c.loop-j.j + 15 - 15 * c.loop-j.j ≡ 15 = omega arith in
-    subst (λ (k : ℕ). c.scan-seen.result ≡ scan_rule measurement_least measurement_most (take k (drop (15 * c.loop-j.j) c.args.measurements.now))) e c.scan-seen.ensures
+-- the same block, where the scan has passed it
+inside : (c : After-smooth)
+    → any_beyond_lem measurement_limit (take 15 (drop (15 * c.in-Some.j) c.args.measurements.now)) ≡ false
+inside c =
+    subst (λ (l : List ℤ). any_beyond_lem measurement_limit l ≡ false) (here (goal.at.After-smooth c).In-Some).is
+    (scan_passes _ _ c.in-Some.block.now c.scan.ensures c.in_default.not-Err)
 
-any-is : (c : After-scan-seen)
-    → c.scan-seen.result.outside ≡ any_beyond_lem measurement_limit (take 15 (drop (15 * c.loop-j.j) c.args.measurements.now))
-unfolding scan_rule
-any-is c = ap (λ (s : Scanned). s.outside) (scanned c)
+-- its smoothed value
+abbrev value : (c : In-Some) → ℤ
+value c = smoothed (λ i. at c.args.measurements.now (15 * c.in-Some.j + i))
 
-read_is : (c : After-scan-seen)
-    → c.scan-seen.result.read ≡ read_to measurement_least measurement_most (take 15 (drop (15 * c.loop-j.j) c.args.measurements.now))
-unfolding scan_rule
-read_is c = ap (λ (s : Scanned). s.read) (scanned c)
-
--- the block lies within the measurements
-room : (c : In-loop-j) → 15 * c.loop-j.j + 15 ≤ length c.args.measurements.now
-room c = omega (arith, c.loop-j.invariant.1.size-measurements, c.loop-j-test.true)
-
--- where the scan has passed
-inside : (c : Else-seen)
-    → any_beyond_lem measurement_limit (take 15 (drop (15 * c.loop-j.j) c.args.measurements.now)) ≡ false
-inside c = sym (any-is (goal.at.Else-seen c).After-scan-seen) ∙ c.if-seen.false
-
-all_read : (c : Else-seen) → c.scan-seen.result.read ≡ 15
-all_read c =
-    read_is (goal.at.Else-seen c).After-scan-seen ∙ part-read c.args.measurements.now c.loop-j.j (room (goal.at.Else-seen c).In-loop-j) (inside c)
-
--- what Smooth answers
-answered : (c : After-smooth-answer)
-    → c.smooth-answer.result ≡ Smoothed.Value (smoothed (λ i. at c.args.measurements.now (15 * c.loop-j.j + i)))
+answered : (c : After-smooth) → c.smooth.result ≡ Ok (value (goal.at.After-smooth c).In-Some)
 answered c =
-    let e : 15 * c.loop-j.j + 15 - 15 * c.loop-j.j ≡ 15 = omega arith in
-    part-value c.args.measurements.now (15 * c.loop-j.j) (room (goal.at.After-smooth-answer c).In-loop-j) (inside (goal.at.After-smooth-answer c).Else-seen) c.smooth-answer.result
-    (subst (λ (i : ℕ). smooth_reply c.smooth-answer.result ≡ smooth_rule (take i (drop (15 * c.loop-j.j) c.args.measurements.now))) e c.smooth-answer.ensures.answer) c.smooth-answer.ensures.variant
+    let h = here (goal.at.After-smooth c).In-Some in
+    part-value c.args.measurements.now (15 * c.in-Some.j) h.room (inside c) c.smooth.result
+    (subst (λ (l : List ℤ). reply_of (pos 0) c.smooth.result ≡ smooth_rule l) h.is c.smooth.ensures.answer)
 
-read-most : (c : After-scan-seen) → c.scan-seen.result.read ≤ 15
-read-most c =
-    subst (λ (k : ℕ). k ≤ 15) (sym (read_is c)) (part-most c.args.measurements.now c.loop-j.j)
+unwrapped : (c : After-unwrap-smoothed) → c.unwrap-smoothed.result ≡ value (goal.at.After-unwrap-smoothed c).In-Some
+unwrapped c = cc (answered (goal.at.After-unwrap-smoothed c).After-smooth, c.unwrap-smoothed.ensures)
 
--- the smoothed value of the block
-abbrev value-at : At-loop-j → ℤ
-value-at n = smoothed (λ i. at n.args.measurements.now (15 * n.loop-j.j + i))
+abbrev value-word : (c : After-unwrap-smoothed) → Word c.unwrap-smoothed.result
+value-word c =
+    let s = (goal.at.After-unwrap-smoothed c).After-smooth in
+    equal (unwrapped c) (known (part-bound c.args.measurements.now (15 * c.in-Some.j) (here (goal.at.After-smooth s).In-Some).room (inside s)))
 
-value-bound : (c : Else-seen) → nat_abs (value-at (goal.at.Else-seen c).At-loop-j) ≤ most_smoothed
-value-bound c =
-    part-bound c.args.measurements.now (15 * c.loop-j.j) (room (goal.at.Else-seen c).In-loop-j) (inside c)
-
-smooth-is : (c : In-Value)
-    → to_z w64 (of_z w64 c.in-Value.value) ≡ value-at (goal.at.In-Value c).At-loop-j
-smooth-is c =
-    let fits : SFits w64 c.in-Value.value = search rules in
-    let back : to_z w64 (of_z w64 c.in-Value.value) ≡ c.in-Value.value = to_z-of_z fits in
-    let same : c.in-Value.value ≡ value-at (goal.at.In-Value c).At-loop-j = cc (answered (goal.at.In-Value c).After-smooth-answer) in
-    back ∙ same
-
--- the block's corrected values
-values-are : (c : After-corrected_at-values)
-    → (c.corrected_at-values.result.a ≡ value_a (h (goal.at.After-corrected_at-values c).Start) c.loop-j.j) × (c.corrected_at-values.result.b ≡ value_b (h (goal.at.After-corrected_at-values c).Start) c.loop-j.j) × (c.corrected_at-values.result.c ≡ value_c (h (goal.at.After-corrected_at-values c).Start) c.loop-j.j) × (c.corrected_at-values.result.d ≡ value_d (h (goal.at.After-corrected_at-values c).Start) c.loop-j.j)
-unfolding value_a value_b value_c value_d smoothed_at block to_a to_b
-values-are c =
-    let y = smooth-is (goal.at.After-corrected_at-values c).In-Value in
-    (c.corrected_at-values.ensures.0 ∙ ap (to_a (h (goal.at.After-corrected_at-values c).Start) (pos steps) c.loop-j.j) y, c.corrected_at-values.ensures.1 ∙ ap (to_b (h (goal.at.After-corrected_at-values c).Start) (pos steps) c.loop-j.j) y, c.corrected_at-values.ensures.2, c.corrected_at-values.ensures.3)
+-- where it is not: what the scan has read
+stopped : (c : In-Err) → (any_outside_lem measurement_least measurement_most c.in-Some.block.now ≡ true)
+    × (c.in-Err.read ≡ read_to measurement_least measurement_most c.in-Some.block.now)
+stopped c =
+    scan_tells _ _ c.in-Some.block.now {r = Err c.in-Err.read} c.in-Err.ensures
 
 pub loop-j-init : goal.loop-j-init
 loop-j-init c =
-    (search rules, subst Sized (sym (same c)) (sizes c), refl, none_passed _, (filled_none _ _, (filled_none _ _, (filled_none _ _, filled_none _ _))))
-
-pub overflow_add-read : goal.overflow_add-read
-overflow_add-read c = record { fits = omega (arith, c.loop-j.invariant.2, read-most (goal.at.overflow_add-read c).After-scan-seen, room (goal.at.overflow_add-read c).In-loop-j) }
-
-pub returns-then-seen : goal.returns-then-seen
-returns-then-seen c =
-    let r = room (goal.at.returns-then-seen c).In-loop-j in
-    let o = sym (any-is (goal.at.returns-then-seen c).After-scan-seen) ∙ c.if-seen.true in
-    let w = rows (goal.at.returns-then-seen c).At-loop-j (whole_blocks c.args.measurements.now) (sym (found-blocks c.args.measurements.now c.loop-j.j r c.loop-j.invariant.3 o)) in record {
-      answer = (λ z. Corrected.Refused 2 (c.loop-j.invariant.2 z + read_is (goal.at.returns-then-seen c).After-scan-seen z)) ∙ found c.args.measurements.now c.loop-j.j r c.loop-j.invariant.3 o;
-      a_after = w.0;
-      b_after = w.1.0;
-      c_after = w.1.1.0;
-      d_after = w.1.1.1;
+    let e = c.into_iter-j-iterator.ensures.into_iter_gives in
+    let count : enumerate_count c.into_iter-j-iterator.result ≡ 0 = ap enumerate_count e ∙ c.enumerate-j-items.ensures.count in
+    let source : enumerate_source c.into_iter-j-iterator.result ≡ c.chunks_exact.result = ap enumerate_source e ∙ c.enumerate-j-items.ensures.source in
+    let size : chunks_exact_size (enumerate_source c.into_iter-j-iterator.result) ≡ 15 = ap chunks_exact_size source ∙ c.chunks_exact.ensures.size in
+    let rest : chunks_exact_rest (enumerate_source c.into_iter-j-iterator.result) ≡ c.args.measurements.now = ap chunks_exact_rest source ∙ c.chunks_exact.ensures.rest in
+    record {
+      next = (omega arith, tt, inl (left _ _ _ (omega (arith, ap length rest, sizes (goal.at.loop-j-init c).Start))));
+      finite = tt;
+      size = size;
+      rest = rest ∙ ap (λ (k : ℕ). drop (15 * k) c.args.measurements.now) (sym count);
+      few = omega (arith, count);
+      inside = subst (Passed c.args.measurements.now) (sym count) (none_passed c.args.measurements.now);
+      rows =
+          subst (λ (k : ℕ). AreFilled (g (goal.at.loop-j-init c).Start) k c.args.rows.now c.args.rows.now) (sym count) (record {
+            a_is = filled_none _ _;
+            b_is = filled_none _ _;
+            c_is = filled_none _ _;
+            d_is = filled_none _ _;
+          });
     }
 
-pub returns-in_default : goal.returns-in_default
-returns-in_default c = absurd (smooth-cases (answered (goal.at.returns-in_default c).After-smooth-answer) c.in_default.is)
+pub overflow_add-result : goal.overflow_add-result
+overflow_add-result c =
+    let z = sizes (goal.at.overflow_add-result c).Start in
+    let h = here (goal.at.overflow_add-result c).In-Some in
+    let most = part-most c.args.measurements.now c.in-Some.j in
+    let read : c.in-Err.read ≤ 15 = subst (λ (k : ℕ). k ≤ 15) (sym (stopped c).1) (subst (λ (l : List ℤ). read_to measurement_least measurement_most l ≤ 15) (sym h.is) most) in
+    omega arith
 
-pub corrected_at-values-requires : goal.corrected_at-values-requires
-corrected_at-values-requires c =
-    let d = words (goal.at.corrected_at-values-requires c).Start in
-    let l = limits (goal.at.corrected_at-values-requires c).Start in
-    let z = sizes (goal.at.corrected_at-values-requires c).Start in
-    let y : Word (value-at (goal.at.corrected_at-values-requires c).At-loop-j) = known (value-bound (goal.at.corrected_at-values-requires c).Else-seen) in
-    let h : c.loop-j.j < blocks (g (goal.at.corrected_at-values-requires c).Start) = c.loop-j-test.true in record {
-      smoothed_and_delays = (bound (equal (smooth-is c) y) tt, bound (read d.0) tt, bound (read d.1) tt, bound (read d.2) tt, bound (read d.3) tt);
-      geometry_inside = (h, l.in-geometry);
-      relativity_inside = (subst (λ (m : ℕ). c.loop-j.j < m) (sym z.size-relativity) h, l.in-relativity);
-      ionosphere_inside = (subst (λ (m : ℕ). c.loop-j.j < m) (sym z.size-ionosphere) h, l.in-ionosphere);
-      troposphere_inside = (subst (λ (m : ℕ). c.loop-j.j < m) (sym z.size-troposphere) h, l.in-troposphere);
-      clock_inside = (subst (λ (m : ℕ). c.loop-j.j < m) (sym z.size-clock) h, l.in-clock);
+pub returns-in-Err : goal.returns-in-Err
+returns-in-Err c =
+    let h = here (goal.at.returns-in-Err c).In-Some in
+    let s = subst (λ (l : List ℤ). (any_outside_lem measurement_least measurement_most l ≡ true) × (c.in-Err.read ≡ read_to measurement_least measurement_most l)) h.is (stopped c) in
+    let e = found-blocks c.args.measurements.now c.in-Some.j h.room h.before s.0 in
+    let rows = subst (λ (k : ℕ). AreFilled (g (goal.at.returns-in-Err c).Start) k c.args.rows.now c.loop-j.rows) (sym e) h.rows in record {
+      answer = ap (λ (k : ℕ). (2, 15 * c.in-Some.j + k)) s.1 ∙ found c.args.measurements.now c.in-Some.j h.room h.before s.0;
+      a_after = rows.a_is;
+      b_after = rows.b_is;
+      c_after = rows.c_is;
+      d_after = rows.d_is;
     }
 
-pub put-requires : goal.put-requires
-put-requires c = omega (arith, c.loop-j-test.true, c.loop-j.invariant.1.size-blocks)
+pub unwrap-smoothed-requires : goal.unwrap-smoothed-requires
+unwrap-smoothed-requires c = rw (answered (goal.at.unwrap-smoothed-requires c).After-smooth) refl
 
-pub overflow_add-j : goal.overflow_add-j
-overflow_add-j c = record { fits = omega (arith, c.loop-j-test.true, c.loop-j.invariant.1.size-blocks) }
+pub group-requires : goal.group-requires
+group-requires c =
+    let z = sizes (goal.at.group-requires c).Start in
+    let room = (here (goal.at.group-requires c).In-Some).room in (omega arith, omega arith, omega arith, omega arith, omega arith)
+
+pub corrected-requires : goal.corrected-requires
+corrected-requires c =
+    let o = others (g (goal.at.corrected-requires c).Start) c.requires.others_inside in
+    let k = c.args.corrections in
+    let j = c.in-Some.j in
+    record {
+      smoothed_and_delays = (
+        bound (read (value-word (goal.at.corrected-requires c).After-unwrap-smoothed)) tt,
+        record { within = o.in-int },
+        record { within = o.in-cab },
+        record { within = o.in-refdly },
+        record { within = o.in-gd },
+      );
+      corrections =
+          rw c.group.ensures (
+            record { within = within-limit geometry_limit k.geometry.now o.in-geometry j },
+            record { within = within-limit delay_limit k.relativity.now o.in-relativity j },
+            record { within = within-limit delay_limit k.ionosphere.now o.in-ionosphere j },
+            record { within = within-limit delay_limit k.troposphere.now o.in-troposphere j },
+            record { within = within-limit delay_limit k.clock.now o.in-clock j },
+          );
+    }
+
+-- the values of the block
+valued : (c : After-corrected)
+    → let t = g (goal.at.After-corrected c).Start in
+    c.corrected.result ≡ record { a = value_a t c.in-Some.j; b = value_b t c.in-Some.j; c = value_c t c.in-Some.j; d = value_d t c.in-Some.j }
+valued c =
+    let u = (goal.at.After-corrected c).After-unwrap-smoothed in
+    let y : to_z w64 (of_z w64 c.unwrap-smoothed.result) ≡ value (goal.at.After-unwrap-smoothed u).In-Some = back (value-word u) tt ∙ unwrapped u in
+    c.corrected.ensures
+    ∙ ap₂ (λ (z : ℤ) (group : Group). values_of z c.args.delays group) y c.group.ensures
+    ∙ block-values c.args.measurements.now c.args.delays c.args.corrections c.in-Some.j
 
 pub loop-j-preserved : goal.loop-j-preserved
 loop-j-preserved c =
-    let v = values-are (goal.at.loop-j-preserved c).After-corrected_at-values in (
-      omega (arith, c.loop-j-test.true),
-      c.loop-j.invariant.1,
-      omega (arith, c.loop-j.invariant.2, all_read (goal.at.loop-j-preserved c).Else-seen),
-      passed c.args.measurements.now c.loop-j.j (room (goal.at.loop-j-preserved c).In-loop-j) c.loop-j.invariant.3 (inside (goal.at.loop-j-preserved c).Else-seen),
-      (
-        c.put.ensures.a_after ∙ filled_more (value_a (h (goal.at.loop-j-preserved c).Start)) c.args.a.now c.loop-j.a c.loop-j.j c.loop-j.invariant.4.0 v.0,
-        (
-          c.put.ensures.b_after ∙ filled_more (value_b (h (goal.at.loop-j-preserved c).Start)) c.args.b.now c.loop-j.b c.loop-j.j c.loop-j.invariant.4.1.0 v.1,
-          (
-            c.put.ensures.c_after ∙ filled_more (value_c (h (goal.at.loop-j-preserved c).Start)) c.args.c.now c.loop-j.c c.loop-j.j c.loop-j.invariant.4.1.1.0 v.2,
-            c.put.ensures.d_after ∙ filled_more (value_d (h (goal.at.loop-j-preserved c).Start)) c.args.d.now c.loop-j.d c.loop-j.j c.loop-j.invariant.4.1.1.1 v.3,
-          ),
-        ),
-      ),
-    )
+    let p = goal.at.loop-j-preserved c in
+    let s = c.in-Some.ensures.steps in
+    let i = c.loop-j.invariant in
+    let h = here p.In-Some in
+    let z = sizes p.Start in
+    let j = c.in-Some.j in
+    let count : enumerate_count c.next.new.self ≡ j + 1 = omega (arith, s.1, s.2) in
+    let t = cut c.args.measurements.now c.in-Some.block.now _ (enumerate_count c.loop-j.j-iterator) (sym i.rest ∙ s.0.1.0) (s.0.1.1 ∙ i.size) i.few in
+    let size : chunks_exact_size (enumerate_source c.next.new.self) ≡ 15 = s.0.0 ∙ i.size in
+    let rest : chunks_exact_rest (enumerate_source c.next.new.self) ≡ drop (15 * enumerate_count c.next.new.self) c.args.measurements.now =
+    t.1 ∙ ap (λ (k : ℕ). drop (15 * k) c.args.measurements.now) (sym s.2) in
+    let v = valued p.After-corrected in
+    record {
+      next = (omega arith, tt, inl (left _ _ _ (omega (arith, ap length rest, length-drop (15 * enumerate_count c.next.new.self) c.args.measurements.now))));
+      finite = tt;
+      size = size;
+      rest = rest;
+      few = omega arith;
+      inside = subst (Passed c.args.measurements.now) (sym count) (passed c.args.measurements.now j h.room h.before (inside p.After-smooth));
+      rows =
+          subst (λ (k : ℕ). AreFilled (g p.Start) k c.args.rows.now c.put.new.self) (sym count) (record {
+            a_is = c.put.ensures.a_after ∙ filled_more _ _ _ j h.rows.a_is (ap (λ (x : Values). x.a) v);
+            b_is = c.put.ensures.b_after ∙ filled_more _ _ _ j h.rows.b_is (ap (λ (x : Values). x.b) v);
+            c_is = c.put.ensures.c_after ∙ filled_more _ _ _ j h.rows.c_is (ap (λ (x : Values). x.c) v);
+            d_is = c.put.ensures.d_after ∙ filled_more _ _ _ j h.rows.d_is (ap (λ (x : Values). x.d) v);
+          });
+    }
 
 pub returns : goal.returns
 returns c =
-    let e : c.loop-j.j ≡ blocks (g (goal.at.returns c).Start) = le_antisymm c.loop-j.invariant.0 c.loop-j-test.false in
-    let p = subst (Passed c.args.measurements.now) e c.loop-j.invariant.3 in
-    let all = (sizes (goal.at.returns c).Start).size-measurements in
-    let w = rows (goal.at.returns c).At-loop-j (whole_blocks c.args.measurements.now) (e ∙ sym (done-blocks c.args.measurements.now (blocks (g (goal.at.returns c).Start)) all p)) in record {
-      answer = (λ z. Corrected.Values ((c.loop-j.invariant.2 ∙ ap (λ (k : ℕ). 15 * k) e) z)) ∙ done c.args.measurements.now (blocks (g (goal.at.returns c).Start)) all p;
-      a_after = w.0;
-      b_after = w.1.0;
-      c_after = w.1.1.0;
-      d_after = w.1.1.1;
+    let p = goal.at.returns c in
+    let s = c.in-None.ensures.steps in
+    let i = c.loop-j.invariant in
+    let m = c.args.measurements.now in
+    let all = (sizes p.Start).size-measurements in
+    let k = enumerate_count c.loop-j.j-iterator in
+    let n : k ≡ blocks (g p.Start) = omega (arith, all, s.0.1.0, ap length i.rest, length-drop (15 * k) m, i.size, i.few) in
+    let passed = subst (Passed m) n i.inside in
+    let rows = subst (λ (k : ℕ). AreFilled (g p.Start) k c.args.rows.now c.loop-j.rows) (n ∙ sym (done-blocks m (blocks (g p.Start)) all passed)) i.rows in
+    record {
+      answer = rw all (done m (blocks (g p.Start)) all passed);
+      a_after = rows.a_is;
+      b_after = rows.b_is;
+      c_after = rows.c_is;
+      d_after = rows.d_is;
     }

@@ -1,28 +1,34 @@
--- `correcting::correction::correct_blocks` meets its contract: after j turns the first j blocks are inside, and their values stand in the rows.
+-- `correcting::correction::correct_blocks` meets its contract: after so many turns the blocks so far are inside, and their values stand in the rows.
 -- Assumes nothing.
 use mathlib.Core.Path.{◌≡◌}
-use mathlib.Core.List.{List}
-use Prim.Native.Nat.{ℕ, ◌*◌, ◌-◌, ◌≤◌}
-use lib.IntN.{ℤ}
+use Prim.Native.Nat.{ℕ, ◌*◌, ◌≤◌}
+use lib.ListN.{length, drop}
+use Rattle.std.specs.Iterator.Adapters.{enumerate_source, enumerate_count}
+use Rattle.std.specs.Slice.Iter.{chunks_exact_rest, chunks_exact_size}
 use Rattle.exact.specs.Corrected.{Given}
-use Rattle.correcting.specs.Correct.{given, value_a, value_b, value_c, value_d}
+use Rattle.correcting.specs.declared.correction.Rows.{Rows}
+use Rattle.correcting.specs.Correct.{value_a, value_b, value_c, value_d}
+use Rattle.correcting.specs.Given.{given_of}
 use Rattle.correcting.specs.Answer.{filled}
 use Rattle.correcting.proofs.Parts.{Passed}
-use Rattle.correcting.proofs.Refusals.{Sized}
 use Rattle.correcting.proofs.correction.correct_blocks.Given as goal
 
 -- the rows after k blocks
-abbrev pub Rows : Given → (k : ℕ) (a₀ b₀ c₀ d₀ a b c d : List ℤ) → Type 0
-Rows g k a₀ b₀ c₀ d₀ a b c d =
-    (a ≡ filled k (value_a g) a₀) × ((b ≡ filled k (value_b g) b₀) × ((c ≡ filled k (value_c g) c₀) × (d ≡ filled k (value_d g) d₀)))
+pub record AreFilled (g : Given) (k : ℕ) (old new : Rows) : Type 0 where
+  pub a_is : new.a ≡ filled k (value_a g) old.a
+  pub b_is : new.b ≡ filled k (value_b g) old.b
+  pub c_is : new.c ≡ filled k (value_c g) old.c
+  pub d_is : new.d ≡ filled k (value_d g) old.d
 
 abbrev pub invariant-loop-j : goal.invariant-loop-j
 invariant-loop-j l =
-    let g = given l.measurements l.int l.cab l.refdly l.gd l.geometry l.relativity l.ionosphere l.troposphere l.clock in
-    (l.j ≤ l.n) × Sized g
-    × (l.read ≡ 15 * l.j) × Passed l.measurements l.j
-    × Rows g l.j l.initial.a l.initial.b l.initial.c l.initial.d l.a l.b l.c l.d
-
-abbrev pub decreases-loop-j : goal.decreases-loop-j
-decreases-loop-j l =
-    l.n - l.j
+    let chunks = enumerate_source l.j-iterator in
+    let k = enumerate_count l.j-iterator in record {
+      next : (goal.iterator-loop-j).can_next l.j-iterator;
+      finite : (goal.iterator-loop-j).is_finite l.j-iterator;
+      size : chunks_exact_size chunks ≡ 15;
+      rest : chunks_exact_rest chunks ≡ drop (15 * k) l.measurements;
+      few : 15 * k ≤ length l.measurements;
+      inside : Passed l.measurements k;
+      rows : AreFilled (given_of l.measurements l.delays l.corrections) k l.initial.rows l.rows;
+    }

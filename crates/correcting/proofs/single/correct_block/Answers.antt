@@ -1,139 +1,96 @@
 -- `correcting::correct_block` meets its contract: each test tells what is answered.
 -- Assumes nothing.
-use borrow.Author.Rules.{rules}
-use mathlib.Core.Bool.{true, false, ◌||◌}
+use mathlib.Core.Bool.{Bool, true, false, ◌||◌, or_assoc}
 use mathlib.Core.Path.{◌≡◌, sym, ap, ap₂, ◌∙◌}
-use Prim.Native.Nat.{◌≤◌}
-use lib.IntN.{ℤ, pos, nat_abs, ◌*ℤ◌}
-use mir.Syntax.{w64}
-use mir.Val.{SFits}
+use lib.IntN.{ℤ}
 use mir.Facts.{to_z-of_z}
-use Rattle.whole.proofs.Words.{Word, known, read, bound, back}
 use Rattle.limits.specs.Refusal.{◌when◌}
 use Rattle.limits.specs.Limits.{beyond, delays_beyond_lem, delay_limit}
+use Rattle.limits.specs.Reply.{reply}
+use Rattle.limits.specs.declared.Delays.{Delays}
 use Rattle.limits.proofs.Laws.{or-false, magnitude-within}
 use Rattle.series.specs.Fit.{value_limit}
-use Rattle.exact.specs.Corrected.{steps, to_a, to_b}
-use Rattle.correcting.specs.declared.BlockValues.{BlockValues}
+use Rattle.whole.specs.Words.{Within}
+use Rattle.correcting.specs.declared.inputs.Group.{Group}
+use Rattle.correcting.specs.declared.correction.Values.{Values}
 use Rattle.correcting.specs.Correct.{geometry_limit}
-use Rattle.correcting.specs.Block.{block_values, group_beyond_lem, block_values_rule}
-use Rattle.correcting.proofs.Groups.{alone}
-use Rattle.correcting.proofs.single.correct_block.Goals.{After-delays_beyond, After-corrected-values, After-group_beyond, Else-group_beyond, Else-outside-delays_beyond}
+use Rattle.correcting.specs.Block.{no_values, group_beyond, values_of, block_values_rule}
+use Rattle.correcting.proofs.single.correct_block.Goals.{After-delays_beyond, Else-beyond-outside}
 use Rattle.correcting.proofs.single.correct_block.Goals as goal
 
+-- one of the tests holds
+abbrev refused : ℤ → Delays → Group → Bool
+refused y delays group = group_beyond group || (beyond value_limit y || delays_beyond_lem delays.int delays.cab delays.refdly delays.gd)
+
 -- what the tests say
-group-is : (c : After-group_beyond)
-    → c.group_beyond.result ≡ group_beyond_lem c.args.geometry c.args.relativity c.args.ionosphere c.args.troposphere c.args.clock
-group-is c =
-    simp (to_z-of_z c.ranges.geometry, to_z-of_z c.ranges.relativity, to_z-of_z c.ranges.ionosphere, to_z-of_z c.ranges.troposphere, to_z-of_z c.ranges.clock) at c.group_beyond.ensures
+tests-are : (c : After-delays_beyond)
+    → (c.beyond.result || c.outside.result) || c.delays_beyond.result ≡ refused c.args.smoothed c.args.delays c.args.group
+tests-are c =
+    or_assoc c.beyond.result c.outside.result c.delays_beyond.result
+    ∙ ap₂ ◌||◌ c.beyond.ensures (ap₂ ◌||◌ (simp (to_z-of_z c.ranges.smoothed) at c.outside.ensures) c.delays_beyond.ensures)
 
-others-are : (c : After-delays_beyond)
-    → c.outside.result || c.delays_beyond.result ≡ beyond value_limit c.args.smoothed || delays_beyond_lem c.args.int c.args.cab c.args.refdly c.args.gd
-others-are c =
-    ap₂ ◌||◌ (simp (to_z-of_z c.ranges.smoothed) at c.outside.ensures)
-    (simp (to_z-of_z c.ranges.int, to_z-of_z c.ranges.cab, to_z-of_z c.ranges.refdly, to_z-of_z c.ranges.gd) at c.delays_beyond.ensures)
-
--- what they have passed
-group-left : (c : Else-group_beyond) → group_beyond_lem c.args.geometry c.args.relativity c.args.ionosphere c.args.troposphere c.args.clock ≡ false
-group-left c = sym (group-is (goal.at.Else-group_beyond c).After-group_beyond) ∙ c.if-group_beyond.false
-
-others-left : (c : Else-outside-delays_beyond)
-    → beyond value_limit c.args.smoothed || delays_beyond_lem c.args.int c.args.cab c.args.refdly c.args.gd ≡ false
-others-left c = sym (others-are (goal.at.Else-outside-delays_beyond c).After-delays_beyond) ∙ c.if-outside-delays_beyond.false
+passed : (c : Else-beyond-outside) → refused c.args.smoothed c.args.delays c.args.group ≡ false
+passed c = sym (tests-are (goal.at.Else-beyond-outside c).After-delays_beyond) ∙ c.if-beyond-outside.false
 
 -- the rule by the outcome of its tests
-group-refused : (y p q r s g k i t c : ℤ) → group_beyond_lem g k i t c ≡ true → BlockValues.Refused 2 ≡ block_values_rule y p q r s g k i t c
-unfolding block_values_rule block_values ◌when◌
-group-refused y p q r s g k i t c e = rw e
+refused-is : (y : ℤ) (delays : Delays) (group : Group) → refused y delays group ≡ true
+    → record { number = 2; values = no_values } ≡ block_values_rule y delays group
+unfolding block_values_rule ◌when◌
+refused-is y delays group e = ap (λ (b : Bool). reply no_values (2 when b) (values_of y delays group)) (sym e)
 
-others-refused : (y p q r s g k i t c : ℤ) → group_beyond_lem g k i t c ≡ false → beyond value_limit y || delays_beyond_lem p q r s ≡ true
-    → BlockValues.Refused 2 ≡ block_values_rule y p q r s g k i t c
-unfolding block_values_rule block_values ◌when◌
-others-refused y p q r s g k i t c e f = rw (e, f)
-
-accepted-is : (y p q r s g k i t c : ℤ) → group_beyond_lem g k i t c ≡ false → beyond value_limit y || delays_beyond_lem p q r s ≡ false
-    → let G = alone p q r s g k i t c in
-    BlockValues.Values (to_a G (pos steps) 0 y) (to_b G (pos steps) 0 y) (pos steps *ℤ t) (pos steps *ℤ i) ≡ block_values_rule y p q r s g k i t c
-unfolding block_values_rule block_values ◌when◌
-accepted-is y p q r s g k i t c e f = rw (e, f)
+accepted-is : (y : ℤ) (delays : Delays) (group : Group) → refused y delays group ≡ false
+    → record { number = 0; values = values_of y delays group } ≡ block_values_rule y delays group
+unfolding block_values_rule ◌when◌
+accepted-is y delays group e = ap (λ (b : Bool). reply no_values (2 when b) (values_of y delays group)) (sym e)
 
 -- what is known of the numbers
-group-within : (g r i t k : ℤ) → group_beyond_lem g r i t k ≡ false
-    → (nat_abs g ≤ geometry_limit) × (nat_abs r ≤ delay_limit) × (nat_abs i ≤ delay_limit) × (nat_abs t ≤ delay_limit) × (nat_abs k ≤ delay_limit)
-group-within g r i t k e =
-    let G = beyond geometry_limit g in
-    let R = beyond delay_limit r in
-    let I = beyond delay_limit i in
-    let T = beyond delay_limit t in
-    let four = or-false (G || R || I || T) (beyond delay_limit k) e in
-    let three = or-false (G || R || I) T four.0 in
-    let two = or-false (G || R) I three.0 in
-    let one = or-false G R two.0 in (
-      magnitude-within geometry_limit g one.0,
-      magnitude-within delay_limit r one.1,
-      magnitude-within delay_limit i two.1,
-      magnitude-within delay_limit t three.1,
-      magnitude-within delay_limit k four.1,
-    )
+record Inside (y : ℤ) (delays : Delays) (group : Group) : Type 0 where
+  group_inside : Within geometry_limit group.geometry × Within delay_limit group.relativity × Within delay_limit group.ionosphere
+      × Within delay_limit group.troposphere × Within delay_limit group.clock
+  others_inside : Within value_limit y × Within delay_limit delays.int × Within delay_limit delays.cab × Within delay_limit delays.refdly
+      × Within delay_limit delays.gd
 
-others-within : (y p q r s : ℤ) → beyond value_limit y || delays_beyond_lem p q r s ≡ false
-    → (nat_abs y ≤ value_limit) × (nat_abs p ≤ delay_limit) × (nat_abs q ≤ delay_limit) × (nat_abs r ≤ delay_limit) × (nat_abs s ≤ delay_limit)
-others-within y p q r s e =
-    let P = beyond delay_limit p in
-    let Q = beyond delay_limit q in
-    let R = beyond delay_limit r in
-    let all = or-false (beyond value_limit y) (P || Q || R || beyond delay_limit s) e in
-    let three = or-false (P || Q || R) (beyond delay_limit s) all.1 in
-    let two = or-false (P || Q) R three.0 in
-    let one = or-false P Q two.0 in (
-      magnitude-within value_limit y all.0,
-      magnitude-within delay_limit p one.0,
-      magnitude-within delay_limit q one.1,
-      magnitude-within delay_limit r two.1,
-      magnitude-within delay_limit s three.1,
-    )
+within : (limit : _) (z : ℤ) → beyond limit z ≡ false → Within limit z
+within limit z e = record { within = magnitude-within limit z e }
 
-abbrev group-words : (c : Else-outside-delays_beyond)
-    → Word c.args.geometry × Word c.args.relativity × Word c.args.ionosphere × Word c.args.troposphere × Word c.args.clock
-group-words c =
-    let w = group-within _ _ _ _ _ (group-left (goal.at.Else-outside-delays_beyond c).Else-group_beyond) in
-    (known w.0, known w.1, known w.2, known w.3, known w.4)
+inside : (y : ℤ) (delays : Delays) (group : Group) → refused y delays group ≡ false → Inside y delays group
+inside y delays group e =
+    let g = or-false (group_beyond group) _ e in
+    let g-four = or-false _ (beyond delay_limit group.clock) g.0 in
+    let g-three = or-false _ (beyond delay_limit group.troposphere) g-four.0 in
+    let g-two = or-false _ (beyond delay_limit group.ionosphere) g-three.0 in
+    let g-one = or-false _ (beyond delay_limit group.relativity) g-two.0 in
+    let o = or-false (beyond value_limit y) _ g.1 in
+    let d-three = or-false _ (beyond delay_limit delays.gd) o.1 in
+    let d-two = or-false _ (beyond delay_limit delays.refdly) d-three.0 in
+    let d-one = or-false _ (beyond delay_limit delays.cab) d-two.0 in record {
+      group_inside = (
+        within geometry_limit _ g-one.0,
+        within delay_limit _ g-one.1,
+        within delay_limit _ g-two.1,
+        within delay_limit _ g-three.1,
+        within delay_limit _ g-four.1,
+      );
+      others_inside = (
+        within value_limit _ o.0,
+        within delay_limit _ d-one.0,
+        within delay_limit _ d-one.1,
+        within delay_limit _ d-two.1,
+        within delay_limit _ d-three.1,
+      );
+    }
 
-abbrev other-words : (c : Else-outside-delays_beyond)
-    → Word c.args.smoothed × Word c.args.int × Word c.args.cab × Word c.args.refdly × Word c.args.gd
-other-words c =
-    let w = others-within _ _ _ _ _ (others-left c) in
-    (known w.0, known w.1, known w.2, known w.3, known w.4)
-
-pub returns-then-group_beyond : goal.returns-then-group_beyond
-returns-then-group_beyond c = group-refused _ _ _ _ _ _ _ _ _ _ (sym (group-is (goal.at.returns-then-group_beyond c).After-group_beyond) ∙ c.if-group_beyond.true)
-
-pub returns-then-outside-delays_beyond : goal.returns-then-outside-delays_beyond
-returns-then-outside-delays_beyond c =
-    others-refused _ _ _ _ _ _ _ _ _ _ (group-left (goal.at.returns-then-outside-delays_beyond c).Else-group_beyond) (sym (others-are (goal.at.returns-then-outside-delays_beyond c).After-delays_beyond) ∙ c.if-outside-delays_beyond.true)
+pub returns-then-beyond-outside : goal.returns-then-beyond-outside
+returns-then-beyond-outside c =
+    refused-is _ _ _ (sym (tests-are (goal.at.returns-then-beyond-outside c).After-delays_beyond) ∙ c.if-beyond-outside.true)
 
 pub corrected-values-requires : goal.corrected-values-requires
 corrected-values-requires c =
-    let o = other-words c in
-    let g = group-words c in record {
-      smoothed_and_delays = (bound (read o.0) tt, bound (read o.1) tt, bound (read o.2) tt, bound (read o.3) tt, bound (read o.4) tt);
-      corrections = (bound (read g.0) tt, bound (read g.1) tt, bound (read g.2) tt, bound (read g.3) tt, bound (read g.4) tt);
-    }
-
--- the values read back from their bits
-values-fit : (c : After-corrected-values)
-    → SFits w64 c.corrected-values.result.a × SFits w64 c.corrected-values.result.b × SFits w64 c.corrected-values.result.c × SFits w64 c.corrected-values.result.d
-values-fit c = (search rules, search rules, search rules, search rules)
+    let i = inside _ _ _ (passed (goal.at.corrected-values-requires c).Else-beyond-outside) in
+    simp (to_z-of_z c.ranges.smoothed) (record { smoothed_and_delays = i.others_inside; corrections = i.group_inside })
 
 pub returns : goal.returns
-unfolding to_a to_b
 returns c =
-    let o = other-words (goal.at.returns c).Else-outside-delays_beyond in
-    let g = group-words (goal.at.returns c).Else-outside-delays_beyond in
-    let f = values-fit (goal.at.returns c).After-corrected-values in
-    let a = to_z-of_z f.0 ∙ c.corrected-values.ensures.0 ∙ (λ z. to_a (alone (back o.1 tt z) (back o.2 tt z) (back o.3 tt z) (back o.4 tt z) (back g.0 tt z) (back g.1 tt z) (back g.2 tt z) (back g.3 tt z) (back g.4 tt z)) (pos steps) 0 (back o.0 tt z)) in
-    let b = to_z-of_z f.1 ∙ c.corrected-values.ensures.1 ∙ (λ z. to_b (alone (back o.1 tt z) (back o.2 tt z) (back o.3 tt z) (back o.4 tt z) (back g.0 tt z) (back g.1 tt z) (back g.2 tt z) (back g.3 tt z) (back g.4 tt z)) (pos steps) 0 (back o.0 tt z)) in
-    let t = to_z-of_z f.2 ∙ c.corrected-values.ensures.2 ∙ ap (λ (x : ℤ). pos steps *ℤ x) (back g.3 tt) in
-    let i = to_z-of_z f.3 ∙ c.corrected-values.ensures.3 ∙ ap (λ (x : ℤ). pos steps *ℤ x) (back g.2 tt) in
-    (λ z. BlockValues.Values (a z) (b z) (t z) (i z))
-    ∙ accepted-is _ _ _ _ _ _ _ _ _ _ (group-left (goal.at.returns c).Else-group_beyond) (others-left (goal.at.returns c).Else-outside-delays_beyond)
+    let v : c.corrected-values.result ≡ values_of c.args.smoothed c.args.delays c.args.group = simp (to_z-of_z c.ranges.smoothed) at c.corrected-values.ensures in
+    ap (λ (x : Values). record { number = 0; values = x }) v
+    ∙ accepted-is _ _ _ (passed (goal.at.returns c).Else-beyond-outside)

@@ -10,4 +10,8 @@ head-room : (entries store file : ℕ) → 4 + 4 * entries ≤ store → store +
 head-room entries store file h k = omega arith
 
 pub returns : goal.returns
-returns c = dates-written c.args.store.now c.args.entries c.requires.entries_value c.requires.entries_in_bounds c.args.mjd c.args.file.now (head-room c.args.entries (length c.args.store.now) (length c.args.file.now) c.requires.entries_in_bounds c.requires.file_room) c.put.ensures c.put_number.ensures c.put-2.ensures c.put_number-2.ensures
+returns c =
+    let n = c.count-entries.ensures in
+    dates-written c.args.store.bytes.now c.count-entries.result n.value n.dates_in_bounds c.args.mjd c.args.file.now
+    (head-room c.count-entries.result (length c.args.store.bytes.now) (length c.args.file.now) n.dates_in_bounds c.requires)
+    c.put.ensures c.put_number.ensures c.put-2.ensures c.put_number-2.ensures

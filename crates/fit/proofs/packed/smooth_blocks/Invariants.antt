@@ -1,8 +1,7 @@
 -- `fit::packed::smooth_blocks` meets its contract: after j turns the first j blocks are inside, and their smoothed values stand in the row.
 -- Assumes nothing.
 use mathlib.Core.Path.{◌≡◌}
-use Prim.Native.Nat.{◌*◌, ◌-◌, ◌≤◌}
-use lib.ListN.{length}
+use Prim.Native.Nat.{◌*◌}
 use Rattle.decode.specs.Number.{signeds_at}
 use Rattle.correcting.specs.Answer.{filled}
 use Rattle.correcting.proofs.Parts.{Passed}
@@ -11,8 +10,7 @@ use Rattle.fit.proofs.packed.smooth_blocks.Given as goal
 
 abbrev pub invariant-loop-j : goal.invariant-loop-j
 invariant-loop-j l =
-    (l.j ≤ l.n) × (l.n ≤ 52) × (120 * l.n ≤ length l.measurements) × (l.read ≡ 15 * l.j) × Passed (signeds_at l.measurements 0 8 (15 * l.n)) l.j
-    × (l.row ≡ filled l.j (smoothed_of (signeds_at l.measurements 0 8 (15 * l.n))) l.initial.row)
-
-abbrev pub decreases-loop-j : goal.decreases-loop-j
-decreases-loop-j l = l.n - l.j
+    let list = signeds_at l.measurements 0 8 (15 * l.n) in record {
+      inside : Passed list l.j;
+      row : l.row ≡ filled l.j (smoothed_of list) l.initial.row;
+    }

@@ -5,57 +5,46 @@ use mathlib.Core.Path.{◌≡◌, refl, sym, ap, ap₂, ◌∙◌, subst}
 use mathlib.Core.Bool.{Bool, true, false, not, ◌||◌}
 use mathlib.Core.List.{List, []}
 use Prim.Native.Nat.{ℕ, ◌*◌, ◌/◌, ◌≤◌, ◌<◌}
+use native.Mathlib.Nat.{ne_of_gt}
 use native.Mathlib.Omega.{arith}
-use lib.IntN.{ℤ, pos}
-use lib.ListN.{length, replicate}
-use mir.Syntax.{w64}
-use mir.Val.{to_z, of_z}
-use mir.Facts.{to_z-of_z}
+use lib.IntN.{ℤ}
+use lib.ListN.{length}
+use Rattle.std.specs.Result.{IfOk}
+use Rattle.std.proofs.lemmas.Result.{err_from_is_err_and}
 use Rattle.limits.specs.Limits.{measurement_limit}
 use Rattle.limits.specs.Blocks.{blocks_fit_lem}
 use Rattle.limits.specs.Lists.{any_beyond_lem}
-use Rattle.limits.specs.Refusal.{◌when◌}
 use Rattle.limits.proofs.Blocks.{blocks-within}
+use Rattle.limits.proofs.Cases.{paper_above_zero}
 use Rattle.limits.proofs.Laws.{when-zero, when-some}
-use Rattle.series.specs.Fit.{value_limit}
 use Rattle.decode.specs.Number.{signeds_at}
 use Rattle.decode.proofs.Signeds.{length-signeds}
 use Rattle.exact.specs.Accurate.{AccurateTrack}
 use Rattle.whole.specs.Table.{at}
-use Rattle.exact.specs.Corrected.{Given, steps, to_a, to_b}
-use Rattle.correcting.specs.Correct.{places, value_a, value_b, value_c, value_d, wrong_sizes, out_of_limits}
-use Rattle.correcting.specs.Answer.{corrected_number_lem, filled, others_beyond}
-use Rattle.correcting.proofs.Arrays.{places-length}
-use Rattle.correcting.proofs.Largest.{Inside, corrected-within}
+use Rattle.exact.specs.Corrected.{Given, steps}
+use Rattle.correcting.specs.Correct.{wrong_sizes, out_of_limits}
+use Rattle.correcting.specs.Answer.{others_beyond}
 use Rattle.correcting.proofs.Refusals.{measurements-refused, measurements-values}
-use Rattle.fit.specs.declared.Found.{Found}
-use Rattle.fit.specs.Found.{found_number_lem, found_numbers, judged_rule, found_rule}
+use Rattle.fit.specs.Found.{judged_rule}
 use Rattle.fit.specs.Packed.{grouped, packed, smoothed_of}
+use Rattle.fit.proofs.Held.{AreHeld, held-inside}
 use Rattle.fit.proofs.Unpacked.{smoothed-at, smoothed-inside, found-accurate, sizes-found, limits-found, judged-found, packed-blocks, unfit-sizes, miscounted-sizes, sizes-right, limits-are, a-row, b-row, c-row, d-row, packed-results}
-use Rattle.fit.proofs.packed.track_packed.Goals.{After-correct_groups-number, Else-measurements-n, Else-not-blocks_fit, Else-number-ne0, In-Values, Start}
+use Rattle.fit.proofs.packed.track_packed.Goals.{Else-measurements-n, Else-not-blocks_fit, In_ok-smooth_blocks, In_ok-correct_groups, Start}
 use Rattle.fit.proofs.packed.track_packed.Goals as goal
 
 -- what is given
 abbrev g : Start → Given
-g c = packed c.args.measurements.now c.args.int c.args.cab c.args.refdly c.args.gd c.args.corrections.now
+g c = packed c.args.measurements.now c.args.delays c.args.corrections.now
 
 abbrev n : Start → ℕ
 n c = length c.args.corrections.now / 40
-
--- both clauses, from the answer
-both : (s : Start) (x : Found) → x ≡ found_rule (g s) → (x ≡ found_rule (g s)) × (found_number_lem x ≡ 0 → AccurateTrack steps (n s) (g s) (found_numbers x))
-both s x e = (
-  e,
-  λ z. subst (λ (k : ℕ). AccurateTrack steps k (g s) (found_numbers x))
-      (packed-blocks s.args.measurements.now s.args.corrections.now s.args.int s.args.cab s.args.refdly s.args.gd) (found-accurate (g s) x e z),
-)
 
 -- the sizes have passed
 fit : (c : Else-not-blocks_fit) → not (blocks_fit_lem (n (goal.at.Else-not-blocks_fit c).Start)) ≡ false
 fit c = ap not (sym c.blocks_fit.ensures ∙ c.if-not-blocks_fit.false)
 
-count : (c : Else-measurements-n) → length c.args.measurements.now / 8 ≡ 15 * n (goal.at.Else-measurements-n c).Start
-count c = c.if-measurements-n.false
+few : (c : Else-not-blocks_fit) → (4 ≤ n (goal.at.Else-not-blocks_fit c).Start) × (n (goal.at.Else-not-blocks_fit c).Start ≤ 52)
+few c = blocks-within (n (goal.at.Else-not-blocks_fit c).Start) (fit c)
 
 -- the measurements
 abbrev list : Start → List ℤ
@@ -64,153 +53,108 @@ list s = signeds_at s.args.measurements.now 0 8 (15 * n s)
 list_length : (s : Start) → length (list s) ≡ 15 * n s
 list_length s = length-signeds s.args.measurements.now 0 8 (15 * n s)
 
-few : (c : Else-measurements-n) → (4 ≤ n (goal.at.Else-measurements-n c).Start) × (n (goal.at.Else-measurements-n c).Start ≤ 52)
-few c = blocks-within (n (goal.at.Else-measurements-n c).Start) (fit (goal.at.Else-measurements-n c).Else-not-blocks_fit)
-
 sizes : (c : Else-measurements-n) → wrong_sizes (g (goal.at.Else-measurements-n c).Start) ≡ false
-sizes c = sizes-right c.args.measurements.now c.args.corrections.now c.args.int c.args.cab c.args.refdly c.args.gd (fit (goal.at.Else-measurements-n c).Else-not-blocks_fit) (count c)
+sizes c =
+    sizes-right c.args.measurements.now c.args.corrections.now c.args.delays (fit (goal.at.Else-measurements-n c).Else-not-blocks_fit) c.if-measurements-n.false
 
--- the delays and corrections, as they are passed and as they are read back
+-- the delays and corrections
 abbrev others : Start → Given
-others s = grouped (n s) [] s.args.int s.args.cab s.args.refdly s.args.gd s.args.corrections.now
-
-abbrev passed_on : Start → Given
-passed_on s =
-    grouped (n s) [] (to_z w64 (of_z w64 s.args.int)) (to_z w64 (of_z w64 s.args.cab)) (to_z w64 (of_z w64 s.args.refdly)) (to_z w64 (of_z w64 s.args.gd)) s.args.corrections.now
-
-same : (s : Start) → passed_on s ≡ others s
-same s =
-    let i : to_z w64 (of_z w64 s.args.int) ≡ s.args.int = to_z-of_z s.ranges.int in
-    let k : to_z w64 (of_z w64 s.args.cab) ≡ s.args.cab = to_z-of_z s.ranges.cab in
-    let r : to_z w64 (of_z w64 s.args.refdly) ≡ s.args.refdly = to_z-of_z s.ranges.refdly in
-    let d : to_z w64 (of_z w64 s.args.gd) ≡ s.args.gd = to_z-of_z s.ranges.gd in
-    λ z. grouped (n s) [] (i z) (k z) (r z) (d z) s.args.corrections.now
+others s = grouped (n s) [] s.args.delays s.args.corrections.now
 
 -- what 2 says, by its parts
-limits-by : (c : Else-measurements-n) (p q : Bool) → any_beyond_lem measurement_limit (list (goal.at.Else-measurements-n c).Start) ≡ p → others_beyond (others (goal.at.Else-measurements-n c).Start) ≡ q → out_of_limits (g (goal.at.Else-measurements-n c).Start) ≡ p || q
+limits-by : (c : Else-measurements-n) (p q : Bool) → any_beyond_lem measurement_limit (list (goal.at.Else-measurements-n c).Start) ≡ p
+    → others_beyond (others (goal.at.Else-measurements-n c).Start) ≡ q → out_of_limits (g (goal.at.Else-measurements-n c).Start) ≡ p || q
 limits-by c p q e f =
-    limits-are c.args.measurements.now c.args.corrections.now c.args.int c.args.cab c.args.refdly c.args.gd (fit (goal.at.Else-measurements-n c).Else-not-blocks_fit) (count c) ∙ ap₂ ◌||◌ e f
+    limits-are c.args.measurements.now c.args.corrections.now c.args.delays (fit (goal.at.Else-measurements-n c).Else-not-blocks_fit) c.if-measurements-n.false ∙ ap₂ ◌||◌ e f
 
-inside : (c : In-Values) → any_beyond_lem measurement_limit (list (goal.at.In-Values c).Start) ≡ false
-inside c =
-    measurements-values (list (goal.at.In-Values c).Start) c.smooth_blocks-read.ensures.answer c.in-Values.is
-
-number_is : (c : After-correct_groups-number) → c.correct_groups-number.result ≡ 2 when others_beyond (others (goal.at.After-correct_groups-number c).Start)
-number_is c = c.correct_groups-number.ensures.answer ∙ ap (λ (t : Given). 2 when others_beyond t) (same (goal.at.After-correct_groups-number c).Start)
+inside : (c : In_ok-smooth_blocks) → any_beyond_lem measurement_limit (list (goal.at.In_ok-smooth_blocks c).Start) ≡ false
+inside c = measurements-values (list (goal.at.In_ok-smooth_blocks c).Start) c.in_ok-smooth_blocks.ensures.answer
 
 -- where nothing is refused, the rows have the places of the record
-module _ (c : Else-number-ne0) where
+module _ (c : In_ok-correct_groups) where
   abbrev e : Else-measurements-n
-  e = (goal.at.Else-number-ne0 c).Else-measurements-n
+  e = (goal.at.In_ok-correct_groups c).Else-measurements-n
 
   abbrev s : Start
-  s = (goal.at.Else-number-ne0 c).Start
+  s = (goal.at.In_ok-correct_groups c).Start
 
-  abbrev row : List ℤ
-  row = c.smooth_blocks-read.new.row
+  fits : not (blocks_fit_lem (n s)) ≡ false
+  fits = fit (goal.at.In_ok-correct_groups c).Else-not-blocks_fit
 
   in_limits : any_beyond_lem measurement_limit (list s) ≡ false
-  in_limits = inside (goal.at.Else-number-ne0 c).In-Values
-
-  row_at : (j : ℕ) → j < n s → at row j ≡ smoothed_of (list s) j
-  row_at = smoothed-at (list s) (n s) (list_length s) (few e).1 in_limits c.smooth_blocks-read.ensures.row_after
-
-  others-left : others_beyond (others s) ≡ false
-  others-left = when-zero 1 (others_beyond (others s)) (sym (number_is (goal.at.Else-number-ne0 c).After-correct_groups-number) ∙ c.if-number-ne0.false)
+  in_limits = inside (goal.at.In_ok-correct_groups c).In_ok-smooth_blocks
 
   limits-left : out_of_limits (g s) ≡ false
-  limits-left = limits-by e false false in_limits others-left
+  limits-left = limits-by e false false in_limits (when-zero 1 (others_beyond (others s)) (sym c.in_ok-correct_groups.ensures.answer))
 
-  a-is : c.correct_groups-number.new.a ≡ places (n s) (value_a (g s))
-  a-is =
-      (c.correct_groups-number.ensures.rows_after c.if-number-ne0.false).0
-      ∙ ap (λ (t : Given). filled (n s) (λ j. to_a t (pos steps) j (at row j)) (replicate 52 (pos 0))) (same s)
-      ∙ a-row c.args.measurements.now c.args.corrections.now c.args.int c.args.cab c.args.refdly c.args.gd (fit (goal.at.Else-number-ne0 c).Else-not-blocks_fit) (count e) row row_at
+  row_at : (j : ℕ) → j < n s → at c.smooth_blocks.new.row j ≡ smoothed_of (list s) j
+  row_at = smoothed-at (list s) (n s) (list_length s) (few (goal.at.In_ok-correct_groups c).Else-not-blocks_fit).1 in_limits c.in_ok-smooth_blocks.ensures.row_after
 
-  b-is : c.correct_groups-number.new.b ≡ places (n s) (value_b (g s))
-  b-is =
-      (c.correct_groups-number.ensures.rows_after c.if-number-ne0.false).1
-      ∙ ap (λ (t : Given). filled (n s) (λ j. to_b t (pos steps) j (at row j)) (replicate 52 (pos 0))) (same s)
-      ∙ b-row c.args.measurements.now c.args.corrections.now c.args.int c.args.cab c.args.refdly c.args.gd (fit (goal.at.Else-number-ne0 c).Else-not-blocks_fit) (count e) row row_at
+  held : AreHeld (g s) (n s) c.correct_groups.new.rows
+  held =
+      let m = c.args.measurements.now in
+      let k = c.args.corrections.now in
+      let d = c.args.delays in
+      let count = c.if-measurements-n.false in
+      let r = c.in_ok-correct_groups.ensures.rows_after in record {
+        a_is = r.0 ∙ a-row m k d fits count c.smooth_blocks.new.row row_at;
+        b_is = r.1 ∙ b-row m k d fits count c.smooth_blocks.new.row row_at;
+        c_is = r.2 ∙ c-row m k d fits count;
+        d_is = r.3 ∙ d-row m k d fits count;
+      }
 
-  c-is : c.correct_groups-number.new.c ≡ places (n s) (value_c (g s))
-  c-is =
-      (c.correct_groups-number.ensures.rows_after c.if-number-ne0.false).2
-      ∙ c-row c.args.measurements.now c.args.corrections.now c.args.int c.args.cab c.args.refdly c.args.gd (fit (goal.at.Else-number-ne0 c).Else-not-blocks_fit) (count e)
+pub returns-then-not-blocks_fit-clause-answer : goal.returns-then-not-blocks_fit-clause-answer
+returns-then-not-blocks_fit-clause-answer c =
+    sizes-found (g (goal.at.returns-then-not-blocks_fit-clause-answer c).Start) (unfit-sizes _ _ _ (ap not (sym c.blocks_fit.ensures ∙ c.if-not-blocks_fit.true)))
 
-  d-is : c.correct_groups-number.new.d ≡ places (n s) (value_d (g s))
-  d-is =
-      (c.correct_groups-number.ensures.rows_after c.if-number-ne0.false).3
-      ∙ d-row c.args.measurements.now c.args.corrections.now c.args.int c.args.cab c.args.refdly c.args.gd (fit (goal.at.Else-number-ne0 c).Else-not-blocks_fit) (count e)
+pub returns-then-measurements-n-clause-answer : goal.returns-then-measurements-n-clause-answer
+returns-then-measurements-n-clause-answer c =
+    let a = goal.at.returns-then-measurements-n-clause-answer c in
+    sizes-found (g a.Start) (miscounted-sizes _ _ _ (fit a.Else-not-blocks_fit) (ne_eqb _ _ c.if-measurements-n.true))
 
-  long : (f : ℕ → ℤ) {l : List ℤ} → l ≡ places (n s) f → length l ≡ 52
-  long f h = ap length h ∙ places-length (n s) f (few e).1
+pub smooth_blocks-requires : goal.smooth_blocks-requires
+smooth_blocks-requires c = ((few (goal.at.smooth_blocks-requires c).Else-not-blocks_fit).1, omega (arith, c.if-measurements-n.false))
 
-  -- and no value outside Fit's limit
-  within : Inside (places (n s) (value_a (g s))) (places (n s) (value_b (g s))) (places (n s) (value_c (g s))) (places (n s) (value_d (g s)))
-  within = corrected-within (g s) limits-left (n s)
+pub returns-in_err-smooth_blocks-clause-answer : goal.returns-in_err-smooth_blocks-clause-answer
+returns-in_err-smooth_blocks-clause-answer c =
+    let p = err_from_is_err_and c.from_residual.result c.from_residual.ensures.1 in
+    let a = goal.at.returns-in_err-smooth_blocks-clause-answer c in
+    let r = measurements-refused (list a.Start) _ c.in_err-smooth_blocks.ensures.answer in
+    rw (p.1, p.2) (limits-found (g a.Start) (sizes a.Else-measurements-n) (limits-by a.Else-measurements-n true (others_beyond (others a.Start)) r.1 refl) _ r.0)
 
-pub returns-then-not-blocks_fit : goal.returns-then-not-blocks_fit
-returns-then-not-blocks_fit c =
-    let b = both (goal.at.returns-then-not-blocks_fit c).Start _ (sizes-found (g (goal.at.returns-then-not-blocks_fit c).Start) (unfit-sizes _ _ _ _ _ _ (ap not (sym c.blocks_fit.ensures ∙ c.if-not-blocks_fit.true)))) in
-    record { answer = b.0; accurate = b.1 }
+pub correct_groups-requires : goal.correct_groups-requires
+correct_groups-requires c =
+    let a = goal.at.correct_groups-requires c in
+    let most = (few a.Else-not-blocks_fit).1 in
+    (most, omega arith, smoothed-inside (list a.Start) (n a.Start) (list_length a.Start) most (inside a.In_ok-smooth_blocks) c.in_ok-smooth_blocks.ensures.row_after)
 
-pub returns-then-measurements-n : goal.returns-then-measurements-n
-returns-then-measurements-n c =
-    let b = both (goal.at.returns-then-measurements-n c).Start _ (sizes-found (g (goal.at.returns-then-measurements-n c).Start) (miscounted-sizes _ _ _ _ _ _ (fit (goal.at.returns-then-measurements-n c).Else-not-blocks_fit) (ne_eqb _ _ c.if-measurements-n.true))) in
-    record { answer = b.0; accurate = b.1 }
-
-pub smooth_blocks-read-requires : goal.smooth_blocks-read-requires
-smooth_blocks-read-requires c = ((few (goal.at.smooth_blocks-read-requires c).Else-measurements-n).1, omega (arith, count (goal.at.smooth_blocks-read-requires c).Else-measurements-n))
-
-pub returns-in_default : goal.returns-in_default
-returns-in_default c =
-    let r = measurements-refused (list (goal.at.returns-in_default c).Start) c.smooth_blocks-read.ensures.answer c.in_default.is in
-    let two = c.corrected_number.ensures ∙ ap corrected_number_lem c.in_default.is ∙ r.0 in
-    let b = both (goal.at.returns-in_default c).Start _ (ap Found.Refused two ∙ limits-found (g (goal.at.returns-in_default c).Start) (sizes (goal.at.returns-in_default c).Else-measurements-n) (limits-by (goal.at.returns-in_default c).Else-measurements-n true (others_beyond (others (goal.at.returns-in_default c).Start)) r.1 refl)) in
-    record { answer = b.0; accurate = b.1 }
-
-pub correct_groups-number-requires : goal.correct_groups-number-requires
-correct_groups-number-requires c =
-    ((few (goal.at.correct_groups-number-requires c).Else-measurements-n).1, omega arith, smoothed-inside (list (goal.at.correct_groups-number-requires c).Start) (n (goal.at.correct_groups-number-requires c).Start) (list_length (goal.at.correct_groups-number-requires c).Start) (few (goal.at.correct_groups-number-requires c).Else-measurements-n).1 (inside (goal.at.correct_groups-number-requires c).In-Values) c.smooth_blocks-read.ensures.row_after)
-
-pub returns-then-number-ne0 : goal.returns-then-number-ne0
-returns-then-number-ne0 c =
-    let r = when-some 2 (others_beyond (others (goal.at.returns-then-number-ne0 c).Start)) (number_is (goal.at.returns-then-number-ne0 c).After-correct_groups-number) c.if-number-ne0.true in
-    let b = both (goal.at.returns-then-number-ne0 c).Start _ (ap Found.Refused r.0 ∙ limits-found (g (goal.at.returns-then-number-ne0 c).Start) (sizes (goal.at.returns-then-number-ne0 c).Else-measurements-n) (limits-by (goal.at.returns-then-number-ne0 c).Else-measurements-n false true (inside (goal.at.returns-then-number-ne0 c).In-Values) r.1)) in
-    record { answer = b.0; accurate = b.1 }
-
-pub slice_bounds-ten_numbers-end : goal.slice_bounds-ten_numbers-end
-slice_bounds-ten_numbers-end c = sym (long (goal.at.slice_bounds-ten_numbers-end c).Else-number-ne0 _ (a-is (goal.at.slice_bounds-ten_numbers-end c).Else-number-ne0))
-
-pub slice_bounds-ten_numbers-end-2 : goal.slice_bounds-ten_numbers-end-2
-slice_bounds-ten_numbers-end-2 c = sym (long (goal.at.slice_bounds-ten_numbers-end-2 c).Else-number-ne0 _ (b-is (goal.at.slice_bounds-ten_numbers-end-2 c).Else-number-ne0))
-
-pub slice_bounds-ten_numbers-end-3 : goal.slice_bounds-ten_numbers-end-3
-slice_bounds-ten_numbers-end-3 c = sym (long (goal.at.slice_bounds-ten_numbers-end-3 c).Else-number-ne0 _ (c-is (goal.at.slice_bounds-ten_numbers-end-3 c).Else-number-ne0))
-
-pub slice_bounds-ten_numbers-end-4 : goal.slice_bounds-ten_numbers-end-4
-slice_bounds-ten_numbers-end-4 c = sym (long (goal.at.slice_bounds-ten_numbers-end-4 c).Else-number-ne0 _ (d-is (goal.at.slice_bounds-ten_numbers-end-4 c).Else-number-ne0))
+pub returns-in_err-correct_groups-clause-answer : goal.returns-in_err-correct_groups-clause-answer
+returns-in_err-correct_groups-clause-answer c =
+    let p = err_from_is_err_and c.from_residual-in_err-correct_groups.result c.from_residual-in_err-correct_groups.ensures.1 in
+    let a = goal.at.returns-in_err-correct_groups-clause-answer c in
+    let r = when-some 2 (others_beyond (others a.Start)) c.in_err-correct_groups.ensures.answer (λ z. ne_of_gt (paper_above_zero _) z) in
+    rw (p.1, p.2) (limits-found (g a.Start) (sizes a.Else-measurements-n) (limits-by a.Else-measurements-n false true (inside a.In_ok-smooth_blocks) r.1) _ r.0)
 
 pub ten_numbers-requires : goal.ten_numbers-requires
 ten_numbers-requires c =
-    let t = (goal.at.ten_numbers-requires c).Else-number-ne0 in
-    let i = within t in record {
-      few_blocks = few (e t);
-      lengths = (long t _ (a-is t), long t _ (b-is t), long t _ (c-is t), long t _ (d-is t));
-      inside = (
-        ap (any_beyond_lem value_limit) (a-is t) ∙ i.in-a,
-        ap (any_beyond_lem value_limit) (b-is t) ∙ i.in_b,
-        ap (any_beyond_lem value_limit) (c-is t) ∙ i.in_c,
-        ap (any_beyond_lem value_limit) (d-is t) ∙ i.in-d,
-      );
+    let o = (goal.at.ten_numbers-requires c).In_ok-correct_groups in record {
+      few_blocks = few (goal.at.ten_numbers-requires c).Else-not-blocks_fit;
+      inside = held-inside (g (s o)) (limits-left o) (held o);
     }
 
 pub returns : goal.returns
 returns c =
-    let t = (goal.at.returns c).Else-number-ne0 in
-    let b = both (s t) _
-    (c.ten_numbers.ensures
-    ∙ ap judged_rule (packed-results c.args.measurements.now c.args.corrections.now c.args.int c.args.cab c.args.refdly c.args.gd (fit (goal.at.returns c).Else-not-blocks_fit) (count (e t)) (a-is t) (b-is t) (c-is t) (d-is t))
-    ∙ judged-found (g (s t)) (sizes (e t)) (limits-left t)) in
-    record { answer = b.0; accurate = b.1 }
+    let o = (goal.at.returns c).In_ok-correct_groups in
+    let h = held o in
+    let m = c.args.measurements.now in
+    let k = c.args.corrections.now in
+    let d = c.args.delays in
+    let answer =
+    c.ten_numbers.ensures
+    ∙ ap judged_rule (packed-results m k d (fits o) c.if-measurements-n.false h.a_is h.b_is h.c_is h.d_is)
+    ∙ judged-found (g (s o)) (sizes (e o)) (limits-left o) in record {
+      answer = answer;
+      accurate =
+          subst (λ (b : ℕ). IfOk c.ten_numbers.result (AccurateTrack steps b (g (s o)))) (packed-blocks m k d)
+          (found-accurate (g (s o)) c.ten_numbers.result answer);
+    }

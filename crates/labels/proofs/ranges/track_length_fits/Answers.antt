@@ -6,4 +6,4 @@ use Rattle.labels.proofs.ranges.track_length_fits.Goals as goal
 
 pub returns : goal.returns
 returns c =
-    simp (c.magnitude.ensures, to_z-of_z c.ranges.trkl, c.outside.ensures) (by-seconds c.args.trkl)
+    simp (c.unsigned_abs.ensures.value, to_z-of_z c.ranges.trkl, c.outside.ensures) (by-seconds c.args.trkl)

@@ -1,26 +1,27 @@
--- `linefile::judge::line_refusal` meets its contract: the case of the reading tells whether the end is looked at.
+-- `linefile::judge::line_refusal` meets its contract: the columns are read before the end is looked at.
 -- Assumes nothing.
-use mathlib.Core.Path.{sym, ap, ◌∙◌}
+use mathlib.Core.Path.{sym, ap}
+use mathlib.Core.Bool.{Bool}
 use native.Mathlib.Omega.{arith}
-use lib.Seq.{length-take-le}
-use Rattle.reading.specs.declared.Reading.{Reading}
-use Rattle.reading.specs.Answers.{read_reply}
-use Rattle.reading.proofs.Readings.{accepted-case, refused-case, refused-number}
-use Rattle.linefile.specs.Files.{columns_of}
-use Rattle.linefile.proofs.Judging.{refused-line, read-line}
-use Rattle.columns.specs.Text.{line_length}
+use Rattle.std.proofs.lemmas.Result.{err_from_is_err_and}
+use Rattle.limits.specs.Refusal.{◌when◌}
+use Rattle.limits.proofs.Cases.{paper_above_zero}
+use Rattle.linefile.proofs.Judging.{refused-line, read-line, read-is}
 use Rattle.linefile.proofs.judge.line_refusal.Goals as goal
 
-pub slice_bounds-read-end : goal.slice_bounds-read-end
-slice_bounds-read-end c = sym (length-take-le line_length c.args.line.now (omega arith))
+pub returns-in_err-read : goal.returns-in_err-read
+returns-in_err-read c =
+    let p = err_from_is_err_and c.from_residual.result c.from_residual.ensures.1 in
+    rw (p.1, p.2) (refused-line c.args.line.now (read-is c.args.line.now c.in_err-read.ensures.answer) (paper_above_zero c.in_err-read.field-0.0))
 
-pub returns-in_default : goal.returns-in_default
-returns-in_default c =
-    let number = c.reading_number.ensures ∙ ap (λ (t : Reading). (read_reply t).number) c.in_default.is ∙ refused-number (columns_of c.args.line.now) c.in_default.is c.read-reading.ensures.answer in
-    refused-line c.args.line.now number (refused-case (columns_of c.args.line.now) c.in_default.is c.read-reading.ensures.answer c.read-reading.ensures.variant)
+pub returns-then-line : goal.returns-then-line
+unfolding ◌when◌
+returns-then-line c =
+    read-line c.args.line.now (omega arith) (sym (read-is c.args.line.now c.in_ok-read.ensures.answer))
+    (ap (λ (b : Bool). 13 when b) (sym c.if-line.true))
 
 pub returns : goal.returns
+unfolding ◌when◌
 returns c =
-    read-line c.args.line.now c.requires
-    (accepted-case (columns_of c.args.line.now) c.in-Line.is c.read-reading.ensures.answer)
-    c.when.ensures
+    read-line c.args.line.now (omega arith) (sym (read-is c.args.line.now c.in_ok-read.ensures.answer))
+    (ap (λ (b : Bool). 13 when b) (sym c.if-line.false))

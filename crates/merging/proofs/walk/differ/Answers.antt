@@ -1,47 +1,30 @@
--- `merging::walk::differ` meets its contract: after i turns the first i bytes have been compared.
+-- `merging::walk::differ` meets its contract: what is left to compare is what is left of the two lines.
 -- Assumes nothing.
-use mathlib.Core.Path.{◌≡◌, refl, sym, ap, ◌∙◌}
-use mathlib.Core.Bool.{Bool, true, not, ◌&&◌, and-true, and_assoc}
-use mathlib.Core.List.{List, []}
-use Prim.Native.Nat.{ℕ, ◌+◌, ◌≤◌, ◌<◌}
-use native.Mathlib.Numerals.{add-one}
+use mathlib.Core.Path.{◌≡◌, refl, sym, ap, ap₂, ◌∙◌}
+use mathlib.Core.Bool.{Bool, not, ◌&&◌, and-true, and_assoc}
+use mathlib.Core.List.{List, ◌∷◌}
+use Prim.Native.Nat.{ℕ}
 use native.Mathlib.Omega.{arith}
 use lib.Dec.{eqb}
-use lib.ListN.{length, drop, get_or, drop_of_length-le}
-use lib.Seq.{drop-cons}
-use Rattle.linefile.proofs.Keys.{same_refl}
-use borrow.Author.Rules.{rules}
+use lib.ListN.{length}
+use Rattle.std.proofs.lemmas.Iterator.{empty_from_Zip}
 use Rattle.linefile.specs.Files.{same}
-use Rattle.merging.proofs.walk.differ.Goals.{After-loop-i}
 use Rattle.merging.proofs.walk.differ.Goals as goal
 
 -- a turn compares one byte of each
-turn : (line other : List ℕ) (i : ℕ) → i < length line → i < length other
-    → same (drop i line) (drop i other) ≡ eqb (get_or line i 0) (get_or other i 0) && same (drop (i + 1) line) (drop (i + 1) other)
+turn : {line other at bt : List ℕ} {a b : ℕ} (equal : Bool) → line ≡ a ∷ at → other ≡ b ∷ bt → equal && same line other ≡ (equal && eqb a b) && same at bt
 unfolding same
-turn line other i h k = rw (add-one, drop-cons line i 0 h, drop-cons other i 0 k)
+turn {at = at} {bt = bt} {a} {b} equal e f = ap (λ (t : Bool). equal && t) (ap₂ same e f) ∙ sym (and_assoc equal (eqb a b) (same at bt))
 
-done : (line other : List ℕ) (i : ℕ) → length line ≤ i → length other ≤ i → same (drop i line) (drop i other) ≡ true
-done line other i h k = rw (drop_of_length-le line h, drop_of_length-le other k) (same_refl [])
-
-pub loop-i-init : goal.loop-i-init
-loop-i-init c = (search rules, refl)
-
-pub loop-i-preserved : goal.loop-i-preserved
-loop-i-preserved c = (
-  search rules,
-  c.loop-i.invariant.1
-      ∙ ap (λ (b : Bool). c.loop-i.equal && b) (turn c.args.line.now c.args.other.now c.loop-i.i (omega arith) (omega arith))
-      ∙ sym (and_assoc c.loop-i.equal (eqb (get_or c.args.line.now c.loop-i.i 0) (get_or c.args.other.now c.loop-i.i 0)) (same (drop (c.loop-i.i + 1) c.args.line.now) (drop (c.loop-i.i + 1) c.args.other.now))),
-)
-
--- all bytes have been compared
-compared : (c : After-loop-i)
-    → same c.args.line.now c.args.other.now ≡ c.loop-i.equal
-compared c =
-    c.loop-i.invariant.1
-    ∙ ap (λ (b : Bool). c.loop-i.equal && b) (done c.args.line.now c.args.other.now c.loop-i.i (omega arith) (omega arith))
-    ∙ and-true c.loop-i.equal
+pub loop-a-preserved : goal.loop-a-preserved
+loop-a-preserved c =
+    let s = c.in-Some.ensures.steps in (
+      omega (arith, ap length s.0, ap length s.1, c.loop-a.invariant.0),
+      c.loop-a.invariant.1 ∙ turn c.loop-a.equal s.0 s.1,
+    )
 
 pub returns : goal.returns
-returns c = ap not (sym (compared c))
+unfolding same
+returns c =
+    let e = empty_from_Zip c.loop-a.a-iterator c.next.new.self _ refl c.in-None.ensures.steps c.loop-a.invariant.0 in
+    ap not (sym (c.loop-a.invariant.1 ∙ ap (λ (t : Bool). c.loop-a.equal && t) (ap₂ same e.0 e.1) ∙ and-true c.loop-a.equal))

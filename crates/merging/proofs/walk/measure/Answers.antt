@@ -1,62 +1,39 @@
--- `merging::walk::measure` meets its contract: what is left to merge is what is left of the two files.
+-- `merging::walk::measure` meets its contract: what is left to measure is what is left of the walk.
 -- Assumes nothing.
-use mathlib.Core.Path.{refl, sym}
-use Prim.Native.Nat.{◌/◌, ◌<◌}
+use mathlib.Core.Path.{sym, ap, ◌∙◌}
 use native.Mathlib.Omega.{arith}
 use lib.ListN.{length}
-use Rattle.columns.specs.Text.{ended_length}
-use Rattle.linefile.specs.Files.{lines}
-use Rattle.linefile.proofs.Lines.{length-lines, line-file, lines_left}
-use Rattle.merging.proofs.Walking.{Walked, walked, found-more, count-more, end-length, end-differ, length_merged}
-use native.Mathlib.Nat.{zero-add}
-use Rattle.merging.proofs.walk.measure.Goals.{After-step-next, In-loop-m}
+use Rattle.linefile.specs.Walk.{step_map}
+use Rattle.linefile.proofs.Steps.{unrefused, few-steps}
+use Rattle.merging.proofs.Walking.{steps-differ, steps-length, differ-found, differ-not, differ-alone, measured-differ, measured-bytes}
+use Rattle.merging.proofs.walk.measure.Goals.{in-Both+else-differ, in_default}
 use Rattle.merging.proofs.walk.measure.Goals as goal
 
--- what the loop's test tells
-turn : (c : In-loop-m)
-    → (c.loop-m.m < length c.args.first.now / ended_length)
-    × (c.loop-m.n < length c.args.second.now / ended_length)
-turn c = lines_left _ _ _ _ c.loop-m-test.true
+pub returns-then-differ : goal.returns-then-differ
+returns-then-differ c =
+    measured-differ c.args.first.lines.now c.args.second.lines.now
+    (steps-differ _ _ (unrefused _ c.args.first.accepted) (unrefused _ c.args.second.accepted) ∙ c.loop-step.invariant.1
+    ∙ differ-found c.in-Some.ensures.steps (ap (step_map (λ line. line.now)) c.in-Both.is) (sym c.if-differ.ensures))
 
-pub loop-m-init : goal.loop-m-init
-loop-m-init c = (omega arith, omega arith, omega arith, refl, sym (zero-add _))
+pub overflow_add-bytes : goal.overflow_add-bytes
+overflow_add-bytes c =
+    let few = few-steps _ _ (unrefused _ c.args.first.accepted) (unrefused _ c.args.second.accepted) in
+    omega (arith, c.loop-step.invariant.0, ap length c.in-Some.ensures.steps, few, c.args.first.counted, c.args.second.counted)
 
--- the step that is made
-next : (c : After-step-next)
-    → Walked (lines c.args.first.now) (lines c.args.second.now) c.loop-m.m c.loop-m.n c.step-next.result
-next c =
-    let t = turn (goal.at.After-step-next c).In-loop-m in
-    walked c.args.first.now c.args.second.now c.requires.first_value c.requires.second_value _ _ t.0 t.1 c.step-next.ensures
-
-pub partners_differ-found-requires : goal.partners_differ-found-requires
-partners_differ-found-requires c =
-    let t = turn (goal.at.partners_differ-found-requires c).In-loop-m in record {
-      m_in_bounds = t.0;
-      n_in_bounds = t.1;
-    }
-
-pub overflow_add-count : goal.overflow_add-count
-overflow_add-count c = let t = turn (goal.at.overflow_add-count c).In-loop-m in omega arith
-
-pub loop-m-smaller : goal.loop-m-smaller
-loop-m-smaller c =
-    let s = next (goal.at.loop-m-smaller c).After-step-next in
-    omega (arith, s.step.forward, s.step.in_first, s.step.in_second, length-lines c.args.first.now, length-lines c.args.second.now)
-
-pub loop-m-preserved : goal.loop-m-preserved
-loop-m-preserved c =
-    let s = next (goal.at.loop-m-preserved c).After-step-next in (
-      omega (arith, s.step.in_first, length-lines c.args.first.now),
-      omega (arith, s.step.in_second, length-lines c.args.second.now),
-      omega (arith, s.step.forward),
-      found-more (lines c.args.first.now) (lines c.args.second.now) c.loop-m.m c.loop-m.n _ s c.loop-m.found c.loop-m.invariant.3 c.partners_differ-found.ensures,
-      count-more (lines c.args.first.now) (lines c.args.second.now) c.loop-m.m c.loop-m.n _ s c.loop-m.count c.loop-m.invariant.4,
-    )
+pub loop-step-preserved : goal.loop-step-preserved
+loop-step-preserved c = (
+  omega (arith, ap length c.in-Some.ensures.steps, c.loop-step.invariant.0),
+  c.loop-step.invariant.1 ∙ elim c.match-step.branch [
+    | in-Both+else-differ w ↦ differ-not c.in-Some.ensures.steps (ap (step_map (λ line. line.now)) w.in-Both.is) (sym w.if-differ.ensures)
+    | in_default w ↦ differ-alone (λ line. line.now) c.in-Some.step c.in-Some.ensures.steps w.in_default.not-Both
+  ],
+)
 
 pub returns : goal.returns
 returns c =
-    let f = line-file c.args.first.now c.requires.first_value in
-    let g = line-file c.args.second.now c.requires.second_value in record {
-      differ_value = end-differ c.args.first.now c.args.second.now f g c.loop-m.m c.loop-m.n c.loop-m-test.false c.loop-m.invariant.3;
-      bytes_value = omega (arith, c.loop-m.invariant.4, end-length c.args.first.now c.args.second.now f g c.loop-m.m c.loop-m.n c.loop-m-test.false, length_merged c.args.first.now c.args.second.now);
-    }
+    let e = c.in-None.ensures.steps.0 in
+    let a = unrefused _ c.args.first.accepted in
+    let b = unrefused _ c.args.second.accepted in
+    measured-bytes c.args.first.lines.now c.args.second.lines.now e
+    (steps-differ _ _ a b ∙ c.loop-step.invariant.1)
+    (omega (arith, steps-length _ _ a b, c.loop-step.invariant.0, ap length e))

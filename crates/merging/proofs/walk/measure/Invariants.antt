@@ -1,21 +1,14 @@
--- `merging::walk::measure` meets its contract: what is left to merge is what is left of the two files.
+-- `merging::walk::measure` meets its contract: what is left to measure is what is left of the walk.
 -- Assumes nothing.
 use mathlib.Core.Path.{◌≡◌}
-use mathlib.Core.Bool.{◌||◌}
-use Prim.Native.Nat.{◌+◌, ◌-◌, ◌≤◌}
-use lib.ListN.{length, drop}
-use Rattle.linefile.specs.Files.{lines}
-use Rattle.linefile.specs.Partners.{partners}
-use Rattle.merging.specs.Merge.{any_differ, merged}
+use Prim.Native.Nat.{◌+◌, ◌*◌}
+use lib.ListN.{length}
+use Rattle.columns.specs.Text.{ended_length}
+use Rattle.linefile.specs.Walk.{pairs_in, steps}
+use Rattle.merging.specs.Merge.{any_differ}
 use Rattle.merging.proofs.walk.measure.Given as goal
 
-abbrev pub invariant-loop-m : goal.invariant-loop-m
-invariant-loop-m l =
-    (l.m ≤ l.a)
-    × (l.n ≤ l.b)
-    × (l.count ≤ l.m + l.n)
-    × (any_differ (partners (lines l.first) (lines l.second)) ≡ l.found || any_differ (partners (drop l.m (lines l.first)) (drop l.n (lines l.second))))
-    × (length (merged (lines l.first) (lines l.second)) ≡ l.count + length (merged (drop l.m (lines l.first)) (drop l.n (lines l.second))))
-
-abbrev pub decreases-loop-m : goal.decreases-loop-m
-decreases-loop-m l = l.a - l.m + (l.b - l.n)
+abbrev pub invariant-loop-step : goal.invariant-loop-step
+invariant-loop-step l =
+    (l.bytes + ended_length * length (steps l.step-iterator.first.now l.step-iterator.second.now) ≡ ended_length * length (steps l.first.lines.now l.second.lines.now))
+    × (any_differ (pairs_in (steps l.first.lines.now l.second.lines.now)) ≡ any_differ (pairs_in (steps l.step-iterator.first.now l.step-iterator.second.now)))

@@ -1,18 +1,15 @@
--- `merging::walk::write` meets its contract: what is left to write is what is left of the two files.
+-- `merging::walk::write` meets its contract: what is left to write are the lines that are left of the walk.
 -- Assumes nothing.
-use Prim.Native.Nat.{◌+◌, ◌-◌, ◌*◌, ◌≤◌}
-use lib.ListN.{drop}
-use Rattle.columns.specs.Text.{ended_length}
-use Rattle.linefile.specs.Files.{lines, joined}
-use Rattle.merging.specs.Merge.{merged, merged_file}
+use mathlib.Core.List.{map}
+use Rattle.linefile.specs.Files.{joined}
+use Rattle.linefile.specs.Walk.{line_of, steps}
+use Rattle.linefile.proofs.Ascending.{All}
+use Rattle.linefile.proofs.Lines.{Long}
 use Rattle.lent.proofs.Written.{Written}
+use Rattle.merging.specs.Merge.{merged}
 use Rattle.merging.proofs.walk.write.Given as goal
 
-abbrev pub invariant-loop-m : goal.invariant-loop-m
-invariant-loop-m l =
-    (l.m ≤ l.a)
-    × (l.n ≤ l.b)
-    × Written (merged_file l.first l.second) l.initial.file l.file (ended_length * l.k) (joined (merged (drop l.m (lines l.first)) (drop l.n (lines l.second))))
-
-abbrev pub decreases-loop-m : goal.decreases-loop-m
-decreases-loop-m l = l.a - l.m + (l.b - l.n)
+abbrev pub invariant-loop-passed : goal.invariant-loop-passed
+invariant-loop-passed l =
+    All Long (map line_of (steps l.passed-iterator.first.now l.passed-iterator.second.now))
+    × Written (joined (merged l.first.lines.now l.second.lines.now)) l.initial.file l.file l.at (joined (map line_of (steps l.passed-iterator.first.now l.passed-iterator.second.now)))

@@ -8,43 +8,42 @@ use borrow.Author.Rules.{rules}
 use Rattle.fields.specs.Read.{digits_from, read_decimal}
 use Rattle.fields.proofs.Decimals.{room, value-turn, after_turn}
 use Rattle.reading.proofs.Columns.{digit_at}
-use Rattle.reading.proofs.values.digits.Goals.{In-loop-i}
+use Rattle.reading.proofs.values.digits.Goals.{In-loop-digit}
 use Rattle.reading.proofs.values.digits.Goals as goal
 
 -- the number so far has room for a digit more, and the byte read is a digit
-small : (c : In-loop-i) → c.loop-i.value < 10 ^ 9
+small : (c : In-loop-digit) → c.loop-digit.value < 10 ^ 9
 small c =
-    room c.loop-i.i (length c.args.text.now) c.loop-i.value (search rules) c.requires.text_len_bound c.loop-i.invariant.2
+    room c.loop-digit.digit-index (length c.args.text.now) c.loop-digit.value (search rules) c.requires.text_len_bound c.loop-digit.invariant.1
 
-digit : (c : In-loop-i)
-    → let b = get_or c.args.text.now c.loop-i.i 0 in (48 ≤ b) × (b ≤ 57)
+digit : (c : In-loop-digit)
+    → let b = get_or c.args.text.now c.loop-digit.digit-index 0 in (48 ≤ b) × (b ≤ 57)
 digit c =
-    digit_at (length c.args.text.now) c.args.text.now c.requires.text_value c.loop-i.i (search rules)
+    digit_at (length c.args.text.now) c.args.text.now c.requires.text_value c.loop-digit.digit-index (search rules)
 
-pub loop-i-init : goal.loop-i-init
+pub loop-digit-init : goal.loop-digit-init
 unfolding read_decimal
-loop-i-init c = (search rules, refl, search rules)
+loop-digit-init c = (refl, search rules)
 
 pub overflow_mul-value : goal.overflow_mul-value
-overflow_mul-value c = omega (arith, small c)
+overflow_mul-value c = omega (arith, small (goal.at.overflow_mul-value c).In-loop-digit)
 
 pub overflow_sub-value : goal.overflow_sub-value
-overflow_sub-value c = (digit (goal.at.overflow_sub-value c).In-loop-i).0
+overflow_sub-value c = (digit (goal.at.overflow_sub-value c).In-loop-digit).0
 
 pub overflow_cast-value : goal.overflow_cast-value
-overflow_cast-value c = omega (arith, digit (goal.at.overflow_cast-value c).In-loop-i)
+overflow_cast-value c = omega (arith, digit (goal.at.overflow_cast-value c).In-loop-digit)
 
 pub overflow_add-value : goal.overflow_add-value
-overflow_add-value c = omega (arith, digit (goal.at.overflow_add-value c).In-loop-i, small (goal.at.overflow_add-value c).In-loop-i)
+overflow_add-value c = omega (arith, digit (goal.at.overflow_add-value c).In-loop-digit, small (goal.at.overflow_add-value c).In-loop-digit)
 
-pub loop-i-preserved : goal.loop-i-preserved
-loop-i-preserved c = (
-  search rules,
-  sym (after_turn c.args.text.now c.loop-i.i c.loop-i.value (search rules)) ∙ c.loop-i.invariant.1,
-  value-turn c.loop-i.i c.loop-i.value (get_or c.args.text.now c.loop-i.i 0) c.loop-i.invariant.2 (digit (goal.at.loop-i-preserved c).In-loop-i),
+pub loop-digit-preserved : goal.loop-digit-preserved
+loop-digit-preserved c = (
+  sym (after_turn c.args.text.now c.loop-digit.digit-index c.loop-digit.value (search rules)) ∙ c.loop-digit.invariant.0,
+  value-turn c.loop-digit.digit-index c.loop-digit.value (get_or c.args.text.now c.loop-digit.digit-index 0) c.loop-digit.invariant.1 (digit (goal.at.loop-digit-preserved c).In-loop-digit),
 )
 
 pub returns : goal.returns
 unfolding digits_from
 returns c =
-    sym (ap (digits_from c.loop-i.value) (drop_of_length-le c.args.text.now {i = c.loop-i.i} (search rules))) ∙ c.loop-i.invariant.1
+    sym (ap (digits_from c.loop-digit.value) (drop_of_length-le c.args.text.now {i = c.loop-digit.digit-index} (search rules))) ∙ c.loop-digit.invariant.0

@@ -2,7 +2,7 @@
 -- Assumes nothing.
 use mathlib.Core.List.{List}
 use mathlib.Core.Path.{◌≡◌}
-use Prim.Native.Nat.{ℕ, ◌≤◌, ◌-◌}
+use Prim.Native.Nat.{ℕ}
 use lib.IntN.{ℤ, ◌*ℤ◌}
 use lib.ListN.{length}
 use Rattle.whole.specs.Sum.{sum}
@@ -14,9 +14,5 @@ use Rattle.series.proofs.sums.weighted.Given as goal
 abbrev pub part : List ℤ → ℕ → ℤ
 part m i = sum i (λ k. at weights k *ℤ at m k)
 
-abbrev pub invariant-loop-i : goal.invariant-loop-i
-invariant-loop-i l =
-    (l.i ≤ 15) × (length l.measurements ≡ 15) × (l.sum ≡ part l.measurements l.i)
-
-abbrev pub decreases-loop-i : goal.decreases-loop-i
-decreases-loop-i l = 15 - l.i
+abbrev pub invariant-loop-weight : goal.invariant-loop-weight
+invariant-loop-weight l = l.sum ≡ part l.measurements (length l.yielded)

@@ -1,8 +1,8 @@
 -- `viewing::pairs::count` meets its contract: what is counted so far leaves room for one difference more.
 -- Assumes nothing.
-use mathlib.Core.Path.{◌≡◌, refl, ◌∙◌}
-use mathlib.Core.Bool.{cond, ◌||◌}
-use lib.IntN.{pos, ◌+ℤ◌}
+use mathlib.Core.Path.{◌≡◌, refl, sym, ap, ◌∙◌}
+use mathlib.Core.Bool.{Bool, cond, ◌||◌}
+use lib.IntN.{ℤ, pos, ◌+ℤ◌}
 use lib.Signed.{lt_z}
 use mir.Syntax.{w64}
 use mir.Val.{SFits, to_z, of_z}
@@ -25,12 +25,18 @@ pairs-word c = sum_of {x = c.args.figures.pairs} (known c.requires.bounded.pairs
 abbrev sum-word : (c : Start) → Word (c.args.figures.sum +ℤ c.args.difference)
 sum-word c = sum_of {x = c.args.figures.sum} {y = c.args.difference} (known c.requires.bounded.sum) (known c.requires.difference_bound)
 
-pub overflow_add-result : goal.overflow_add-result
-overflow_add-result c = rw (to_z-of_z (figures-fit (goal.at.overflow_add-result c).Start).pairs) (fits (pairs-word (goal.at.overflow_add-result c).Start) tt)
-
-pub overflow_add-result-2 : goal.overflow_add-result-2
-overflow_add-result-2 c =
-    rw (to_z-of_z (figures-fit (goal.at.overflow_add-result-2 c).Start).sum, to_z-of_z c.ranges.difference) (fits (sum-word (goal.at.overflow_add-result-2 c).Start) tt)
+pub returns-then-figures-lt1 : goal.returns-then-figures-lt1
+unfolding counted
+returns-then-figures-lt1 c =
+    let f = figures-fit (goal.at.returns-then-figures-lt1 c).Start in
+    let n = to_z-of_z f.pairs in
+    let d = to_z-of_z c.ranges.difference in
+    let pairs : to_z w64 (of_z w64 (to_z w64 (of_z w64 c.args.figures.pairs) +ℤ pos 1)) ≡ c.args.figures.pairs +ℤ pos 1 = rw n (to_z-of_z (fits (pairs-word (goal.at.returns-then-figures-lt1 c).Start) tt)) in
+    let sum : to_z w64 (of_z w64 (to_z w64 (of_z w64 c.args.figures.sum) +ℤ to_z w64 (of_z w64 c.args.difference))) ≡ c.args.figures.sum +ℤ c.args.difference = rw (to_z-of_z f.sum, d) (to_z-of_z (fits (sum-word (goal.at.returns-then-figures-lt1 c).Start) tt)) in
+    let none = ap (λ (z : ℤ). lt_z z (pos 1)) (sym n) ∙ c.if-figures-lt1.true in
+    let smallest = d ∙ sym (ap (λ (b : Bool). cond (b || lt_z c.args.difference c.args.figures.smallest) c.args.difference c.args.figures.smallest) none) in
+    let largest = d ∙ sym (ap (λ (b : Bool). cond (b || lt_z c.args.figures.largest c.args.difference) c.args.difference c.args.figures.largest) none) in
+    λ i. record { pairs = pairs i; sum = sum i; smallest = smallest i; largest = largest i }
 
 pub returns : goal.returns
 unfolding counted
@@ -42,8 +48,10 @@ returns c =
     let l = to_z-of_z f.largest in
     let pairs : to_z w64 (of_z w64 (to_z w64 (of_z w64 c.args.figures.pairs) +ℤ pos 1)) ≡ c.args.figures.pairs +ℤ pos 1 = rw n (to_z-of_z (fits (pairs-word (goal.at.returns c).Start) tt)) in
     let sum : to_z w64 (of_z w64 (to_z w64 (of_z w64 c.args.figures.sum) +ℤ to_z w64 (of_z w64 c.args.difference))) ≡ c.args.figures.sum +ℤ c.args.difference = rw (to_z-of_z f.sum, d) (to_z-of_z (fits (sum-word (goal.at.returns c).Start) tt)) in
-    let smallest_fits : SFits w64 c.choose.result = search rules in
-    let largest_fits : SFits w64 c.choose-2.result = search rules in
-    let smallest = to_z-of_z smallest_fits ∙ c.choose.ensures ∙ (λ i. cond (lt_z (n i) (pos 1) || lt_z (d i) (s i)) (d i) (s i)) in
-    let largest = to_z-of_z largest_fits ∙ c.choose-2.ensures ∙ (λ i. cond (lt_z (n i) (pos 1) || lt_z (l i) (d i)) (d i) (l i)) in
-    λ i. record { pairs = pairs i; sum = sum i; smallest = smallest i; largest = largest i }
+    let some = ap (λ (z : ℤ). lt_z z (pos 1)) (sym n) ∙ c.if-figures-lt1.false in
+    let min_fits : SFits w64 c.min.result = search rules in
+    let max_fits : SFits w64 c.max.result = search rules in
+    let smallest = to_z-of_z min_fits ∙ c.min.ensures.value ∙ (λ i. cond (lt_z (d i) (s i)) (d i) (s i)) ∙ sym (ap (λ (b : Bool). cond (b || lt_z c.args.difference c.args.figures.smallest) c.args.difference c.args.figures.smallest) some) in
+    let largest = to_z-of_z max_fits ∙ c.max.ensures.value ∙ (λ i. cond (lt_z (l i) (d i)) (d i) (l i)) ∙ sym (ap (λ (b : Bool). cond (b || lt_z c.args.figures.largest c.args.difference) c.args.difference c.args.figures.largest) some) in
+    (λ i. record { pairs = to_z w64 (of_z w64 (pairs i)); sum = to_z w64 (of_z w64 (sum i)); smallest = smallest i; largest = largest i })
+    ∙ (λ i. record { pairs = to_z-of_z (fits (pairs-word (goal.at.returns c).Start) tt) i; sum = to_z-of_z (fits (sum-word (goal.at.returns c).Start) tt) i; smallest = cond (lt_z c.args.figures.pairs (pos 1) || lt_z c.args.difference c.args.figures.smallest) c.args.difference c.args.figures.smallest; largest = cond (lt_z c.args.figures.pairs (pos 1) || lt_z c.args.figures.largest c.args.difference) c.args.difference c.args.figures.largest })

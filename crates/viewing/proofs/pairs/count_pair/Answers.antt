@@ -1,7 +1,7 @@
 -- `viewing::pairs::count_pair` meets its contract: TRKL is compared as its digits stand.
 -- Assumes nothing.
 use mathlib.Core.Path.{◌≡◌, sym, ap, ap₂, subst, ◌∙◌}
-use mathlib.Core.Bool.{Bool, cond, ◌&&◌}
+use mathlib.Core.Bool.{Bool, cond}
 use Prim.Native.Nat.{◌≤◌}
 use lib.Dec.{lit<}
 use lib.IntN.{ℤ, nat_abs, ◌-ℤ◌}
@@ -39,20 +39,17 @@ passed c = ap (λ (z : ℤ). to_z w64 (of_z w64 z)) (difference-is c) ∙ to_z-o
 pub overflow_sub-refsys : goal.overflow_sub-refsys
 overflow_sub-refsys c = subst (SFits w64) (sym (difference-is c)) (fits-of (small c) (lit< tt))
 
-pub count-requires : goal.count-requires
-count-requires c = record {
-  bounded = c.requires.bounded;
-  difference_bound = subst (λ (z : ℤ). nat_abs z ≤ widest) (sym (passed c)) (small c);
-}
+pub count-requires-clause-difference_bound : goal.count-requires-clause-difference_bound
+count-requires-clause-difference_bound c = subst (λ (z : ℤ). nat_abs z ≤ widest) (sym (passed c)) (small c)
 
 pub returns-then-trkl : goal.returns-then-trkl
 returns-then-trkl c =
     c.count.ensures
     ∙ ap (counted c.args.figures) (passed (goal.at.returns-then-trkl c).After-refsys-then-trkl)
-    ∙ ap₂ (λ (b e : Bool). cond (b && e) (counted c.args.figures (refsys_of c.args.line.now -ℤ refsys_of c.args.other.now)) c.args.figures) (sym c.if-level.true)
-    (sym (trkl-same c.args.line.now c.args.other.now c.trkl.ensures c.trkl-then-level.ensures c.if-trkl.true))
+    ∙ ap (λ (b : Bool). cond b (counted c.args.figures (refsys_of c.args.line.now -ℤ refsys_of c.args.other.now)) c.args.figures)
+    (sym (trkl-same c.args.line.now c.args.other.now c.trkl.ensures c.trkl-2.ensures c.if-trkl.true))
 
-pub returns-else-trkl : goal.returns-else-trkl
-returns-else-trkl c =
-    ap₂ (λ (b e : Bool). cond (b && e) (counted c.args.figures (refsys_of c.args.line.now -ℤ refsys_of c.args.other.now)) c.args.figures) (sym c.if-level.true)
-    (sym (trkl-other c.args.line.now c.args.other.now c.trkl.ensures c.trkl-then-level.ensures c.if-trkl.false))
+pub returns : goal.returns
+returns c =
+    ap (λ (b : Bool). cond b (counted c.args.figures (refsys_of c.args.line.now -ℤ refsys_of c.args.other.now)) c.args.figures)
+    (sym (trkl-other c.args.line.now c.args.other.now c.trkl.ensures c.trkl-2.ensures c.if-trkl.false))

@@ -1,29 +1,22 @@
 -- `viewing::pairs::refsys` meets its contract: the sign tells whether the magnitude is taken from 0.
 -- Assumes nothing.
 use mathlib.Core.Path.{sym, ◌∙◌}
-use native.Mathlib.Omega.{arith}
 use lib.IntN.{+ℤ_idl}
-use Rattle.whole.proofs.Words.{Word, count, equal, fits, plain-is, bounds}
-use Rattle.viewing.proofs.Values.{line-long, size-bound, refsys-minus, refsys-plus}
+use Rattle.whole.proofs.Words.{Word, count, equal, plain-is, bounds}
+use Rattle.viewing.proofs.Values.{size-bound, refsys-minus, refsys-plus}
 use Rattle.viewing.proofs.pairs.refsys.Goals.{After-refsys_size-size}
 use Rattle.viewing.proofs.pairs.refsys.Goals as goal
-
-pub bounds-line-53 : goal.bounds-line-53
-bounds-line-53 c = omega (arith, line-long _ c.requires)
 
 -- the magnitude is what the digits say
 abbrev size : (c : After-refsys_size-size) → Word c.refsys_size-size.result
 size c = equal c.refsys_size-size.ensures (count {b = 9999999999} (size-bound _ c.requires))
-
-pub overflow_sub-result : goal.overflow_sub-result
-overflow_sub-result c = let w = size (goal.at.overflow_sub-result c).After-refsys_size-size in fits (search bounds depth 9) tt
 
 pub returns-then-line-eq45 : goal.returns-then-line-eq45
 returns-then-line-eq45 c =
     let w = size (goal.at.returns-then-line-eq45 c).After-refsys_size-size in
     plain-is (search bounds depth 9) tt ∙ +ℤ_idl _ ∙ sym (refsys-minus _ c.requires c.if-line-eq45.true)
 
-pub returns : goal.returns
-returns c =
-    let w = size (goal.at.returns c).After-refsys_size-size in
+pub returns-else-line-eq45 : goal.returns-else-line-eq45
+returns-else-line-eq45 c =
+    let w = size (goal.at.returns-else-line-eq45 c).After-refsys_size-size in
     plain-is (search bounds depth 9) tt ∙ sym (refsys-plus _ c.requires c.if-line-eq45.false)

@@ -1,7 +1,0 @@
--- `day::walk::start` meets its contract.
--- Assumes nothing.
-use mathlib.Core.Path.{refl}
-use Rattle.day.proofs.walk.start.Goals as goal
-
-pub returns : goal.returns
-returns c = (refl, refl, refl)
