@@ -110,6 +110,36 @@ class Evidence(unittest.TestCase):
         (self.root / 'crates/lent/must-fail/never_put.edit').unlink()
         self.assertEqual((self.rows('wrong-programs')[0], len(self.rows('wrong-programs')[1])), ([], 1))
 
+    def test_an_edit_in_a_method(self):
+        self.change('crates/characters/src/lib.rt', 'fn longest(', 'fn longest_text(')
+        new, old = self.rows('wrong-programs')
+        self.assertEqual([line.replace('`Form::longest_text`', '`Form::longest`') for line in new], old)
+        self.assertEqual([line.split('`')[1] for line in new], ['length_141', 'old_comment_of_27_bytes'])
+
+    def test_an_edit_in_a_trait_s_function(self):
+        self.change('crates/linefile/src/walk.rt', 'fn next(', 'fn following(')
+        new, old = self.rows('wrong-programs')
+        self.assertEqual([line.replace('`Walk::following`', '`Walk::next`') for line in new], old)
+        self.assertEqual([line.split('`')[1] for line in new], ['earlier_is_level', 'equal_lines_twice'])
+
+    def test_an_edit_above_a_function(self):
+        path = self.kept('crates/lent/src/lib.rt')
+        path.write_text(path.read_text() + FUNCTION % '// The same.\n#[tactic(auto,\n    using(other::proofs::Placed::same))]\n')
+        for old in 'The same.', 'other::proofs', '    a\n}\n':
+            self.assertEqual(self.tool.changed(path, [(old, 'another')]), ['again'], old)
+
+    def test_an_edit_of_two_functions(self):
+        path = self.root / 'crates/delays/src/write.rt'
+        self.assertEqual(self.tool.changed(path, [('file, groups);', ''), ('groups + 4', ''), ('&store.bytes[groups..]', '')]), ['put_dates', 'longer'])
+        # what the pair before it has written
+        self.assertEqual(self.tool.changed(path, [('file, groups);', 'there'), ('there', 'here')]), ['put_dates'])
+
+    def test_a_function_of_a_trait(self):
+        self.change('crates/linefile/src/walk.rt', 'ghost next_gives = {', 'ghost gives = {')
+        new, old = self.rows('contracts')
+        self.assertEqual([line.replace('| gives,', '| next_gives,') for line in new], old)
+        self.assertEqual([line.split(' | ')[:3] for line in old], [['| `linefile::Walk::next`', 'next_gives, remaining', '`step_map` `steps`']])
+
     def test_a_theorem_that_moves(self):
         tracks = self.kept('crates/offset/proofs/Tracks.antt')
         moved = tracks.rename(tracks.with_name('Moves.antt'))

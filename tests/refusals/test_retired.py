@@ -18,7 +18,7 @@ SAID = re.compile(r'\bretired\b')
 # the places where numbers are given: their files, and how a number stands there
 PLACES = {
     'rules': ('crates/*/specs/**/*.antt', r'\b(\d+) when\b|\.Refused (\d+)\b|\bnumber = (\d+)\b|(?m:^paper_number Refusal\.\w+ = (\d+)$)'),
-    'code': ('crates/*/src/**/*.rt', r'(?m)^    [A-Z]\w+ = (\d+)(?:_?u\d+)?,$|\b(?:number|refusal): (\d+)(?:_?u\d+)?\b|\breturn (\d+)(?:_?u\d+)?;'),
+    'code': ('crates/*/src/**/*.rt', r'(?m)^    [A-Z]\w+ = (\d+)(?:_?u\d+)?,$|\b(?:when|[Rr]efused)\((\d+)(?:_?u\d+)?\b|\b(?:number|refusal): (\d+)(?:_?u\d+)?\b|\breturn (\d+)(?:_?u\d+)?;'),
     'header': ('include/trackline.h', r'\bX\((\d+),|\bTRACKLINE_\w+ = (\d+)\b'),
     'card': ('docs/REFUSALS.md', r'(?m)^\| (\d+) \|'),
     'pages': ('man/*.[1-8]', r'(?m)^\.B (\d+)$'),
@@ -171,6 +171,7 @@ class Retired(unittest.TestCase):
                 ('crates/limits/src/refusal.rt', '    Length = 11,\n', '    Corrected = 10,\n    Length = 11,\n'),
                 ('crates/limits/specs/Numbers.antt', 'Refusal.Coordinate = 24', 'Refusal.Coordinate = 10'),
                 ('crates/limits/src/refusal.rt', 'Coordinate = 24,', 'Coordinate = 10_u32,'),
+                ('crates/bench/src/document_cases.rt', 'Reply::Refused(8)', 'Reply::Refused(10)'),
                 ('include/trackline.h', 'X(11, ', 'X(10, TRACKLINE_CORRECTED, "again") X(11, '),
                 ('include/trackline.h', '#define TRACKLINE_MOST_DSG 9999\n', '#define TRACKLINE_MOST_DSG 9999\n#define TRACKLINE_SHORT 10\n'),
                 ('include/trackline.h', 'enum trackline_refusal {\n', 'enum trackline_refusal {\n    TRACKLINE_OTHER = 10,\n'),

@@ -92,6 +92,9 @@ values-counted l e = rw e
 pub square-bound : (n : ℕ) → n ≤ 52 → n * n - 1 ≤ 2703
 square-bound n h = omega (arith, mul-le-mul h h)
 
+pub span-bound : (n : ℕ) → n ≤ 52 → n * (n * n - 1) ≤ 140556
+span-bound n h = mul-le-mul h (square-bound n h)
+
 pub span-some : (n : ℕ) → 2 ≤ n → 0 < n * (n * n - 1)
 span-some n h = one-le-mul one (omega (arith, mul-le-mul_left n h))
   where
