@@ -141,6 +141,7 @@ compared:
 	python3 tests/c/stack.py target/stack
 	python3 tests/layout.py
 	python3 tests/trackline/test_trackline.py
+	python3 tests/bench/test_bench.py
 	python3 tests/cggtts/test_cggtts.py
 	python3 tests/cggtts/test_merge.py
 	python3 tests/cggtts/test_view.py

@@ -4,8 +4,8 @@
 use crate::replies::Reply;
 use crate::report::{FILL, Report};
 use line::{Labels, Numbers};
+use std::array;
 use std::io::Write;
-use std::{array, io};
 
 // The largest measurement that Smooth takes.
 const MOST: i64 = 1_000_000_000_000;
@@ -16,26 +16,21 @@ fn try_smooth<W: Write + Drop>(
     case: &str,
     measurements: &[i64],
     should: Reply,
-) -> io::Result<()> {
+) {
     let gave = Reply::of(fit::smooth(measurements), |value| Reply::Value(value));
-    report.compare("smooth", case, gave, should)
+    report.compare("smooth", case, gave, should);
 }
 
-pub fn smooth_cases<W: Write + Drop>(report: &mut Report<W>) -> io::Result<()> {
+pub fn smooth_cases<W: Write + Drop>(report: &mut Report<W>) {
     let mut values = [MOST; 15];
-    try_smooth(report, "10^12 everywhere", &values, Reply::Value(10 * MOST))?;
+    try_smooth(report, "10^12 everywhere", &values, Reply::Value(10 * MOST));
     values[14] = MOST + 1;
-    try_smooth(report, "last 10^12 + 1", &values, Reply::Refused(2))?;
-    try_smooth(report, "14 measurements", &[0; 14], Reply::Refused(1))?;
-    try_smooth(report, "16 measurements", &[0; 16], Reply::Refused(1))
+    try_smooth(report, "last 10^12 + 1", &values, Reply::Refused(2));
+    try_smooth(report, "14 measurements", &[0; 14], Reply::Refused(1));
+    try_smooth(report, "16 measurements", &[0; 16], Reply::Refused(1));
 }
 
-fn try_fit<W: Write + Drop>(
-    report: &mut Report<W>,
-    case: &str,
-    values: &[i64],
-    should: Reply,
-) -> io::Result<()> {
+fn try_fit<W: Write + Drop>(report: &mut Report<W>, case: &str, values: &[i64], should: Reply) {
     let gave = Reply::of(
         fit::fit(values),
         |line| Reply::Line {
@@ -43,10 +38,10 @@ fn try_fit<W: Write + Drop>(
             slope: line.slope,
         },
     );
-    report.compare("fit", case, gave, should)
+    report.compare("fit", case, gave, should);
 }
 
-pub fn fit_cases<W: Write + Drop>(report: &mut Report<W>) -> io::Result<()> {
+pub fn fit_cases<W: Write + Drop>(report: &mut Report<W>) {
     let mut values = [0i64; 52];
     let level = Reply::Line {
         midpoint: 0,
@@ -56,23 +51,18 @@ pub fn fit_cases<W: Write + Drop>(report: &mut Report<W>) -> io::Result<()> {
         midpoint: -1,
         slope: 0,
     };
-    try_fit(report, "all -510", &[-510; 52], below)?;
+    try_fit(report, "all -510", &[-510; 52], below);
     values[51] = 3440;
-    try_fit(report, "last value 3440", &values, level)?;
+    try_fit(report, "last value 3440", &values, level);
     values[51] = 20 * MOST + 1;
-    try_fit(report, "last 2 x 10^13 + 1", &values, Reply::Refused(2))?;
-    try_fit(report, "3 values", &[0; 3], Reply::Refused(1))?;
-    try_fit(report, "53 values", &[0; 53], Reply::Refused(1))
+    try_fit(report, "last 2 x 10^13 + 1", &values, Reply::Refused(2));
+    try_fit(report, "3 values", &[0; 3], Reply::Refused(1));
+    try_fit(report, "53 values", &[0; 53], Reply::Refused(1));
 }
 
-fn try_scatter<W: Write + Drop>(
-    report: &mut Report<W>,
-    case: &str,
-    values: &[i64],
-    should: Reply,
-) -> io::Result<()> {
+fn try_scatter<W: Write + Drop>(report: &mut Report<W>, case: &str, values: &[i64], should: Reply) {
     let gave = Reply::of(fit::scatter(values), |dsg| Reply::Sigma(dsg));
-    report.compare("scatter", case, gave, should)
+    report.compare("scatter", case, gave, should);
 }
 
 // The pattern a, b, b, a, thirteen times.
@@ -80,16 +70,16 @@ fn pattern(a: i64, b: i64) -> [i64; 52] {
     array::from_fn(|j| if j % 4 == 1 || j % 4 == 2 { b } else { a })
 }
 
-pub fn scatter_cases<W: Write + Drop>(report: &mut Report<W>) -> io::Result<()> {
+pub fn scatter_cases<W: Write + Drop>(report: &mut Report<W>) {
     let small = pattern(1500, -1500);
     let large = pattern(9_999_500, -9_999_500);
     // the squares' sum is 0 modulo 2^64
     let wrapping = pattern(4_294_967_296, -4_294_967_296);
-    try_scatter(report, "a = 1500", &small, Reply::Sigma(2))?;
-    try_scatter(report, "a = 9999500", &large, Reply::Refused(6))?;
-    try_scatter(report, "a = 2^32", &wrapping, Reply::Refused(6))?;
-    try_scatter(report, "3 values", &[0; 3], Reply::Refused(1))?;
-    try_scatter(report, "53 values", &[0; 53], Reply::Refused(1))
+    try_scatter(report, "a = 1500", &small, Reply::Sigma(2));
+    try_scatter(report, "a = 9999500", &large, Reply::Refused(6));
+    try_scatter(report, "a = 2^32", &wrapping, Reply::Refused(6));
+    try_scatter(report, "3 values", &[0; 3], Reply::Refused(1));
+    try_scatter(report, "53 values", &[0; 53], Reply::Refused(1));
 }
 
 // A date and a second, and what the start test should give.
@@ -105,12 +95,11 @@ const STARTS: [(&str, u32, u32, Reply); 9] = [
     ("MJD 56842, 120", 56842, 120, Reply::Refused(8)),
 ];
 
-pub fn start_cases<W: Write + Drop>(report: &mut Report<W>) -> io::Result<()> {
+pub fn start_cases<W: Write + Drop>(report: &mut Report<W>) {
     for (case, mjd, second, should) in STARTS {
         let gave = Reply::of(schedule::start(mjd, second), |_| Reply::Accepted);
-        report.compare("start", case, gave, should)?;
+        report.compare("start", case, gave, should);
     }
-    Ok(())
 }
 
 // The labels and the numbers of document 01's sample line, and the line.
@@ -147,35 +136,30 @@ const LINE: &str =
     "G05 FF 50722 000200 0780 450 1800 +0000000010 +00000 +0000000010 +00000 0000 007 0000 +000 0000 +000 00 00 L1C 26";
 
 // How many bytes of a part of a lent line are as they were lent.
-fn try_kept<W: Write + Drop>(
-    report: &mut Report<W>,
-    case: &str,
-    part: &[u8],
-    should: usize,
-) -> io::Result<()> {
+fn try_kept<W: Write + Drop>(report: &mut Report<W>, case: &str, part: &[u8], should: usize) {
     let kept = part.iter().filter(|byte| **byte == FILL).count();
-    report.compare("line", case, Reply::Kept(kept), Reply::Kept(should))
+    report.compare("line", case, Reply::Kept(kept), Reply::Kept(should));
 }
 
 // A lent line one byte too short.
-fn short_line_cases<W: Write + Drop>(report: &mut Report<W>) -> io::Result<()> {
+fn short_line_cases<W: Write + Drop>(report: &mut Report<W>) {
     let mut lent = [FILL; 112];
     let answer = line::line(LABELS, NUMBERS, &mut lent);
     let gave = Reply::of(answer, |_| Reply::Written);
-    report.compare("line", "lent 112 bytes", gave, Reply::Refused(9))?;
-    try_kept(report, "lent 112 bytes", &lent, 112)
+    report.compare("line", "lent 112 bytes", gave, Reply::Refused(9));
+    try_kept(report, "lent 112 bytes", &lent, 112);
 }
 
 // A lent line one byte longer than it needs to be.
-fn long_line_cases<W: Write + Drop>(report: &mut Report<W>) -> io::Result<()> {
+fn long_line_cases<W: Write + Drop>(report: &mut Report<W>) {
     let mut lent = [FILL; 114];
     let answer = line::line(LABELS, NUMBERS, &mut lent);
     let (written, rest) = lent.split_at(113);
-    report.line(b"lent 114 bytes", answer, written, 0, LINE.as_bytes())?;
-    try_kept(report, "lent 114 bytes, the last", rest, 1)
+    report.line(b"lent 114 bytes", answer, written, 0, LINE.as_bytes());
+    try_kept(report, "lent 114 bytes, the last", rest, 1);
 }
 
-pub fn line_cases<W: Write + Drop>(report: &mut Report<W>) -> io::Result<()> {
-    short_line_cases(report)?;
-    long_line_cases(report)
+pub fn line_cases<W: Write + Drop>(report: &mut Report<W>) {
+    short_line_cases(report);
+    long_line_cases(report);
 }

@@ -7,29 +7,25 @@ mod document_cases;
 mod published;
 mod replies;
 mod report;
+mod row;
 
 use document_cases::{fit_cases, line_cases, scatter_cases, smooth_cases, start_cases};
 use published::published_cases;
 use report::Report;
-use std::alloc::Global;
-use std::io;
-use std::io::{Read, Write};
+use std::io::{Stdin, Write};
 
-fn run<W: Write + Drop>(alloc: Global, input: &[u8], to: W) -> io::Result<()> {
-    let mut report = Report::new(alloc, to);
-    smooth_cases(&mut report)?;
-    fit_cases(&mut report)?;
-    scatter_cases(&mut report)?;
-    start_cases(&mut report)?;
-    line_cases(&mut report)?;
-    published_cases(&mut report, input)?;
-    report.end()
+fn run<W: Write + Drop>(from: &mut Stdin, to: W) {
+    let mut report = Report::new(to);
+    smooth_cases(&mut report);
+    fit_cases(&mut report);
+    scatter_cases(&mut report);
+    start_cases(&mut report);
+    line_cases(&mut report);
+    published_cases(&mut report, from);
+    report.end();
 }
 
 // A read that fails counts as the end of the input, and a write that fails goes unnoticed.
 fn main(rt: HostRuntime) {
-    let alloc = rt.alloc();
-    let mut input = Vec::new(alloc);
-    let _ = rt.stdin().read_to_end(&mut input);
-    let _ = run(alloc, &input, rt.stdout());
+    run(&mut rt.stdin(), rt.stdout());
 }

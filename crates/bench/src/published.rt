@@ -4,13 +4,25 @@
 use crate::report::{FILL, Report};
 use decode::signed64;
 use line::{Labels, Numbers};
-use std::io;
-use std::io::Write;
+use std::io::{Read, Stdin, Write};
 
 const RECORD: usize = 240;
 
-// More records than any input has.
+// A bound, so that the reading ends. No input has as many.
 const MOST_RECORDS: usize = 1000;
+
+// Reads until the buffer is full, the input ends or a read fails, and gives how many bytes stand at the buffer's front.
+// Kept: a loop, as a read may give less than is asked for, and read_to_end wants memory without a bound.
+fn read_full(from: &mut Stdin, buffer: &mut [u8]) -> usize {
+    let mut done = 0;
+    while done < buffer.len() {
+        match from.read(&mut buffer[done..]) {
+            Ok(0) | Err(_) => return done,
+            Ok(n) => done += n,
+        }
+    }
+    done
+}
 
 // The labels stand in a record as in a hire block that begins at its byte 20.
 fn labels(record: &[u8; RECORD]) -> Labels {
@@ -32,7 +44,7 @@ fn numbers(record: &[u8; RECORD]) -> Numbers {
     }
 }
 
-fn try_record<W: Write + Drop>(report: &mut Report<W>, record: &[u8; RECORD]) -> io::Result<()> {
+fn try_record<W: Write + Drop>(report: &mut Report<W>, record: &[u8; RECORD]) {
     let mut lent = [FILL; 113];
     let answer = line::line(labels(record), numbers(record), &mut lent);
     report.line(
@@ -41,15 +53,17 @@ fn try_record<W: Write + Drop>(report: &mut Report<W>, record: &[u8; RECORD]) ->
         &lent,
         record[126] as u32,
         &record[127..],
-    )
+    );
 }
 
-pub fn published_cases<W: Write + Drop>(report: &mut Report<W>, input: &[u8]) -> io::Result<()> {
-    for part in input.chunks(RECORD).take(MOST_RECORDS) {
-        let Some(record) = part.first_chunk::<RECORD>() else {
-            return report.cut_off();
-        };
-        try_record(report, record)?;
+// Each record is tried before the next is read.
+pub fn published_cases<W: Write + Drop>(report: &mut Report<W>, from: &mut Stdin) {
+    for _ in 0..MOST_RECORDS {
+        let mut record = [0; RECORD];
+        match read_full(from, &mut record) {
+            0 => return,
+            RECORD => try_record(report, &record),
+            _ => return report.cut_off(),
+        }
     }
-    Ok(())
 }

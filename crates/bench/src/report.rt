@@ -1,69 +1,76 @@
 // The report: a row for each case, with what it gave and what it should be, and how many went wrong.
 use crate::replies::Reply;
+use crate::row::Row;
 use limits::{Refusal, reply_number};
-use std::alloc::Global;
-use std::io;
+use std::fmt::Write as _;
 use std::io::Write;
 
 // What a lent line is filled with, so that what is kept can be told.
 pub const FILL: u8 = b'.';
 
-// How wide the column of a case is.
-const CASE: usize = 24;
+// Where a row's columns begin.
+const CASE: usize = 9;
 
+const GAVE: usize = 34;
+
+const SHOULD: usize = 62;
+
+// A row is put together first and then written at once.
 #[derive(Drop)]
 pub struct Report<W> {
-    alloc: Global,
     to: W,
+    row: Row,
     cases: u32,
     wrong: u32,
 }
 
 impl<W: Write + Drop> Report<W> {
-    pub fn new(alloc: Global, to: W) -> Report<W> {
+    pub fn new(to: W) -> Report<W> {
         Report {
-            alloc,
             to,
+            row: Row::new(),
             cases: 0,
             wrong: 0,
         }
     }
 
     // The columns in front of what was given.
-    fn open(&mut self, operation: &str, case: &[u8]) -> io::Result<()> {
-        let blank = CASE.saturating_sub(case.len());
-        write!(self.to, "{operation:<8} ")?;
-        self.to.write_all(case)?;
-        write!(self.to, "{:blank$} ", "")
+    fn open(&mut self, operation: &str, case: &[u8]) {
+        self.row.put(operation.as_bytes());
+        self.row.column(CASE);
+        self.row.put(case);
+        self.row.column(GAVE);
+    }
+
+    // Writes the row and begins the next. A write that fails goes unnoticed, and the rows behind it are written all the same.
+    fn print(&mut self) {
+        self.row.put(b"\n");
+        let _ = self.to.write_all(self.row.as_slice());
+        self.row = Row::new();
     }
 
     // Ends the last row of a case, with a mark where it went wrong.
-    fn close(&mut self, right: bool) -> io::Result<()> {
+    fn close(&mut self, right: bool) {
         self.cases = self.cases.saturating_add(1);
-        if right {
-            return writeln!(self.to);
+        if !right {
+            self.wrong = self.wrong.saturating_add(1);
+            self.row.put(b"   WRONG");
         }
-        self.wrong = self.wrong.saturating_add(1);
-        writeln!(self.to, "   WRONG")
+        self.print();
     }
 
-    // What an operation gave beside what it should give.
-    fn put(&mut self, operation: &str, case: &[u8], gave: Reply, should: Reply) -> io::Result<()> {
-        let given = format!(in self.alloc; "{gave}")?;
-        self.open(operation, case)?;
-        write!(self.to, "{given:<27} should be {should}")
+    // What an operation gave beside what it should give. A row takes all that is formatted: its write! does not fail.
+    fn put(&mut self, operation: &str, case: &[u8], gave: Reply, should: Reply) {
+        self.open(operation, case);
+        let _ = write!(self.row, "{gave}");
+        self.row.column(SHOULD);
+        let _ = write!(self.row, "should be {should}");
     }
 
     // A case of an operation that answers values.
-    pub fn compare(
-        &mut self,
-        operation: &str,
-        case: &str,
-        gave: Reply,
-        should: Reply,
-    ) -> io::Result<()> {
-        self.put(operation, case.as_bytes(), gave, should)?;
-        self.close(gave == should)
+    pub fn compare(&mut self, operation: &str, case: &str, gave: Reply, should: Reply) {
+        self.put(operation, case.as_bytes(), gave, should);
+        self.close(gave == should);
     }
 
     // A case of Line: what it answered and left in the lent line. Where a line should be written, what was written stands above it.
@@ -74,37 +81,42 @@ impl<W: Write + Drop> Report<W> {
         lent: &[u8],
         number: u32,
         should: &[u8],
-    ) -> io::Result<()> {
+    ) {
         let gave = Reply::of(answer, |_| Reply::Written);
         let right = (reply_number(answer) == number) & (lent == should);
         // Kept: 0 for a line that should be written, as the file of cases has it.
         if number == 0 {
-            self.open("line", case)?;
+            self.open("line", case);
             match answer {
-                Ok(()) => self.to.write_all(lent)?,
-                Err(_) => write!(self.to, "{gave}")?,
+                Ok(()) => self.row.put(lent),
+                Err(_) => {
+                    let _ = write!(self.row, "{gave}");
+                }
             }
-            write!(self.to, "\n{:CASE$}should be ", "")?;
-            self.to.write_all(should)?;
+            self.print();
+            self.row.column(GAVE - 10);
+            self.row.put(b"should be ");
+            self.row.put(should);
         } else {
-            self.put("line", case, gave, Reply::Refused(number))?;
+            self.put("line", case, gave, Reply::Refused(number));
             if !right {
-                write!(self.to, ", the lent line kept")?;
+                self.row.put(b", the lent line kept");
             }
         }
-        self.close(right)
+        self.close(right);
     }
 
     // A record of a case that is cut off.
-    pub fn cut_off(&mut self) -> io::Result<()> {
-        self.open("line", b"a record is cut off")?;
-        self.close(false)
+    pub fn cut_off(&mut self) {
+        self.open("line", b"a record is cut off");
+        self.close(false);
     }
 
     // The last row.
-    pub fn end(&mut self) -> io::Result<()> {
+    pub fn end(&mut self) {
         let cases = self.cases;
         let wrong = self.wrong;
-        writeln!(self.to, "{cases} cases, {wrong} wrong")
+        let _ = write!(self.row, "{cases} cases, {wrong} wrong");
+        self.print();
     }
 }

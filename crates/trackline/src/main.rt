@@ -3,19 +3,17 @@
 // standard input, and that the output arrives, is not: a read that fails counts as the end, and a write that fails goes unnoticed.
 #![tactic(auto)]
 
+mod output;
+
 ghost use Rattle.std.specs.Prelude.{◌≡◌, ◌+◌, ◌≤◌, ◌++◌, length};
-ghost use Rattle.arrayvec.specs.ArrayVec.{array_vec_len};
 ghost use Rattle.limits.specs.Numbers.{paper_number};
 ghost use Rattle.columns.specs.Text.{ended_length};
 ghost use Rattle.trackline.specs.Printed.{refusal_text, printed};
 
-use arrayvec::ArrayVec;
-use columns::{ENDED_LENGTH, LINE_LENGTH};
+use columns::LINE_LENGTH;
 use limits::Refusal;
+use output::Output;
 use std::io::{Read, Stdin};
-
-// What is printed: a line with its end at most.
-type Output = ArrayVec<u8, ENDED_LENGTH>;
 
 // One byte more than the longest block has, so that a longer input is noticed.
 const INPUT: usize = 8379;
@@ -35,21 +33,13 @@ fn read_full(from: &mut Stdin, buffer: &mut [u8]) -> usize
     done
 }
 
-// Puts a text behind what stands.
-fn put(text: &[u8], out: &mut Output)
-    requires { array_vec_len out.old + length text.now ≤ ended_length }
-    ensures { out.new.items ≡ out.old.items ++ text.now }
-{
-    out.try_extend_from_slice(text).unwrap();
-}
-
 // `refused`, a space and the number, which has one or two digits.
 fn put_refusal(refusal: Refusal, out: &mut Output)
-    requires { array_vec_len out.old + 10 ≤ ended_length }
-    ensures { out.new.items ≡ out.old.items ++ refusal_text (paper_number refusal) }
+    requires { length out.old + 10 ≤ ended_length }
+    ensures { out.new ≡ out.old ++ refusal_text (paper_number refusal) }
 {
     let number = u32::from(refusal);
-    put(b"refused ", out);
+    out.put(b"refused ");
     if 10 <= number {
         out.push(b'0' + (number / 10 % 10) as u8);
     }
@@ -58,15 +48,16 @@ fn put_refusal(refusal: Refusal, out: &mut Output)
 
 // All that is printed: the line of the block, or its refusal, with a line end.
 fn reply(block: &[u8]) -> Output
-    ensures { result.items ≡ printed block.now }
+    ensures { result ≡ printed block.now }
 {
     let mut line = [0u8; LINE_LENGTH];
     let mut out = Output::new();
     match line::block(block, &mut line) {
-        Ok(()) => put(&line, &mut out),
+        Ok(()) => out.put(&line),
         Err(refusal) => put_refusal(refusal, &mut out),
     }
-    put(b"\r\n", &mut out);
+    out.push(b'\r');
+    out.push(b'\n');
     out
 }
 

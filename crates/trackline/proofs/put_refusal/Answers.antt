@@ -12,16 +12,14 @@ returns c =
     let ones : ℕ = 48 + n % 10 in
     let tens : ℕ = 48 + n / 10 % 10 in
     let text = ap refusal_text c.from-number.ensures in
-    c.push-2.ensures.items
+    c.push-2.ensures
     ∙ elim c.if-number-ge10.branch [
       | then-number-ge10 w ↦
-          ap (λ o. o.items ++ ones ∷ []) w.out-is
-          ∙ ap (λ (x : List ℕ). x ++ ones ∷ []) (w.push.ensures.items ∙ ap (λ (x : List ℕ). x ++ tens ∷ []) c.put.ensures ∙ append_assoc (c.args.out.now.items) refused_text (tens ∷ []))
-          ∙ append_assoc (c.args.out.now.items) (refused_text ++ tens ∷ []) (ones ∷ [])
-          ∙ ap (λ (x : List ℕ). c.args.out.now.items ++ x) (two_digits n w.if-number-ge10.true ∙ text)
+          ap (λ (x : List ℕ). x ++ ones ∷ []) (w.out-is ∙ w.push.ensures ∙ ap (λ (x : List ℕ). x ++ tens ∷ []) c.put.ensures ∙ append_assoc c.args.out.now refused_text (tens ∷ []))
+          ∙ append_assoc c.args.out.now (refused_text ++ tens ∷ []) (ones ∷ [])
+          ∙ ap (λ (x : List ℕ). c.args.out.now ++ x) (two_digits n w.if-number-ge10.true ∙ text)
       | else-number-ge10 w ↦
-          ap (λ o. o.items ++ ones ∷ []) w.out-is
-          ∙ ap (λ (x : List ℕ). x ++ ones ∷ []) c.put.ensures
-          ∙ append_assoc (c.args.out.now.items) refused_text (ones ∷ [])
-          ∙ ap (λ (x : List ℕ). c.args.out.now.items ++ x) (one-digit n w.if-number-ge10.false ∙ text)
+          ap (λ (x : List ℕ). x ++ ones ∷ []) (w.out-is ∙ c.put.ensures)
+          ∙ append_assoc c.args.out.now refused_text (ones ∷ [])
+          ∙ ap (λ (x : List ℕ). c.args.out.now ++ x) (one-digit n w.if-number-ge10.false ∙ text)
     ]
