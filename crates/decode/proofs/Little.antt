@@ -1,4 +1,4 @@
--- Little-endian numbers from their bytes, numbers that do not lie within the bytes, and std's numbers.
+-- Little-endian numbers from their bytes and in halves, numbers that do not lie within the bytes, and std's numbers.
 -- Assumes nothing.
 use mathlib.Core.Path.{◌≡◌, sym, ap, ◌∙◌}
 use mathlib.Core.Bool.{true, false, cond}
@@ -7,7 +7,7 @@ use Prim.Native.Nat.{ℕ, zero, suc, ◌+◌, ◌*◌, ◌-◌, ◌^◌, ◌≤�
 use native.Mathlib.Nat.{le_of_eq, pow-suc}
 use native.Mathlib.Omega.{arith}
 use lib.ListN.{length, take, drop, get_or, replicate, length-drop, drop_of_length-le}
-use lib.Seq.{take-add, drop-drop, drop-cons, length-take-le}
+use lib.Seq.{take-add, take_all, drop-drop, drop-cons, get_or-take, get_or-drop, length-take-le}
 use lib.Dec.{leb, ltb, lit<}
 use lib.IntN.{pos, negsuc}
 use borrow.Author.Tests.{lt-leb, lt-ltb, le-ltb}
@@ -29,24 +29,6 @@ module _ (bytes : List ℕ) where
 
   pub two : length bytes ≡ 2 → from_le_bytes w16 bytes ≡ little bytes
   two e = omega (arith, first 0 2 e (lit< tt), first 1 2 e (lit< tt), none 2 e)
-
-  pub four : length bytes ≡ 4 → from_le_bytes w32 bytes ≡ little bytes
-  four e = omega (arith, first 0 4 e (lit< tt), first 1 4 e (lit< tt), first 2 4 e (lit< tt), first 3 4 e (lit< tt), none 4 e)
-
-  pub eight : length bytes ≡ 8 → from_le_bytes w64 bytes ≡ little bytes
-  eight e =
-      omega (
-        arith,
-        first 0 8 e (lit< tt),
-        first 1 8 e (lit< tt),
-        first 2 8 e (lit< tt),
-        first 3 8 e (lit< tt),
-        first 4 8 e (lit< tt),
-        first 5 8 e (lit< tt),
-        first 6 8 e (lit< tt),
-        first 7 8 e (lit< tt),
-        none 8 e,
-      )
 
 -- bytes of 0
 pub little-none : (n : ℕ) → little (replicate n 0) ≡ 0
@@ -70,6 +52,57 @@ halves n at bytes h =
   where
     rest : (n at m k : ℕ) → k ≡ m - at → at + (n + n) ≤ m → n ≤ k
     rest n at m k e h = omega arith
+
+-- ---- std's number of four and of eight bytes, by its two halves
+
+-- the halves of a list of bytes are as long as each other, and the number is theirs
+module _ (bytes : List ℕ) (n : ℕ) (e : length bytes ≡ n + n) where
+  lower-long : length (take n bytes) ≡ n
+  lower-long = length-take-le n bytes (omega arith)
+
+  upper-long : length (take n (drop n bytes)) ≡ n
+  upper-long = length-take-le n (drop n bytes) (rw (length-drop n bytes) (omega arith))
+
+  of-halves : little bytes ≡ little (take n bytes) + 256 ^ n * little (take n (drop (0 + n) bytes))
+  of-halves = ap little (sym (take_all (n + n) bytes (le_of_eq e))) ∙ halves n 0 bytes (omega (arith, e))
+
+-- a byte of each half
+module _ (bytes : List ℕ) (n i : ℕ) (h : i < n) where
+  lower-byte : get_or (take n bytes) i 0 ≡ get_or bytes i 0
+  lower-byte = get_or-take n bytes i 0 h
+
+  upper-byte : get_or (take n (drop n bytes)) i 0 ≡ get_or bytes (n + i) 0
+  upper-byte = get_or-take n (drop n bytes) i 0 h ∙ get_or-drop n bytes i 0
+
+pub four : (bytes : List ℕ) → length bytes ≡ 4 → from_le_bytes w32 bytes ≡ little bytes
+four bytes e =
+    omega (
+      arith,
+      of-halves bytes 2 e,
+      two (take 2 bytes) (lower-long bytes 2 e),
+      two (take 2 (drop 2 bytes)) (upper-long bytes 2 e),
+      lower-byte bytes 2 0 (lit< tt),
+      lower-byte bytes 2 1 (lit< tt),
+      upper-byte bytes 2 0 (lit< tt),
+      upper-byte bytes 2 1 (lit< tt),
+    )
+
+pub eight : (bytes : List ℕ) → length bytes ≡ 8 → from_le_bytes w64 bytes ≡ little bytes
+eight bytes e =
+    omega (
+      arith,
+      of-halves bytes 4 e,
+      four (take 4 bytes) (lower-long bytes 4 e),
+      four (take 4 (drop 4 bytes)) (upper-long bytes 4 e),
+      lower-byte bytes 4 0 (lit< tt),
+      lower-byte bytes 4 1 (lit< tt),
+      lower-byte bytes 4 2 (lit< tt),
+      lower-byte bytes 4 3 (lit< tt),
+      upper-byte bytes 4 0 (lit< tt),
+      upper-byte bytes 4 1 (lit< tt),
+      upper-byte bytes 4 2 (lit< tt),
+      upper-byte bytes 4 3 (lit< tt),
+    )
 
 -- ---- whether a number lies within the bytes
 

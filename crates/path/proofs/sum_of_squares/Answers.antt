@@ -1,8 +1,12 @@
--- `path::sum_of_squares` meets its contract: each difference is at most 10^11, and the sum of the three squares is the definition's.
+-- `path::sum_of_squares` meets its contract: each difference is at most 10^11, the three squares have room in a word of 128 bits, and their sum is the
+-- definition's.
 -- Assumes nothing.
-use mathlib.Core.Path.{refl}
+use mathlib.Core.Path.{◌≡◌, refl}
+use Prim.Native.Nat.{ℕ, ◌+◌, ◌*◌, ◌≤◌}
 use native.Mathlib.Omega.{arith}
+use Rattle.path.specs.Between.{difference_limit}
 use Rattle.path.proofs.Points.{Usable, usable, accepted, squares-are}
+use Rattle.path.proofs.Products.{radix, product-bound}
 use Rattle.path.proofs.Roots.{square-bound}
 use Rattle.path.proofs.sum_of_squares.Goals.{Start}
 use Rattle.path.proofs.sum_of_squares.Goals as goal
@@ -27,6 +31,23 @@ pub apart-dz-requires : goal.apart-dz-requires
 apart-dz-requires c =
     let s = (goal.at.apart-dz-requires c).Start in
     ((satellite s).2.0, (satellite s).2.1, (antenna s).2.0, (antenna s).2.1)
+
+-- a product of differences has the room of its parts
+room : (a b : ℕ) {p : ℕ} → p ≡ a * b → a ≤ difference_limit → b ≤ difference_limit → p ≤ 72057594037927936 * radix + 288230376151711744
+room a b e h i = omega (arith, e, product-bound a b (omega (arith, h)) (omega (arith, i)))
+
+pub overflow_add-result : goal.overflow_add-result
+overflow_add-result c =
+    omega (arith, room _ _ c.product.ensures (omega arith) (omega arith), room _ _ c.product-2.ensures (omega arith) (omega arith))
+
+pub overflow_add-result-2 : goal.overflow_add-result-2
+overflow_add-result-2 c =
+    omega (
+      arith,
+      room _ _ c.product.ensures (omega arith) (omega arith),
+      room _ _ c.product-2.ensures (omega arith) (omega arith),
+      room _ _ c.product-3.ensures (omega arith) (omega arith),
+    )
 
 pub returns : goal.returns
 returns c = (
