@@ -100,16 +100,18 @@ scan_tells low high l {r} e = by (any_outside_lem low high l) refl e
     by true a e = rw e (a, refl)
     by false a e = rw e (a, refl)
 
-pub scan_passes : (low high : ℤ) (l : List ℤ) {r : Result ℕ ℕ} → r ≡ scan_rule low high l → ((read : ℕ) → r ≡ Err read → ⊥)
-    → any_outside_lem low high l ≡ false
-scan_passes low high l {r = Ok read} e never = (scan_tells low high l e).0
-scan_passes low high l {r = Err read} e never = absurd (never read refl)
-
 -- no more is read of a block than it has
 pub part-most : (l : List ℤ) (j : ℕ) → read_to measurement_least measurement_most (take 15 (drop (15 * j) l)) ≤ 15
 unfolding read_to
 part-most l j =
     le_trans (min-le_right _ (length (take 15 (drop (15 * j) l)))) (rw length-take (min-le_left 15 (length (drop (15 * j) l))))
+
+-- where a block is inside, all of it is read
+pub part-read : (l : List ℤ) (j : ℕ) → 15 * j + 15 ≤ length l → any_outside_lem measurement_least measurement_most (take 15 (drop (15 * j) l)) ≡ false
+    → read_to measurement_least measurement_most (take 15 (drop (15 * j) l)) ≡ 15
+part-read l j room e =
+    let h : 15 ≤ length (drop (15 * j) l) = rw (length-drop (15 * j) l) (omega arith) in
+    read_all measurement_least measurement_most (take 15 (drop (15 * j) l)) e ∙ length-take-le 15 (drop (15 * j) l) h
 
 -- where nothing is outside, every block is whole
 pub whole-blocks : (l : List ℤ) (n : ℕ) → length l ≡ 15 * n → any_outside_lem measurement_least measurement_most l ≡ false → whole_blocks l ≡ n

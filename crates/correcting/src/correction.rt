@@ -93,16 +93,20 @@ pub fn correct_blocks(
     ensures d_after { rows.new.d ≡ filled (whole_blocks measurements.now)
         (value_d (given_of measurements.now delays corrections.entry)) rows.old.d }
 {
+    let mut read = 0;
     for (j, block) in measurements.chunks_exact(15).enumerate() {
-        if let Err(read) = scan(block, MEASUREMENT_LEAST, MEASUREMENT_LIMIT) {
-            return Err(Stopped {
-                refusal: Refusal::Limit,
-                read: 15 * j + read,
-            });
+        match scan(block, MEASUREMENT_LEAST, MEASUREMENT_LIMIT) {
+            Ok(seen) => read += seen,
+            Err(seen) => {
+                return Err(Stopped {
+                    refusal: Refusal::Limit,
+                    read: read + seen,
+                });
+            }
         }
         // The scan has found all fifteen inside, so Smooth refuses none.
         let smoothed = smooth(block).unwrap();
         rows.put(j, corrected(smoothed, delays, corrections.group(j)));
     }
-    Ok(measurements.len())
+    Ok(read)
 }

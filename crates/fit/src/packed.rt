@@ -40,18 +40,22 @@ fn smooth_blocks(measurements: &[u8], n: usize, row: &mut [i64; 52]) -> Result<u
     ensures row_after { row.new ≡ filled (whole_blocks (signeds_at measurements.now 0 8 (15 * n)))
         (smoothed_of (signeds_at measurements.now 0 8 (15 * n))) row.old }
 {
+    let mut read = 0;
     for j in 0..n {
         let from = 120 * j;
         let numbers = fifteen(&measurements[from..from + 120]);
-        if let Err(read) = scan(&numbers, MEASUREMENT_LEAST, MEASUREMENT_LIMIT) {
-            return Err(Stopped {
-                refusal: Refusal::Limit,
-                read: 15 * j + read,
-            });
+        match scan(&numbers, MEASUREMENT_LEAST, MEASUREMENT_LIMIT) {
+            Ok(seen) => read += seen,
+            Err(seen) => {
+                return Err(Stopped {
+                    refusal: Refusal::Limit,
+                    read: read + seen,
+                });
+            }
         }
         row[j] = smooth(&numbers).unwrap();
     }
-    Ok(15 * n)
+    Ok(read)
 }
 
 // The five corrections of one block.

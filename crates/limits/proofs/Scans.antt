@@ -5,12 +5,14 @@ use mathlib.Core.Bool.{Bool, true, false, true≢false, cond, ◌||◌}
 use mathlib.Core.List.{List, [], ◌∷◌}
 use Prim.Native.Nat.{ℕ, zero, suc, min, ◌+◌, ◌≤◌, ◌<◌}
 use native.Mathlib.Numerals.{add-one}
-use native.Mathlib.Nat.{suc-min-suc, zero-min, min-zero, min-eq_left, zero-add, not-suc-le-zero, le_of_suc-le-suc}
+use native.Mathlib.Nat.{suc-min-suc, zero-min, min-zero, min-eq_left, add-zero, zero-add, not-suc-le-zero, le_of_suc-le-suc}
 use native.Mathlib.Omega.{arith}
 use lib.IntN.{ℤ, pos}
-use lib.ListN.{length, take, drop, get_or}
+use lib.ListN.{length, take, drop, get_or, drop_of_length-le}
+use lib.Seq.{drop-cons}
 use Rattle.limits.specs.Limits.{outside}
 use Rattle.limits.proofs.Laws.{or-false}
+use Rattle.limits.proofs.Lists.{any-from}
 use Rattle.limits.specs.Lists.{any_outside_lem}
 use Rattle.limits.specs.Scan.{first_outside, read_to, scan_rule}
 use Rattle.std.specs.Prelude.{Ok, Err}
@@ -28,6 +30,36 @@ read-cons low high z l = read_more (outside low high z) (first_outside low high 
 pub read-empty : (low high : ℤ) → read_to low high [] ≡ 0
 unfolding read_to first_outside
 read-empty low high = min-zero 1
+
+-- the first i numbers are read and none of them is outside: the rest tells
+abbrev pub Left : (low high : ℤ) (l : List ℤ) (i : ℕ) → Type 0
+Left low high l i = (any_outside_lem low high l ≡ any_outside_lem low high (drop i l)) × (read_to low high l ≡ i + read_to low high (drop i l))
+
+module _ (low high : ℤ) (l : List ℤ) (i : ℕ) (so_far : Left low high l i) where
+  any_step : i < length l → any_outside_lem low high l ≡ outside low high (get_or l i (pos 0)) || any_outside_lem low high (drop (i + 1) l)
+  any_step h = so_far.0 ∙ any-from low high l i h
+
+  read_step : i < length l
+      → read_to low high l ≡ i + suc (cond (outside low high (get_or l i (pos 0))) 0 (read_to low high (drop (i + 1) l)))
+  read_step h = so_far.1 ∙ ap (λ m. i + m) (rw (add-one, drop-cons l i (pos 0) h, read-cons low high))
+
+  pub found : i < length l → outside low high (get_or l i (pos 0)) ≡ true → scan_rule low high l ≡ Err (i + 1)
+  unfolding scan_rule
+  found h t =
+      let any : any_outside_lem low high l ≡ true = any_step h ∙ ap (λ (b : Bool). b || any_outside_lem low high (drop (i + 1) l)) t in
+      let read : read_to low high l ≡ i + 1 = read_step h ∙ rw (t) in
+      rw (any, read)
+
+  pub passed : i < length l → outside low high (get_or l i (pos 0)) ≡ false
+      → Left low high l (i + 1)
+  passed h t = (any_step h ∙ ap (λ (b : Bool). b || any_outside_lem low high (drop (i + 1) l)) t, read_step h ∙ ap (λ b. i + suc (cond b 0 (read_to low high (drop (i + 1) l)))) t ∙ omega arith)
+
+  pub none_left : length l ≤ i → scan_rule low high l ≡ Ok i
+  unfolding scan_rule any_outside_lem
+  none_left h =
+      let any : any_outside_lem low high l ≡ false = so_far.0 ∙ rw (drop_of_length-le l h) in
+      let read : read_to low high l ≡ i = so_far.1 ∙ ap (λ m. i + read_to low high m) (drop_of_length-le l h) ∙ rw (read-empty low high) (add-zero i) in
+      rw (any, read)
 
 -- i is the index of the first number outside low to high: that number is outside, and those before it are inside
 abbrev pub IsFirst : (low high : ℤ) (l : List ℤ) (i : ℕ) → Type 0
@@ -72,37 +104,7 @@ none-outside low high (z ∷ l) e =
     let o = or-false (outside low high z) (any_outside_lem low high l) e in
     rw (o.0, none-outside low high l o.1)
 
--- ---- what `scan` answers, by what `position` found
-
--- the index of the first one is told by what IsFirst says
-is_first : (low high : ℤ) (l : List ℤ) (at : ℕ) → IsFirst low high l at → (any_outside_lem low high l ≡ true) × (first_outside low high l ≡ at)
-unfolding any_outside_lem first_outside
-is_first low high [] at f = absurd (not-suc-le-zero f.0)
-is_first low high (z ∷ l) zero f = (rw f.1, rw f.1)
-is_first low high (z ∷ l) (suc at) f =
-    let t = f.2 0 (omega arith) in
-    let r = is_first low high l at (le_of_suc-le-suc f.0, f.1, λ j h. f.2 (suc j) (omega (arith, h))) in
-    (rw (t, r.0), rw (t, r.1))
-
-pub scan_stops : (low high : ℤ) (l : List ℤ) (at : ℕ) → IsFirst low high l at → Err (at + 1) ≡ scan_rule low high l
-unfolding scan_rule
-scan_stops low high l at f =
-    let r = is_first low high l at f in
-    rw (r.0, read_first low high l r.0, r.1, add-one)
-
-none_of : (low high : ℤ) (l : List ℤ) → ((j : ℕ) → j < length l → outside low high (get_or l j (pos 0)) ≡ false) → any_outside_lem low high l ≡ false
-unfolding any_outside_lem
-none_of low high [] h = refl
-none_of low high (z ∷ l) h = rw (h 0 (omega arith), none_of low high l (λ j k. h (suc j) (omega (arith, k))))
-
-pub scan_passes : (low high : ℤ) (l : List ℤ) → ((j : ℕ) → j < length l → outside low high (get_or l j (pos 0)) ≡ false)
-    → Ok (length l) ≡ scan_rule low high l
-unfolding scan_rule
-scan_passes low high l h =
-    let e = none_of low high l h in
-    rw (e, read_all low high l e)
-
--- and it is `Err` where some number is outside
+-- `scan` answers `Err` where some number is outside
 pub scan_is_err : (low high : ℤ) (l : List ℤ) → is_err (scan_rule low high l) ≡ any_outside_lem low high l
 unfolding scan_rule
 scan_is_err low high l = by (any_outside_lem low high l)

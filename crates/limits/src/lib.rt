@@ -77,14 +77,20 @@ pub fn blocks_fit(n: usize) -> bool
     (4 <= n) & (n <= 52)
 }
 
-// The limit test on a list, up to and with the first value outside low to high: how many values it has read, all of them where none is outside.
+// The limit test on a list: it reads up to and with the first value outside low to high, or all, and counts what it reads. `Err` where one is outside.
+// Kept: a loop by hand, as the count of what is read is the place of the next value too.
 pub fn scan(values: &[i64], low: i64, high: i64) -> Result<usize, usize>
     ensures { result ≡ scan_rule low high values.now }
 {
-    match values.iter().position(|&value| outside(low, high, value)) {
-        Some(at) => Err(at + 1),
-        None => Ok(values.len()),
+    let mut read = 0;
+    while read < values.len() {
+        let at = read;
+        read += 1;
+        if outside(low, high, values[at]) {
+            return Err(read);
+        }
     }
+    Ok(read)
 }
 
 // Whether some value is outside low to high.

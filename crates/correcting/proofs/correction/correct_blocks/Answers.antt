@@ -1,4 +1,4 @@
--- `correcting::correction::correct_blocks` meets its contract: after so many turns the blocks so far are inside, and their values stand in the rows.
+-- `correcting::correction::correct_blocks` meets its contract: after so many turns the blocks so far are read and inside, and their values stand in the rows.
 -- Assumes nothing.
 use mathlib.Core.Path.{◌≡◌, refl, sym, ap, ap₂, ◌∙◌, subst}
 use mathlib.Core.Bool.{true, false}
@@ -11,13 +11,14 @@ use lib.IntN.{ℤ, pos}
 use lib.ListN.{length, take, drop, length-drop}
 use mir.Syntax.{w64}
 use mir.Val.{to_z, of_z}
-use Rattle.std.specs.Prelude.{Ok, Err}
+use Rattle.std.specs.Prelude.{Result, Ok, Err}
+use Rattle.std.specs.Result.{MatchResult}
 use Rattle.std.specs.Iterator.Adapters.{enumerate_source, enumerate_count}
 use Rattle.std.specs.Slice.Iter.{chunks_exact_rest, chunks_exact_size}
 use Rattle.limits.specs.Limits.{delay_limit, measurement_limit, measurement_least, measurement_most}
-use Rattle.limits.specs.Lists.{any_outside_lem, any_beyond_lem}
+use Rattle.limits.specs.Lists.{any_beyond_lem}
 use Rattle.limits.specs.Numbers.{reply_of}
-use Rattle.limits.specs.Scan.{read_to}
+use Rattle.limits.specs.Scan.{read_to, scan_rule}
 use Rattle.series.specs.Smooth.{smoothed, smooth_rule}
 use Rattle.whole.specs.Table.{at}
 use Rattle.exact.specs.Corrected.{Given}
@@ -31,10 +32,10 @@ use Rattle.whole.proofs.Words.{Word, known, equal, read, back, bound}
 use Rattle.correcting.proofs.Arrays.{filled_none, filled_more}
 use Rattle.correcting.proofs.Groups.{block-values}
 use Rattle.correcting.proofs.Blocks.{part-value, part-bound}
-use Rattle.correcting.proofs.Parts.{Passed, none_passed, passed, cut, scan_tells, scan_passes, found, found-blocks, done, done-blocks, part-most}
+use Rattle.correcting.proofs.Parts.{Passed, none_passed, passed, cut, scan_tells, found, found-blocks, done, done-blocks, part-read, part-most}
 use Rattle.correcting.proofs.Refusals.{Sized, sized, others}
 use Rattle.correcting.proofs.correction.correct_blocks.Invariants.{AreFilled}
-use Rattle.correcting.proofs.correction.correct_blocks.Goals.{After-corrected, After-smooth, After-unwrap-smoothed, In-Err, In-Some, Start}
+use Rattle.correcting.proofs.correction.correct_blocks.Goals.{After-corrected, After-smooth, After-unwrap-smoothed, In-Err, In-Ok, In-Some, Start}
 use Rattle.correcting.proofs.correction.correct_blocks.Goals as goal
 
 -- what the track is given
@@ -52,6 +53,7 @@ left count rest size h = omega (arith, div-le_self rest size)
 record Here (c : In-Some) : Type 0 where
   is : c.in-Some.block.now ≡ take 15 (drop (15 * c.in-Some.j) c.args.measurements.now)
   room : 15 * c.in-Some.j + 15 ≤ length c.args.measurements.now
+  count : c.loop-j.read ≡ 15 * c.in-Some.j
   before : Passed c.args.measurements.now c.in-Some.j
   rows : AreFilled (g (goal.at.In-Some c).Start) c.in-Some.j c.args.rows.now c.loop-j.rows
 
@@ -64,16 +66,37 @@ here c =
     record {
       is = t.0 ∙ ap (λ (k : ℕ). take 15 (drop (15 * k) c.args.measurements.now)) j;
       room = subst (λ (k : ℕ). 15 * k + 15 ≤ length c.args.measurements.now) j t.2;
+      count = i.count ∙ ap (λ (k : ℕ). 15 * k) j;
       before = subst (Passed c.args.measurements.now) j i.inside;
       rows = subst (λ (k : ℕ). AreFilled (g (goal.at.In-Some c).Start) k c.args.rows.now c.loop-j.rows) j i.rows;
     }
 
--- the same block, where the scan has passed it
+-- the scan of it: what is asked of the block is asked of its place
+scanned : (c : In-Some) {r : Result ℕ ℕ} → r ≡ scan_rule measurement_least measurement_most c.in-Some.block.now
+    → let p = take 15 (drop (15 * c.in-Some.j) c.args.measurements.now) in
+    MatchResult r (λ read. (any_beyond_lem measurement_limit p ≡ false) × (read ≡ read_to measurement_least measurement_most p))
+    (λ read. (any_beyond_lem measurement_limit p ≡ true) × (read ≡ read_to measurement_least measurement_most p))
+scanned c e = scan_tells _ _ _ (e ∙ ap (scan_rule measurement_least measurement_most) (here c).is)
+
+-- what it has read where it stops
+stopped : (c : In-Err)
+    → let p = take 15 (drop (15 * c.in-Some.j) c.args.measurements.now) in
+    (any_beyond_lem measurement_limit p ≡ true) × (c.in-Err.seen ≡ read_to measurement_least measurement_most p)
+stopped c = scanned (goal.at.In-Err c).In-Some {r = Err c.in-Err.seen} c.in-Err.ensures
+
+-- and where it passes
+passes : (c : In-Ok)
+    → let p = take 15 (drop (15 * c.in-Some.j) c.args.measurements.now) in
+    (any_beyond_lem measurement_limit p ≡ false) × (c.in-Ok.seen ≡ read_to measurement_least measurement_most p)
+passes c = scanned (goal.at.In-Ok c).In-Some {r = Ok c.in-Ok.seen} c.in-Ok.ensures
+
+all_read : (c : In-Ok) → c.in-Ok.seen ≡ 15
+all_read c =
+    (passes c).1 ∙ part-read c.args.measurements.now c.in-Some.j (here (goal.at.In-Ok c).In-Some).room (passes c).0
+
 inside : (c : After-smooth)
     → any_beyond_lem measurement_limit (take 15 (drop (15 * c.in-Some.j) c.args.measurements.now)) ≡ false
-inside c =
-    subst (λ (l : List ℤ). any_beyond_lem measurement_limit l ≡ false) (here (goal.at.After-smooth c).In-Some).is
-    (scan_passes _ _ c.in-Some.block.now c.scan.ensures c.in_default.not-Err)
+inside c = (passes (goal.at.After-smooth c).In-Ok).0
 
 -- its smoothed value
 abbrev value : (c : In-Some) → ℤ
@@ -93,12 +116,6 @@ value-word c =
     let s = (goal.at.After-unwrap-smoothed c).After-smooth in
     equal (unwrapped c) (known (part-bound c.args.measurements.now (15 * c.in-Some.j) (here (goal.at.After-smooth s).In-Some).room (inside s)))
 
--- where it is not: what the scan has read
-stopped : (c : In-Err) → (any_outside_lem measurement_least measurement_most c.in-Some.block.now ≡ true)
-    × (c.in-Err.read ≡ read_to measurement_least measurement_most c.in-Some.block.now)
-stopped c =
-    scan_tells _ _ c.in-Some.block.now {r = Err c.in-Err.read} c.in-Err.ensures
-
 pub loop-j-init : goal.loop-j-init
 loop-j-init c =
     let e = c.into_iter-j-iterator.ensures.into_iter_gives in
@@ -112,6 +129,7 @@ loop-j-init c =
       size = size;
       rest = rest ∙ ap (λ (k : ℕ). drop (15 * k) c.args.measurements.now) (sym count);
       few = omega (arith, count);
+      count = omega (arith, count);
       inside = subst (Passed c.args.measurements.now) (sym count) (none_passed c.args.measurements.now);
       rows =
           subst (λ (k : ℕ). AreFilled (g (goal.at.loop-j-init c).Start) k c.args.rows.now c.args.rows.now) (sym count) (record {
@@ -122,21 +140,28 @@ loop-j-init c =
           });
     }
 
+pub overflow_add-read : goal.overflow_add-read
+overflow_add-read c =
+    let p = goal.at.overflow_add-read c in
+    let z = sizes p.Start in
+    let h = here p.In-Some in record { fits = omega (arith, h.count, h.room, all_read p.In-Ok, z.size-measurements, z.size-blocks) }
+
 pub overflow_add-result : goal.overflow_add-result
 overflow_add-result c =
-    let z = sizes (goal.at.overflow_add-result c).Start in
-    let h = here (goal.at.overflow_add-result c).In-Some in
-    let most = part-most c.args.measurements.now c.in-Some.j in
-    let read : c.in-Err.read ≤ 15 = subst (λ (k : ℕ). k ≤ 15) (sym (stopped c).1) (subst (λ (l : List ℤ). read_to measurement_least measurement_most l ≤ 15) (sym h.is) most) in
-    omega arith
+    let p = goal.at.overflow_add-result c in
+    let z = sizes p.Start in
+    let h = here p.In-Some in
+    let seen : c.in-Err.seen ≤ 15 = subst (λ (k : ℕ). k ≤ 15) (sym (stopped p.In-Err).1) (part-most c.args.measurements.now c.in-Some.j) in
+    record { fits = omega (arith, h.count, h.room, z.size-measurements, z.size-blocks) }
 
 pub returns-in-Err : goal.returns-in-Err
 returns-in-Err c =
-    let h = here (goal.at.returns-in-Err c).In-Some in
-    let s = subst (λ (l : List ℤ). (any_outside_lem measurement_least measurement_most l ≡ true) × (c.in-Err.read ≡ read_to measurement_least measurement_most l)) h.is (stopped c) in
+    let p = goal.at.returns-in-Err c in
+    let h = here p.In-Some in
+    let s = stopped p.In-Err in
     let e = found-blocks c.args.measurements.now c.in-Some.j h.room h.before s.0 in
-    let rows = subst (λ (k : ℕ). AreFilled (g (goal.at.returns-in-Err c).Start) k c.args.rows.now c.loop-j.rows) (sym e) h.rows in record {
-      answer = ap (λ (k : ℕ). (2, 15 * c.in-Some.j + k)) s.1 ∙ found c.args.measurements.now c.in-Some.j h.room h.before s.0;
+    let rows = subst (λ (k : ℕ). AreFilled (g p.Start) k c.args.rows.now c.loop-j.rows) (sym e) h.rows in record {
+      answer = (λ z. (2, h.count z + s.1 z)) ∙ found c.args.measurements.now c.in-Some.j h.room h.before s.0;
       a_after = rows.a_is;
       b_after = rows.b_is;
       c_after = rows.c_is;
@@ -205,6 +230,7 @@ loop-j-preserved c =
       size = size;
       rest = rest;
       few = omega arith;
+      count = omega (arith, h.count, count, all_read p.In-Ok);
       inside = subst (Passed c.args.measurements.now) (sym count) (passed c.args.measurements.now j h.room h.before (inside p.After-smooth));
       rows =
           subst (λ (k : ℕ). AreFilled (g p.Start) k c.args.rows.now c.put.new.self) (sym count) (record {
@@ -227,7 +253,7 @@ returns c =
     let passed = subst (Passed m) n i.inside in
     let rows = subst (λ (k : ℕ). AreFilled (g p.Start) k c.args.rows.now c.loop-j.rows) (n ∙ sym (done-blocks m (blocks (g p.Start)) all passed)) i.rows in
     record {
-      answer = rw all (done m (blocks (g p.Start)) all passed);
+      answer = ap (λ (k : ℕ). (0, k)) (i.count ∙ ap (λ (k : ℕ). 15 * k) n) ∙ done m (blocks (g p.Start)) all passed;
       a_after = rows.a_is;
       b_after = rows.b_is;
       c_after = rows.c_is;

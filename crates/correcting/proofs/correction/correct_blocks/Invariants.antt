@@ -1,4 +1,4 @@
--- `correcting::correction::correct_blocks` meets its contract: after so many turns the blocks so far are inside, and their values stand in the rows.
+-- `correcting::correction::correct_blocks` meets its contract: after so many turns the blocks so far are read and inside, and their values stand in the rows.
 -- Assumes nothing.
 use mathlib.Core.Path.{◌≡◌}
 use Prim.Native.Nat.{ℕ, ◌*◌, ◌≤◌}
@@ -29,6 +29,7 @@ invariant-loop-j l =
       size : chunks_exact_size chunks ≡ 15;
       rest : chunks_exact_rest chunks ≡ drop (15 * k) l.measurements;
       few : 15 * k ≤ length l.measurements;
+      count : l.read ≡ 15 * k;
       inside : Passed l.measurements k;
       rows : AreFilled (given_of l.measurements l.delays l.corrections) k l.initial.rows l.rows;
     }

@@ -1,4 +1,4 @@
--- `fit::packed::smooth_blocks` meets its contract: after j turns the first j blocks are inside, and their smoothed values stand in the row.
+-- `fit::packed::smooth_blocks` meets its contract: after j turns the first j blocks are read and inside, and their smoothed values stand in the row.
 -- Assumes nothing.
 use borrow.Author.Rules.{rules}
 use mathlib.Core.Path.{◌≡◌, refl, sym, ap, ◌∙◌, subst}
@@ -20,10 +20,10 @@ use Rattle.decode.specs.Number.{signeds_at}
 use Rattle.correcting.specs.Answer.{filled}
 use Rattle.correcting.proofs.Arrays.{filled_none, filled_more}
 use Rattle.correcting.proofs.Blocks.{part-value}
-use Rattle.correcting.proofs.Parts.{Passed, scan_tells, scan_passes, part-most, none_passed, passed, found, found-blocks, done, done-blocks}
+use Rattle.correcting.proofs.Parts.{Passed, scan_tells, part-read, part-most, none_passed, passed, found, found-blocks, done, done-blocks}
 use Rattle.fit.specs.Packed.{smoothed_of}
 use Rattle.fit.proofs.Unpacked.{unpacked-length, unpacked-part}
-use Rattle.fit.proofs.packed.smooth_blocks.Goals.{After-fifteen-numbers, After-smooth, At-loop-j, In-Err, In-loop-j}
+use Rattle.fit.proofs.packed.smooth_blocks.Goals.{After-fifteen-numbers, After-smooth, At-loop-j, In-Err, In-Ok, In-loop-j}
 use Rattle.fit.proofs.packed.smooth_blocks.Goals as goal
 
 abbrev list : At-loop-j → List ℤ
@@ -49,15 +49,26 @@ numbers-are c =
 -- what the scan has read where it stops
 stopped : (c : In-Err)
     → let p = part (goal.at.In-Err c).At-loop-j in
-    (any_beyond_lem measurement_limit p ≡ true) × (c.in-Err.read ≡ read_to measurement_least measurement_most p)
+    (any_beyond_lem measurement_limit p ≡ true) × (c.in-Err.seen ≡ read_to measurement_least measurement_most p)
 stopped c =
-    scan_tells _ _ (part (goal.at.In-Err c).At-loop-j) {r = Err c.in-Err.read}
+    scan_tells _ _ (part (goal.at.In-Err c).At-loop-j) {r = Err c.in-Err.seen}
     (c.in-Err.ensures ∙ ap (scan_rule measurement_least measurement_most) (numbers-are (goal.at.In-Err c).After-fifteen-numbers))
 
+-- and where it passes
+passes : (c : In-Ok)
+    → let p = part (goal.at.In-Ok c).At-loop-j in
+    (any_beyond_lem measurement_limit p ≡ false) × (c.in-Ok.seen ≡ read_to measurement_least measurement_most p)
+passes c =
+    scan_tells _ _ (part (goal.at.In-Ok c).At-loop-j) {r = Ok c.in-Ok.seen}
+    (c.in-Ok.ensures ∙ ap (scan_rule measurement_least measurement_most) (numbers-are (goal.at.In-Ok c).After-fifteen-numbers))
+
+all_read : (c : In-Ok) → c.in-Ok.seen ≡ 15
+all_read c =
+    let p = goal.at.In-Ok c in
+    (passes c).1 ∙ part-read (list p.At-loop-j) c.loop-j.j (room p.In-loop-j) (passes c).0
+
 inside : (c : After-smooth) → any_beyond_lem measurement_limit (part (goal.at.After-smooth c).At-loop-j) ≡ false
-inside c =
-    scan_passes _ _ (part (goal.at.After-smooth c).At-loop-j)
-    (c.scan.ensures ∙ ap (scan_rule measurement_least measurement_most) (numbers-are (goal.at.After-smooth c).After-fifteen-numbers)) c.in_default.not-Err
+inside c = (passes (goal.at.After-smooth c).In-Ok).0
 
 answered : (c : After-smooth) → c.smooth.result ≡ Ok (smoothed_of (list (goal.at.After-smooth c).At-loop-j) c.loop-j.j)
 unfolding smoothed_of
@@ -67,22 +78,26 @@ answered c =
     (c.smooth.ensures.answer ∙ ap smooth_rule (numbers-are p.After-fifteen-numbers))
 
 pub loop-j-init : goal.loop-j-init
-loop-j-init c = record { inside = none_passed _; row = filled_none _ _ }
+loop-j-init c = record { count = refl; inside = none_passed _; row = filled_none _ _ }
+
+pub overflow_add-read : goal.overflow_add-read
+overflow_add-read c = record { fits = omega (arith, c.loop-j.invariant.count, all_read (goal.at.overflow_add-read c).In-Ok, c.requires.0) }
 
 pub overflow_add-result : goal.overflow_add-result
 overflow_add-result c =
     let p = goal.at.overflow_add-result c in
     let most = part-most (list p.At-loop-j) c.loop-j.j in
-    let read : c.in-Err.read ≤ 15 = subst (λ (k : ℕ). k ≤ 15) (sym (stopped p.In-Err).1) most in
-    record { fits = omega (arith, c.requires.0) }
+    let seen : c.in-Err.seen ≤ 15 = subst (λ (k : ℕ). k ≤ 15) (sym (stopped p.In-Err).1) most in
+    record { fits = omega (arith, c.loop-j.invariant.count, c.requires.0) }
 
 pub returns-in-Err : goal.returns-in-Err
 returns-in-Err c =
     let p = goal.at.returns-in-Err c in
     let s = stopped p.In-Err in
+    let i = c.loop-j.invariant in
     let l = list p.At-loop-j in record {
-      answer = ap (λ (k : ℕ). (2, 15 * c.loop-j.j + k)) s.1 ∙ found l c.loop-j.j (room p.In-loop-j) c.loop-j.invariant.inside s.0;
-      row_after = c.loop-j.invariant.row ∙ ap (λ (m : ℕ). filled m (smoothed_of l) c.args.row.now) (sym (found-blocks l c.loop-j.j (room p.In-loop-j) c.loop-j.invariant.inside s.0));
+      answer = (λ z. (2, i.count z + s.1 z)) ∙ found l c.loop-j.j (room p.In-loop-j) i.inside s.0;
+      row_after = i.row ∙ ap (λ (m : ℕ). filled m (smoothed_of l) c.args.row.now) (sym (found-blocks l c.loop-j.j (room p.In-loop-j) i.inside s.0));
     }
 
 pub unwrap-requires : goal.unwrap-requires
@@ -94,6 +109,7 @@ loop-j-preserved c =
     let l = list p.At-loop-j in
     let fits : SFits w64 c.unwrap.result = search rules in
     let value : c.unwrap.result ≡ smoothed_of l c.loop-j.j = cc (answered p.After-smooth, c.unwrap.ensures) in record {
+      count = omega (arith, c.loop-j.invariant.count, all_read p.In-Ok);
       inside = passed l c.loop-j.j (room p.In-loop-j) c.loop-j.invariant.inside (inside p.After-smooth);
       row = filled_more (smoothed_of l) c.args.row.now c.loop-j.row c.loop-j.j c.loop-j.invariant.row (to_z-of_z fits ∙ value);
     }
@@ -104,6 +120,6 @@ returns c =
     let all = list_length (goal.at.returns c).At-loop-j in
     let e : c.loop-j.j ≡ c.args.n = omega (arith, c.loop-j.auto.j-end, c.loop-j-test.false) in
     let passed = subst (Passed l) e c.loop-j.invariant.inside in record {
-      answer = done l c.args.n all passed;
+      answer = ap (λ (k : ℕ). (0, k)) (c.loop-j.invariant.count ∙ ap (λ (m : ℕ). 15 * m) e) ∙ done l c.args.n all passed;
       row_after = c.loop-j.invariant.row ∙ ap (λ (m : ℕ). filled m (smoothed_of l) c.args.row.now) (e ∙ sym (done-blocks l c.args.n all passed));
     }

@@ -1,4 +1,4 @@
--- `fit::packed::smooth_blocks` meets its contract: after j turns the first j blocks are inside, and their smoothed values stand in the row.
+-- `fit::packed::smooth_blocks` meets its contract: after j turns the first j blocks are read and inside, and their smoothed values stand in the row.
 -- Assumes nothing.
 use mathlib.Core.Path.{◌≡◌}
 use Prim.Native.Nat.{◌*◌}
@@ -11,6 +11,7 @@ use Rattle.fit.proofs.packed.smooth_blocks.Given as goal
 abbrev pub invariant-loop-j : goal.invariant-loop-j
 invariant-loop-j l =
     let list = signeds_at l.measurements 0 8 (15 * l.n) in record {
+      count : l.read ≡ 15 * l.j;
       inside : Passed list l.j;
       row : l.row ≡ filled l.j (smoothed_of list) l.initial.row;
     }
