@@ -145,7 +145,8 @@ impl Form {
         }
     }
 
-    // 12, 14 and 13 of a line.
+    // 12, 14 and 13 of a line. Inlined, so that the compiler knows the form's columns.
+    #[inline(always)]
     fn refusal(self, line: &[u8]) -> Result<(), Refusal>
         ensures { number_of result ≡ form_number self line.now }
     {

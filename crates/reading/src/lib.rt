@@ -52,7 +52,8 @@ pub fn read(line: &[u8]) -> Result<Reading, Refusal>
     Ok(Reading { labels, numbers })
 }
 
-// What an old line is refused for, with the HC and the FRC that are supplied.
+// What an old line is refused for, with the HC and the FRC that are supplied. Inlined, so that the labels are put together behind the characters.
+#[inline(always)]
 pub fn old_refusal(old: &[u8], supplied: Supplied) -> Result<(), Refusal>
     ensures { number_of result ≡ old_number supplied.hc supplied.frc1 supplied.frc2 supplied.frc3 old.now }
 {
