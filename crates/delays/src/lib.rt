@@ -22,7 +22,7 @@ mod write;
 pub fn lookup(store: &[u8], mjd: u32) -> Result<Delays, Refusal>
     ensures answer { delays_reply result ≡ lookup_rule store.now mjd }
 {
-    let store = judge(store)?;
+    let store = judge(store)?; // 20 before 21
     let Some(k) = store.in_force(mjd) else {
         return Err(Refusal::NotYet);
     };
@@ -34,7 +34,7 @@ pub fn append(store: &[u8], mjd: u32, delays: Delays, longer: &mut [u8]) -> Resu
     ensures answer { reply_of 0 result ≡ append_rule store.now mjd delays.int delays.cab delays.refdly delays.gd (length longer.old) }
     ensures written { longer.new ≡ append_after store.now mjd delays.int delays.cab delays.refdly delays.gd longer.old }
 {
-    let store = judge(store)?;
+    let store = judge(store)?; // 20 before 22 and 9
     append_refusal(store, mjd, delays, longer.len())?;
     write::longer(store, mjd, delays, longer);
     Ok(store.longer_length())

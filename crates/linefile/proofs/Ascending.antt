@@ -5,7 +5,7 @@ use mathlib.Core.Bool.{true}
 use mathlib.Core.List.{List, [], ◌∷◌}
 use Prim.Native.Nat.{ℕ, zero, suc, ◌<◌}
 use native.Mathlib.Nat.{not-suc-le-zero, le_of_suc-le-suc}
-use lib.ListN.{length, get_or}
+use lib.ListN.{length, drop, get_or}
 use Rattle.limits.specs.Refusal.{◌when◌, ◌then◌}
 use Rattle.limits.proofs.Laws.{then-zero, when-zero}
 use borrow.Author.Tests.{not-false}
@@ -51,6 +51,11 @@ ascending-from k last (l ∷ ls) h a = (before-trans k last (keys l) h a.0, a.1)
 pub ascending-any : (last : List ℕ) (ls : List (List ℕ)) → Ascending last ls → Ascending [] ls
 ascending-any last [] a = tt
 ascending-any last (l ∷ ls) a = (before-none l, a.1)
+
+pub ascending-drop : (n : ℕ) (last : List ℕ) (ls : List (List ℕ)) → Ascending last ls → Ascending [] (drop n ls)
+ascending-drop zero last ls a = ascending-any last ls a
+ascending-drop (suc n) last [] a = tt
+ascending-drop (suc n) last (l ∷ ls) a = ascending-drop n (keys l) ls a.1
 
 -- all lines are behind what the first is behind
 pub all-behind : (last : List ℕ) (ls : List (List ℕ)) → Ascending last ls → All (Behind last) ls

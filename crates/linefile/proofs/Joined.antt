@@ -7,11 +7,11 @@ use native.Mathlib.Nat.{not-suc-le-zero, le_of_suc-le-suc, mul-div_cancel_left}
 use native.Mathlib.Omega.{arith}
 use lib.Dec.{lit<}
 use lib.ListN.{length, take, drop, get_or, length-append, length-drop, take-append-drop}
-use lib.Seq.{take_at, drop_at, drop-append-add}
+use lib.Seq.{take_at, drop_at, drop-nil, drop-append-add}
 use Rattle.columns.specs.Text.{ended_length}
 use Rattle.linefile.specs.Files.{lines_in, lines, joined}
 use Rattle.linefile.proofs.Ascending.{All}
-use Rattle.linefile.proofs.Lines.{Long, LineFile}
+use Rattle.linefile.proofs.Lines.{Long, LineFile, lines_long}
 
 pub length-joined : (ls : List (List ℕ)) → All Long ls → length (joined ls) ≡ ended_length * length ls
 unfolding joined
@@ -21,6 +21,17 @@ length-joined (l ∷ ls) a =
   where
     longer : (m n k : ℕ) → m ≡ ended_length → n ≡ ended_length * k → m + n ≡ ended_length * suc k
     longer m n k e f = omega arith
+
+pub joined-drop : (m : ℕ) (ls : List (List ℕ)) → All Long ls → joined (drop m ls) ≡ drop (ended_length * m) (joined ls)
+unfolding joined
+joined-drop zero ls a = refl
+joined-drop (suc m) [] a = sym (drop-nil (ended_length * suc m))
+joined-drop (suc m) (l ∷ ls) a =
+    joined-drop m ls a.1
+    ∙ sym (ap (λ (k : ℕ). drop k (l ++ joined ls)) (further (length l) a.0) ∙ drop-append-add l (joined ls) (ended_length * m))
+  where
+    further : (n : ℕ) → n ≡ ended_length → ended_length * suc m ≡ n + ended_length * m
+    further n e = omega arith
 
 joined_in : (n : ℕ) (bytes : List ℕ) → length bytes ≡ ended_length * n → joined (lines_in n bytes) ≡ bytes
 unfolding lines_in joined
@@ -69,3 +80,8 @@ line_of (l ∷ ls) a rest (suc i) h =
 pub joined-lines : (file : List ℕ) → LineFile file → joined (lines file) ≡ file
 unfolding lines
 joined-lines file f = joined_in (length file / ended_length) file f.whole
+
+-- the bytes from a line on
+pub rest_lines : (file : List ℕ) → LineFile file → (m : ℕ) → joined (drop m (lines file)) ≡ drop (ended_length * m) file
+rest_lines file f m =
+    joined-drop m (lines file) (lines_long file) ∙ ap (drop (ended_length * m)) (joined-lines file f)

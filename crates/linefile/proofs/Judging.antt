@@ -86,7 +86,7 @@ read-line line h z e =
 -- ---- a turn
 
 module _ (ls : List (List ℕ)) (i last : ℕ) (h : i < length ls) where
-  judged : ranked_number last (drop i ls)
+  pub judged : ranked_number last (drop i ls)
       ≡ ended_number (get_or ls i []) then 16 when leb (rank (get_or ls i [])) last then ranked_number (rank (get_or ls i [])) (drop (i + 1) ls)
   unfolding ranked_number
   judged =

@@ -1,16 +1,18 @@
 -- The lines of a file and its bytes (specs/Files.antt).
 -- Assumes nothing.
 use mathlib.Core.Path.{◌≡◌, refl, sym, ap, ◌∙◌}
+use mathlib.Core.Bool.{true, ◌&&◌}
 use mathlib.Core.List.{List, [], ◌∷◌}
-use Prim.Native.Nat.{ℕ, zero, suc, ◌+◌, ◌*◌, ◌/◌, ◌%◌, ◌≤◌, ◌<◌}
+use Prim.Native.Nat.{ℕ, zero, suc, ◌+◌, ◌-◌, ◌*◌, ◌/◌, ◌%◌, ◌≤◌, ◌<◌}
 use native.Mathlib.Nat.{not-suc-le-zero, le_of_suc-le-suc}
 use native.Mathlib.Omega.{arith}
+use lib.Dec.{ltb}
 use lib.ListN.{length, take, drop, get_or, length-drop}
 use lib.Seq.{length-take-le, drop-drop}
-use borrow.Author.Tests.{eqb-true, eq-eqb, not-false}
+use borrow.Author.Tests.{ltb-true, eqb-true, eq-eqb, not-false}
 use Rattle.std.specs.Simd.{first_chunks}
 use Rattle.limits.specs.Refusal.{◌when◌, ◌then◌}
-use Rattle.limits.proofs.Laws.{then-zero, when-zero}
+use Rattle.limits.proofs.Laws.{then-zero, when-zero, both}
 use Rattle.columns.specs.Text.{line_length, line_end, ended_length}
 use Rattle.linefile.specs.Files.{lines_in, lines, has_line_end, ended_number, lines_number, file_number}
 use Rattle.linefile.proofs.Keys.{same-eq}
@@ -46,6 +48,14 @@ pub line-at : (file : List ℕ) (i : ℕ) → i < length file / ended_length →
 unfolding lines
 line-at file i h = line-in (length file / ended_length) file i h
 
+-- the same as the part of the file that is lent
+pub line-part : (file : List ℕ) (i : ℕ) → i < length file / ended_length
+    → take (ended_length * i + ended_length - ended_length * i) (drop (ended_length * i) file) ≡ get_or (lines file) i []
+line-part file i h = ap (λ (n : ℕ). take n (drop (ended_length * i) file)) (width i) ∙ sym (line-at file i h)
+  where
+    width : (i : ℕ) → ended_length * i + ended_length - ended_length * i ≡ ended_length
+    width i = omega arith
+
 -- the same as the file's chunks
 chunks-in : (n : ℕ) (bytes : List ℕ) → first_chunks ended_length n bytes ≡ lines_in n bytes
 unfolding lines_in
@@ -67,6 +77,10 @@ long-in (suc n) bytes h = (
 pub lines_long : (file : List ℕ) → All Long (lines file)
 unfolding lines
 lines_long file = long-in (length file / ended_length) file (omega arith)
+
+-- both files have a line left
+pub lines_left : (m n a b : ℕ) → ltb m a && ltb n b ≡ true → (m < a) × (n < b)
+lines_left m n a b e = let t = both (ltb m a) (ltb n b) e in (ltb-true m a t.0, ltb-true n b t.1)
 
 -- ---- a line file
 

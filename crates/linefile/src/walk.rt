@@ -8,7 +8,7 @@ use crate::rank::rank;
 use crate::step::Step;
 
 // What is left of the two lists.
-#[derive(Drop)]
+#[derive(Clone, Copy)]
 pub struct Walk<'a> {
     pub first: &'a [EndedLine],
     pub second: &'a [EndedLine],
