@@ -3,6 +3,7 @@
 use mathlib.Core.Path.{◌≡◌, sym, ap, ◌∙◌}
 use mathlib.Core.Bool.{true, false, cond}
 use mathlib.Core.List.{List, [], ◌∷◌, ◌++◌}
+use mathlib.Core.Logic.{⊎_elim}
 use Prim.Native.Nat.{ℕ, zero, suc, ◌+◌, ◌*◌, ◌-◌, ◌^◌, ◌≤◌, ◌<◌}
 use native.Mathlib.Nat.{le_of_eq, pow-suc}
 use native.Mathlib.Omega.{arith}
@@ -14,6 +15,7 @@ use borrow.Author.Tests.{lt-leb, lt-ltb, le-ltb}
 use mir.Syntax.{w16, w32, w64}
 use mir.Val.{to_z}
 use Rattle.std.specs.Int.{from_le_bytes}
+use Rattle.std.proofs.lemmas.Bool.{cases_lt}
 use Rattle.decode.specs.Number.{little, unsigned_at, twos_complement_lem}
 
 -- ---- a number from its bytes, the lowest first
@@ -128,7 +130,12 @@ pub upper-half : (n : ℕ) → 2 ^ 63 ≤ n → negsuc (2 ^ 64 - 1 - n) ≡ twos
 unfolding twos_complement_lem
 upper-half n h = simp (le-ltb n (2 ^ 63) h)
 
--- std's signed number of a pattern
+-- std's signed number of a pattern is that of its half
 pub signed_is : (n : ℕ) → to_z w64 n ≡ twos_complement_lem n
-unfolding twos_complement_lem
-signed_is n = ap (λ (k : ℕ). cond (ltb n (2 ^ 63)) (pos n) (negsuc k)) (omega arith)
+signed_is n = ⊎_elim lower upper (cases_lt n (2 ^ 63))
+  where
+    lower : n < 2 ^ 63 → to_z w64 n ≡ twos_complement_lem n
+    lower h = simp (lt-ltb n (2 ^ 63) h) (lower-half n h)
+
+    upper : 2 ^ 63 ≤ n → to_z w64 n ≡ twos_complement_lem n
+    upper h = simp (le-ltb n (2 ^ 63) h) (ap negsuc (omega arith) ∙ upper-half n h)
