@@ -7,7 +7,7 @@ use std::fmt;
 const WIDTH: usize = 192;
 
 // A row up to `end`, in fixed memory. What does not fit is dropped.
-#[derive(Drop)]
+#[derive(Clone, Copy)]
 pub struct Row {
     bytes: [u8; WIDTH],
     end: usize,
